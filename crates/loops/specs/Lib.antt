@@ -1,0 +1,4 @@
+pub mod Chain
+pub mod Lists
+pub mod Range
+pub mod Search
