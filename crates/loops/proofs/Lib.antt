@@ -1,0 +1,5 @@
+pub mod ChainLaws
+pub mod ListLaws
+pub mod RangeLaws
+pub mod SearchLaws
+pub mod Walks
