@@ -1,4 +1,5 @@
 pub mod Chain
 pub mod Lists
+pub mod Numbers
 pub mod Range
 pub mod Search

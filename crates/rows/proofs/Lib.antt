@@ -1,0 +1,3 @@
+pub mod Signed
+pub mod Signs
+pub mod Tables

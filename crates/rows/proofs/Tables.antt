@@ -1,0 +1,163 @@
+-- The code's tables are the specs' tables. antt computes the one from the other, so that no entry is proved by itself.
+-- Assumes nothing.
+use Prim.Native.Nat.{ℕ, zero, suc, _-_, _^_, _≤_, _<_}
+use mathlib.Core.Path.{_≡_, refl, ap, sym, _∙_}
+use mathlib.Core.List.{List, [], _∷_, _++_, map}
+use native.Mathlib.Omega.{arith}
+use lib.ListN.{length, getD, replicate, List·getD-eq-default}
+use lib.IntN.{ℤ, pos}
+use lib.Dec.{T, leb, ltb, ltb→lt, leb→le}
+use native.Mathlib.Decide.{decLt}
+use lib.Signed.{mag}
+use mathlib.Core.Bool.{Bool, true, false, _&&_}
+use borrow.Author.Needs.{sfits-of}
+use mir.Syntax.{w64}
+use mir.Val.{SFits, toZ, ofZ}
+use mir.Facts.{toZ-ofZ}
+use Rattle.rows.specs.Class.{Class, blank-c, kind-c, id-c, n-c, u-c, t-c, m-c, g-c, f-c, share-c, speed-c, n?-c, t?-c, m?-c, task-c, activity-c, resource-c, requirement-c, constraint-c, classes, classAt, codeOf}
+use Rattle.rows.specs.Table.{columns, classOf, width}
+use Rattle.rows.specs.Ranges.{within, low, high, inRange}
+
+module _ {A B : Type 0} (f : A → B) (blank : A) where
+  pub mapped : (l : List A) (j : ℕ) → getD (map f l) j (f blank) ≡ f (getD l j blank)
+  mapped [] j = refl
+  mapped (x ∷ l) zero = refl
+  mapped (x ∷ l) (suc j) = mapped l j
+
+  fill : (m j : ℕ) → getD (replicate m (f blank)) j (f blank) ≡ f blank
+  fill zero j = refl
+  fill (suc m) zero = refl
+  fill (suc m) (suc j) = fill m j
+
+  filled-at : (l : List A) (m j : ℕ) → getD (map f l ++ replicate m (f blank)) j (f blank) ≡ f (getD l j blank)
+  filled-at [] m j = fill m j
+  filled-at (x ∷ l) m zero = refl
+  filled-at (x ∷ l) m (suc j) = filled-at l m j
+
+-- a row in the code's numbers, filled up to n places
+abbrev pub filled : {A B : Type 0} → (A → B) → A → ℕ → List A → List B
+filled f blank n l = map f l ++ replicate (n - length l) (f blank)
+
+pub entry : {A B : Type 0} (f : A → B) (blank : A) (n : ℕ) (t : List (List A)) (k j : ℕ)
+    → getD (getD (map (filled f blank n) t) k []) j (f blank) ≡ f (getD (getD t k []) j blank)
+entry f blank n [] k j = refl
+entry f blank n (l ∷ t) zero j = filled-at f blank l (n - length l) j
+entry f blank n (l ∷ t) (suc k) j = entry f blank n t k j
+
+suc-sub-one : (c : ℕ) → suc c - 1 ≡ c
+suc-sub-one c = omega arith
+
+-- the code's class table, computed from 01's
+abbrev pub classTable : List (List ℕ)
+classTable = map (filled codeOf blank-c 9) columns
+
+pub class-at : (kind c : ℕ) → (c ≡ 0 → ⊥) → getD (getD classTable kind []) (c - 1) 0 ≡ codeOf (classOf kind c)
+class-at kind zero h = absurd (h refl)
+class-at kind (suc c) h = rw (suc-sub-one c) (entry codeOf blank-c 9 columns kind c)
+
+pub class-past : (kind c : ℕ) → (c ≡ 0 → ⊥) → 25 ≤ kind → 0 ≡ codeOf (classOf kind c)
+class-past kind zero h k = absurd (h refl)
+class-past kind (suc c) h k = rw (List·getD-eq-default columns [] k)
+
+-- a class's number stands for it
+pub code-class : (cl : Class) → classAt (codeOf cl) ≡ cl
+code-class blank-c = refl
+code-class kind-c = refl
+code-class id-c = refl
+code-class n-c = refl
+code-class u-c = refl
+code-class t-c = refl
+code-class m-c = refl
+code-class g-c = refl
+code-class f-c = refl
+code-class share-c = refl
+code-class speed-c = refl
+code-class n?-c = refl
+code-class t?-c = refl
+code-class m?-c = refl
+code-class task-c = refl
+code-class activity-c = refl
+code-class resource-c = refl
+code-class requirement-c = refl
+code-class constraint-c = refl
+
+-- ---- a rule of a table, proved at all of its entries by one test that antt computes
+abbrev pub allOf : {A : Type 0} → (A → Bool) → List A → Bool
+allOf f [] = true
+allOf f (x ∷ xs) = f x && allOf f xs
+
+and-left : (a b : Bool) → T (a && b) → T a
+and-left true b t = tt
+and-left false b t = t
+
+and-right : (a b : Bool) → T (a && b) → T b
+and-right true b t = t
+and-right false b t = absurd t
+
+pub all-at : {A : Type 0} (f : A → Bool) (xs : List A) (d : A) → T (allOf f xs) → T (f d) → (n : ℕ) → T (f (getD xs n d))
+all-at f [] d t td n = td
+all-at f (x ∷ xs) d t td zero = and-left (f x) (allOf f xs) t
+all-at f (x ∷ xs) d t td (suc n) = all-at f xs d (and-right (f x) (allOf f xs) t) td n
+
+-- ---- the ranges
+abbrev ends-fit : Class → Bool
+ends-fit cl = ltb (mag (low cl)) (2 ^ 63) && ltb (mag (high cl)) (2 ^ 63)
+
+low-fits : (n : ℕ) → SFits w64 (low (classAt n))
+low-fits n = sfits-of (ltb→lt _ _ (and-left (ltb (mag (low (classAt n))) (2 ^ 63)) (ltb (mag (high (classAt n))) (2 ^ 63)) (all-at ends-fit classes blank-c tt tt n)))
+
+high-fits : (n : ℕ) → SFits w64 (high (classAt n))
+high-fits n = sfits-of (ltb→lt _ _ (and-right (ltb (mag (low (classAt n))) (2 ^ 63)) (ltb (mag (high (classAt n))) (2 ^ 63)) (all-at ends-fit classes blank-c tt tt n)))
+
+-- what the test of a number against the code's two tables says
+pub ranged : (n : ℕ) (x : ℤ) {r : Bool} → SFits w64 x
+    → r ≡ within (toZ w64 (ofZ w64 (getD (map low classes) n (pos 0)))) (toZ w64 (ofZ w64 (getD (map high classes) n (pos 0)))) (toZ w64 (ofZ w64 x))
+    → r ≡ inRange (classAt n) x
+unfolding inRange
+ranged n x f e = rw (mapped low blank-c classes n, mapped high blank-c classes n, toZ-ofZ (low-fits n), toZ-ofZ (high-fits n), toZ-ofZ f) at e
+
+pub unranged : (n : ℕ) (x : ℤ) {r : Bool} → 19 ≤ n → SFits w64 x → r ≡ within (pos 0) (pos 0) (toZ w64 (ofZ w64 x)) → r ≡ inRange (classAt n) x
+unfolding inRange
+unranged n x h f e = rw (List·getD-eq-default classes blank-c h) (rw (toZ-ofZ f) at e)
+
+-- ---- how many columns: no kind has a blank among its columns, and none has more than nine
+abbrev full : List Class → Bool
+full l = allOf (λ cl. ltb 0 (codeOf cl)) l && leb (length l) 9
+
+full-at : (kind : ℕ) → T (full (getD columns kind []))
+full-at kind = all-at full columns [] tt tt kind
+
+blank-past : (l : List Class) (j : ℕ) → T (allOf (λ cl. ltb 0 (codeOf cl)) l) → codeOf (getD l j blank-c) ≡ 0 → length l ≤ j
+blank-past [] j t e = omega arith
+blank-past (x ∷ l) zero t e = absurd (omega (arith, ltb→lt 0 (codeOf x) (and-left (ltb 0 (codeOf x)) (allOf (λ cl. ltb 0 (codeOf cl)) l) t)))
+blank-past (x ∷ l) (suc j) t e = omega (arith, blank-past l j (and-right (ltb 0 (codeOf x)) (allOf (λ cl. ltb 0 (codeOf cl)) l) t) e)
+
+pub width-here : (kind c : ℕ) {n : ℕ} → 1 ≤ c → n ≡ codeOf (classOf kind c) → n ≡ 0 → width kind ≤ c - 1
+unfolding width
+width-here kind zero l e z = absurd (omega arith)
+width-here kind (suc c) l e z =
+    rw (suc-sub-one c)
+    (blank-past (getD columns kind []) c
+    (and-left (allOf (λ cl. ltb 0 (codeOf cl)) (getD columns kind [])) (leb (length (getD columns kind [])) 9) (full-at kind)) (sym e ∙ z))
+
+pub width-more : (kind c : ℕ) {n : ℕ} → 1 ≤ c → n ≡ codeOf (classOf kind c) → (n ≡ 0 → ⊥) → c ≤ width kind
+unfolding width
+width-more kind zero l e z = absurd (omega arith)
+width-more kind (suc c) l e z = go (decLt c (length (getD columns kind [])))
+  where
+    go : Dec (c < length (getD columns kind [])) → suc c ≤ length (getD columns kind [])
+    go (yes h) = h
+    go (no h) =
+        absurd (z (e ∙ ap codeOf (List·getD-eq-default (getD columns kind []) blank-c (omega arith))))
+
+pub width-most : (kind : ℕ) → width kind ≤ 9
+unfolding width
+width-most kind =
+    leb→le _ 9 (and-right (allOf (λ cl. ltb 0 (codeOf cl)) (getD columns kind [])) (leb (length (getD columns kind [])) 9) (full-at kind))
+
+-- past the tenth column all is blank
+pub class-wide : (kind c : ℕ) → 10 ≤ c → classOf kind c ≡ blank-c
+unfolding width
+class-wide kind zero h = absurd (omega arith)
+class-wide kind (suc c) h =
+    let w : length (getD columns kind []) ≤ c = omega (arith, width-most kind) in List·getD-eq-default (getD columns kind []) blank-c w

@@ -1,0 +1,4 @@
+pub mod Cells
+pub mod Class
+pub mod Ranges
+pub mod Table

@@ -1,0 +1,270 @@
+// The rows of a sheet: ten numbers each, a kind, its columns, then zeros. What each kind's columns are stands in one table, which the
+// validation of rows and the text reader read.
+ghost use mathlib.Core.Path.{_≡_};
+ghost use mathlib.Core.Bool.{Bool, _&&_};
+ghost use Prim.Native.Nat.{ℕ, _+_, _<_, _≤_};
+ghost use lib.IntN.{ℤ, pos, negsuc};
+ghost use lib.Dec.{eqb};
+ghost use Rattle.loops.specs.Numbers.{toNat};
+ghost use Rattle.rows.specs.Table.{classOf, width};
+ghost use Rattle.rows.specs.Class.{codeOf, classAt};
+ghost use Rattle.rows.specs.Ranges.{within, isNone, inRange, orNone, inClass};
+ghost use Rattle.rows.specs.Cells.{rowCount, cell, num, is};
+
+// The classes of columns. What names an owner that must be in the sheet has a class of its own.
+const X: u8 = 0;
+
+const KIND: u8 = 1;
+
+const ID: u8 = 2;
+
+const N: u8 = 3;
+
+const U: u8 = 4;
+
+const T: u8 = 5;
+
+const M: u8 = 6;
+
+const G: u8 = 7;
+
+const F: u8 = 8;
+
+const SHARE: u8 = 9;
+
+const SPEED: u8 = 10;
+
+const NQ: u8 = 11;
+
+const TQ: u8 = 12;
+
+const MQ: u8 = 13;
+
+const TASK: u8 = 14;
+
+const ACT: u8 = 15;
+
+const RES: u8 = 16;
+
+const REQ: u8 = 17;
+
+const CON: u8 = 18;
+
+// The columns of each kind, from column 1 on.
+const CLASSES: [[u8; 9]; 25] = [
+    [X, X, X, X, X, X, X, X, X],
+    [ID, TQ, TQ, X, X, X, X, X, X],
+    [ID, TASK, N, M, M, M, F, TQ, X],
+    [ACT, SHARE, G, X, X, X, X, X, X],
+    [ACT, N, M, M, X, X, X, X, X],
+    [ACT, ID, N, U, X, X, X, X, X],
+    [ACT, REQ, ID, X, X, X, X, X, X],
+    [ACT, REQ, ID, X, X, X, X, X, X],
+    [ACT, ID, X, X, X, X, X, X, X],
+    [ACT, ID, SPEED, X, X, X, X, X, X],
+    [ACT, ID, M, M, M, X, X, X, X],
+    [ID, ID, N, X, X, X, X, X, X],
+    [RES, ID, X, X, X, X, X, X, X],
+    [RES, ID, X, X, X, X, X, X, X],
+    [RES, ID, M, X, X, X, X, X, X],
+    [RES, F, T, T, X, X, X, X, X],
+    [ACT, F, T, T, X, X, X, X, X],
+    [ID, ID, G, X, X, X, X, X, X],
+    [ID, N, X, X, X, X, X, X, X],
+    [ID, T, T, X, X, X, X, X, X],
+    [ID, X, X, X, X, X, X, X, X],
+    [X, X, X, X, X, X, X, X, X],
+    [CON, ID, X, X, X, X, X, X, X],
+    [ID, ID, ID, T, T, M, NQ, MQ, X],
+    [ID, ID, T, T, X, X, X, X, X],
+];
+
+// The least number of each class, and the greatest.
+const LOW: [i64; 19] = [
+    0,
+    -9223372036854775808,
+    0,
+    -1000000,
+    0,
+    0,
+    0,
+    -4000000000000,
+    0,
+    0,
+    0x3f50_0000_0000_0000,
+    -1000000,
+    0,
+    0,
+    0,
+    0,
+    0,
+    0,
+    0,
+];
+
+const HIGH: [i64; 19] = [
+    0,
+    9223372036854775807,
+    999999999,
+    1000000,
+    1000000,
+    4000000000000,
+    4000000000000,
+    4000000000000,
+    1,
+    0x3ff0_0000_0000_0000,
+    0x4090_0000_0000_0000,
+    1000000,
+    4000000000000,
+    4000000000000,
+    999999999,
+    999999999,
+    999999999,
+    1000000,
+    1000000,
+];
+
+// The class of column c in a row of a kind.
+pub fn class_of(kind: u64, c: usize) -> u8
+    ensures { λ r. ⌜ r ≡ codeOf (classOf kind c) ⌝ }
+{
+    if c == 0 {
+        return KIND;
+    }
+    if c < 10 {
+        if kind < 25 {
+            return CLASSES[kind as usize][c - 1];
+        }
+    }
+    X
+}
+
+// How many columns a kind has.
+pub fn width_of(kind: u64) -> usize
+    ensures { λ r. ⌜ r ≡ width kind ⌝ }
+{
+    let mut c = 1;
+    while c < 10 {
+        if class_of(kind, c) == X {
+            return c - 1;
+        }
+        c += 1;
+    }
+    9
+}
+
+// Whether x lies between low and high, both included.
+fn is_within(low: i64, high: i64, x: i64) -> bool
+    ensures { λ r. ⌜ r ≡ within low high x ⌝ }
+{
+    low <= x && x <= high
+}
+
+// Whether a number stands for none.
+pub fn is_none(x: i64) -> bool
+    ensures { λ r. ⌜ r ≡ isNone x ⌝ }
+{
+    is_within(-9223372036854775808, -9223372036854775808, x)
+}
+
+// Whether x lies in the range of the class; whether it may be none is another question.
+fn in_range(class: u8, x: i64) -> bool
+    ensures { λ r. ⌜ r ≡ inRange (classAt class) x ⌝ }
+{
+    if class < 19 {
+        let low = LOW[class as usize];
+        let high = HIGH[class as usize];
+        return is_within(low, high, x);
+    }
+    is_within(0, 0, x)
+}
+
+// Whether a class has none.
+const OR_NONE: [bool; 19] = [
+    false,
+    false,
+    false,
+    false,
+    false,
+    false,
+    false,
+    false,
+    false,
+    false,
+    false,
+    true,
+    true,
+    true,
+    false,
+    false,
+    false,
+    false,
+    false,
+];
+
+fn or_none(class: u8) -> bool
+    ensures { λ r. ⌜ r ≡ orNone (classAt class) ⌝ }
+{
+    if class < 19 {
+        return OR_NONE[class as usize];
+    }
+    false
+}
+
+// Whether x may stand in a column of the class.
+pub fn in_class(class: u8, x: i64) -> bool
+    ensures { λ r. ⌜ r ≡ inClass (classAt class) x ⌝ }
+{
+    if in_range(class, x) {
+        return true;
+    }
+    if or_none(class) {
+        return is_none(x);
+    }
+    false
+}
+
+// ---- cells
+
+// How many rows there are.
+pub fn row_count(rows: &[i64]) -> usize
+    ensures { λ r. ⌜ r ≡ rowCount (now (rows .entry)) ⌝ }
+{
+    rows.len() / 10
+}
+
+// Column c of row k, 0 past the end.
+pub fn cell_at(rows: &[i64], k: usize, c: usize) -> i64
+    ensures { λ r. ⌜ r ≡ cell (now (rows .entry)) k c ⌝ }
+{
+    if c < 10 {
+        if k < rows.len() {
+            let at = k * 10 + c;
+            if at < rows.len() {
+                return rows[at];
+            }
+        }
+    }
+    0
+}
+
+// A number as a natural number, 0 for a negative one.
+pub fn nat(x: i64) -> u64
+    ensures { λ r. ⌜ r ≡ toNat x ⌝ }
+{
+    if x < 0 { 0 } else { x as u64 }
+}
+
+// Column c of row k as a natural number.
+pub fn num_at(rows: &[i64], k: usize, c: usize) -> u64
+    ensures { λ r. ⌜ r ≡ num (now (rows .entry)) k c ⌝ }
+{
+    nat(cell_at(rows, k, c))
+}
+
+// Whether column c of row k is v.
+pub fn is_at(rows: &[i64], k: usize, c: usize, v: u64) -> bool
+    ensures { λ r. ⌜ r ≡ is (now (rows .entry)) k c v ⌝ }
+{
+    num_at(rows, k, c) == v
+}
