@@ -1,0 +1,68 @@
+-- What the walk finds by numbers is what the definitions say of instants. Assumes nothing.
+use Prim.Native.Nat.{ℕ, zero, suc, _+_, _-_, _<_, _≤_}
+use mathlib.Core.Path.{_≡_, refl, sym, ap, ap₂, subst, _∙_}
+use mathlib.Core.Bool.{Bool, true, false, cond}
+use mathlib.Core.List.{List}
+use native.Mathlib.Nat.{add-zero, add-suc, suc-add}
+use native.Mathlib.Omega.{arith}
+use lib.Dec.{T, ltb, ltb→lt}
+use lib.IntN.{ℤ, pos, negsuc, _-ℤ_}
+use Rattle.calendar.specs.Clock.{clock, amountOf, ahead}
+use Rattle.calendar.specs.Amount.{one, count, since, jointAvailableMs}
+use Rattle.calendar.specs.WorkEnd.{Ending, endsAt, pauses, never, mapEnding, after, endIn, endAfter, endFrom}
+use Rattle.calendar.specs.Layout.{calendarsOf, latest}
+use Rattle.calendar.proofs.Places.{jointAt}
+use Rattle.calendar.proofs.Stretches.{joint-latest}
+use Rattle.calendar.proofs.Laws.{Means, settled-means, end-is}
+use Rattle.calendar.proofs.Walk.{availableAt, endAt}
+
+-- a difference of two instants, cut at 0
+pub gap : (a e : ℕ) → ahead clock (pos a) (pos e) ≡ e - a
+gap zero e = omega arith
+gap (suc a) e = go (ltb e (suc a)) refl
+  where
+    go : (b : Bool) → ltb e (suc a) ≡ b → amountOf (cond b (negsuc (suc a - suc e)) (pos (e - suc a))) ≡ e - suc a
+    go true h = let k : e < suc a = ltb→lt e (suc a) (subst T (sym h) tt) in omega arith
+    go false h = refl
+
+module _ (p : ℕ → Bool) (t : ℕ) where
+  count-along : (n b : ℕ) → count (λ k. p (t + k)) b n ≡ count p (t + b) n
+  unfolding count
+  count-along zero b = refl
+  count-along (suc n) b = ap (λ (x : ℕ). one (p (t + b)) + x) (count-along n (suc b) ∙ ap (λ (x : ℕ). count p x n) (add-suc t b))
+
+  end-along : (n b left : ℕ) → endIn p n (t + b) left ≡ mapEnding (λ k. t + k) (endIn (λ k. p (t + k)) n b left)
+  unfolding endIn
+  end-along zero b zero = refl
+  end-along zero b (suc left) = refl
+  end-along (suc n) b zero = refl
+  end-along (suc n) b (suc left) =
+      ap (λ (x : ℕ). endIn p n x (after (p (t + b)) left)) (sym (add-suc t b)) ∙ end-along n (suc b) (after (p (t + b)) left)
+
+map-map : {A B C : Type 0} (f : A → B) (g : B → C) (x : Ending A) → mapEnding g (mapEnding f x) ≡ mapEnding (λ a. g (f a)) x
+map-map f g (endsAt e) = refl
+map-map f g pauses = refl
+map-map f g never = refl
+
+module _ (cs w : List ℕ) where
+  pub avail-along : (a e : ℕ) → availableAt cs w a e ≡ jointAvailableMs clock (calendarsOf w cs) (pos a) (pos e)
+  unfolding jointAvailableMs availableAt
+  avail-along a e =
+      sym
+      (ap (count (since clock (calendarsOf w cs) (pos a)) 0) (gap a e)
+      ∙ count-along (jointAt cs w) a (e - a) 0
+      ∙ ap (λ (x : ℕ). count (jointAt cs w) x (e - a)) (add-zero a))
+
+  -- the look as far as the latest start or end of any window ends as the one of the definition does
+  pub walk-along : (t work : ℕ) → mapEnding (λ k. pos k) (endAt cs w t work) ≡ endFrom clock (calendarsOf w cs) (pos t) work
+  unfolding endAt endFrom
+  walk-along t work =
+      ap (λ (x : ℕ). mapEnding (λ k. pos k) (endIn (jointAt cs w) (latest w + work) x work)) (sym (add-zero t))
+      ∙ ap (mapEnding (λ k. pos k)) (end-along (jointAt cs w) t (latest w + work) 0 work)
+      ∙ map-map (λ k. t + k) (λ k. pos k) (endIn (λ k. jointAt cs w (t + k)) (latest w + work) 0 work)
+      ∙ ap (mapEnding (λ k. pos (t + k))) (sym (end-is (calendarsOf w cs) (pos t) work (endIn (λ k. jointAt cs w (t + k)) (latest w + work) 0 work) looked))
+    where
+      looked : Means (λ k. jointAt cs w (t + k)) 0 work (endIn (λ k. jointAt cs w (t + k)) (latest w + work) 0 work)
+      looked =
+          settled-means (λ k. jointAt cs w (t + k)) 0 (latest w)
+          (λ u l. joint-latest cs w (t + (0 + latest w)) (t + u) (omega arith) (omega arith)) work

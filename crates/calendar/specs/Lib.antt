@@ -1,0 +1,9 @@
+pub mod Clock
+pub mod Calendar
+pub mod Amount
+pub mod WorkEnd
+pub mod Moves
+pub mod Layout
+pub mod Search
+pub mod Stops
+pub mod Examples
