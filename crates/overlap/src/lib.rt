@@ -33,12 +33,12 @@ fn behind(share: f64, span: u64) -> u64
 
 impl Overlap {
     // An overlap as a sheet has it, the share by its bits.
-    pub fn new(bits: u64, finish_after_ms: i64) -> Overlap
-        ensures { λ r. ⌜ r ≡ overlapOf bits finish_after_ms ⌝ }
+    pub fn new(bits: u64, lag: i64) -> Overlap
+        ensures { λ r. ⌜ r ≡ overlapOf bits lag ⌝ }
     {
         Overlap {
             start_after: rounding::float_from_bits(bits),
-            finish_after_ms: finish_after_ms,
+            finish_after_ms: lag,
         }
     }
 

@@ -135,19 +135,19 @@ impl Derived {
 }
 
 // Part index of a split activity: its work, the activity's processing, and the split's overhead, which the parts after the first have.
-pub fn part_of(index: i64, work_ms: u64, whole_ms: u64, part_overhead_ms: u64) -> Part
-    ensures { λ r. ⌜ r ≡ partOf index work_ms whole_ms part_overhead_ms ⌝ }
+pub fn part_of(index: i64, work: u64, whole: u64, overhead: u64) -> Part
+    ensures { λ r. ⌜ r ≡ partOf index work whole overhead ⌝ }
 {
     if 0 < index {
         return Part {
-            work_ms: work_ms,
-            whole_ms: whole_ms,
-            overhead_ms: part_overhead_ms,
+            work_ms: work,
+            whole_ms: whole,
+            overhead_ms: overhead,
         };
     }
     Part {
-        work_ms: work_ms,
-        whole_ms: whole_ms,
+        work_ms: work,
+        whole_ms: whole,
         overhead_ms: 0,
     }
 }
