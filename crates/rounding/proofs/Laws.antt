@@ -15,7 +15,7 @@ use lib.Ieee.Positive.{num, den, den-pos}
 use lib.Ieee.Digits.{back}
 use Rattle.rounding.specs.Rounding.{halfUp, rounded, dividedBy, limited}
 use Rattle.rounding.specs.declared.Time.the-variants.{Ms, TooLarge}
-use mathlib.Core.Option.{none, some}
+use mathlib.Core.Option.{Option, none, some}
 use borrow.Author.Tests.{lt-ltb, le-ltb, ltb-true, ltb-false, ne-eqb}
 use lib.Ieee.Bits.{nanBits-is, nanBits-above}
 
@@ -150,6 +150,32 @@ limit-within n h = rw (lt-ltb n (2 ^ 53) h)
 pub limit-beyond : (n : ℕ) → 2 ^ 53 ≤ n → TooLarge ≡ limited (some n)
 unfolding limited
 limit-beyond n h = rw (le-ltb n (2 ^ 53) h)
+
+-- what a limited time tells of the time
+pub limited-ms : (o : Option ℕ) (n : ℕ) → Ms n ≡ limited o → o ≡ some n
+unfolding limited
+limited-ms none n e = absurd (let z : _≡_ {A = ℕ} 0 1 = cc in omega arith)
+limited-ms (some m) n e = go (ltb m (2 ^ 53)) e
+  where
+    go : (b : Bool) → Ms n ≡ cond b (Ms m) TooLarge → some m ≡ some n
+    go true h = cc
+    go false h = absurd (let z : _≡_ {A = ℕ} 0 1 = cc in omega arith)
+
+pub limited-below : (n m : ℕ) → Ms m ≡ limited (some n) → (m ≡ n) × (n < 2 ^ 53)
+unfolding limited
+limited-below n m e = go (ltb n (2 ^ 53)) (ltb-true n (2 ^ 53)) e
+  where
+    go : (b : Bool) → (b ≡ true → n < 2 ^ 53) → Ms m ≡ cond b (Ms n) TooLarge → (m ≡ n) × (n < 2 ^ 53)
+    go true k h = (cc, k refl)
+    go false k h = absurd (let z : _≡_ {A = ℕ} 0 1 = cc in omega arith)
+
+pub limited-large : (n : ℕ) → TooLarge ≡ limited (some n) → 2 ^ 53 ≤ n
+unfolding limited
+limited-large n e = go (ltb n (2 ^ 53)) (ltb-false n (2 ^ 53)) e
+  where
+    go : (b : Bool) → (b ≡ false → 2 ^ 53 ≤ n) → TooLarge ≡ cond b (Ms n) TooLarge → 2 ^ 53 ≤ n
+    go true k h = absurd (let z : _≡_ {A = ℕ} 0 1 = cc in omega arith)
+    go false k h = k refl
 
 -- ---- what `rounded` is, by the tests of the code
 

@@ -4,9 +4,20 @@ ghost use mathlib.Core.Option.{Option, some};
 ghost use lib.IntN.{ℤ};
 ghost use Rattle.rounding.specs.Rounding.{limited};
 ghost use Rattle.timing.specs.Durations.{
-    Found, totalMs, partOf, pieceDuration, pieceFixed, pieceTiming, longest, start, timedOn, atSpeed, timed,
+  Found,
+  totalMs,
+  partOf,
+  inPart,
+  pieceDuration,
+  pieceFixed,
+  pieceTiming,
+  longest,
+  start,
+  timedOn,
+  atSpeed,
+  timed,
 };
-ghost use Rattle.timing.specs.Limits.{within, standing, known, Amount, Amounts, PieceAmounts, TimingAmounts};
+ghost use Rattle.timing.specs.Limits.{within, standing, known, Amounts, PartAmounts, PieceAmounts, TimingAmounts};
 use rounding::Time;
 
 // Time components of an activity.
@@ -112,7 +123,7 @@ impl ActivityDuration {
 impl Derived {
     // The total, of a duration that is known only so far as it is below 2^53.
     pub fn total_ms(self) -> Time
-        ensures { λ r. ⌜ (d : ActivityDuration) → self ≡ within (some d) → r ≡ limited (some (totalMs d)) ⌝ }
+        ensures { λ r. ⌜ ((d : ActivityDuration) → self ≡ within (some d) → r ≡ limited (some (totalMs d))) ⌝ }
     {
         match self {
             Derived::Within(d) => d.total_ms(),
@@ -122,7 +133,7 @@ impl Derived {
 
     // The duration of greater total, the first of two equal ones.
     pub fn longer(self, next: Derived) -> Derived
-        ensures { λ r. ⌜ (f d : ActivityDuration) → self ≡ within (some f) → next ≡ within (some d) → r ≡ within (some (longest (some f) d)) ⌝ }
+        ensures { λ r. ⌜ ((f d : ActivityDuration) → self ≡ within (some f) → next ≡ within (some d) → r ≡ within (some (longest (some f) d))) ⌝ }
     {
         let Time::Ms(standing) = self.total_ms() else {
             return Derived::TooLarge;
@@ -152,6 +163,30 @@ pub fn part_of(index: i64, work: u64, whole: u64, overhead: u64) -> Part
     }
 }
 
+// A duration with another processing time, and with the part's overhead in its teardown.
+fn in_part(d: ActivityDuration, process: u64, p: Part) -> ActivityDuration
+    requires { ⌜ Amounts d × PartAmounts p ⌝ }
+    ensures { λ r. ⌜ r ≡ inPart d process p ⌝ }
+{
+    ActivityDuration {
+        setup_ms: d.setup_ms,
+        process_ms: process,
+        teardown_ms: d.teardown_ms + p.overhead_ms,
+    }
+}
+
+// A resource's own duration for the activity, as the part has it.
+fn fixed_in_part(d: ActivityDuration, p: Part) -> Derived
+    requires { ⌜ Amounts d × PartAmounts p ⌝ }
+    ensures { λ r. ⌜ r ≡ within (some (pieceFixed (Piece.InPart p) d)) ⌝ }
+{
+    let process = share::share(d.process_ms, p.work_ms, p.whole_ms);
+    match process {
+        Time::Ms(n) => in_part(d, n, p).derived(),
+        Time::TooLarge => Derived::TooLarge,
+    }
+}
+
 impl Piece {
     // The activity's duration, as the piece has it.
     pub fn duration(self, base: ActivityDuration) -> ActivityDuration
@@ -160,11 +195,7 @@ impl Piece {
     {
         match self {
             Piece::Whole => base,
-            Piece::InPart(p) => ActivityDuration {
-                setup_ms: base.setup_ms,
-                process_ms: p.work_ms,
-                teardown_ms: base.teardown_ms + p.overhead_ms,
-            },
+            Piece::InPart(p) => in_part(base, p.work_ms, p),
         }
     }
 
@@ -173,26 +204,17 @@ impl Piece {
         requires { ⌜ PieceAmounts self × Amounts d ⌝ }
         ensures { λ r. ⌜ r ≡ within (some (pieceFixed self d)) ⌝ }
     {
-        let Piece::InPart(p) = self else {
-            return d.derived();
-        };
-        let process = share::share(d.process_ms, p.work_ms, p.whole_ms);
-        let Time::Ms(n) = process else {
-            return Derived::TooLarge;
-        };
-        let own = ActivityDuration {
-            setup_ms: d.setup_ms,
-            process_ms: n,
-            teardown_ms: d.teardown_ms + p.overhead_ms,
-        };
-        own.derived()
+        match self {
+            Piece::Whole => d.derived(),
+            Piece::InPart(p) => fixed_in_part(d, p),
+        }
     }
 }
 
 impl Fixed {
     // One fixed duration more.
     pub fn with(self, d: Derived) -> Fixed
-        ensures { λ r. ⌜ (f : Option ActivityDuration) (e : ActivityDuration) → self ≡ standing f → d ≡ within (some e) → r ≡ standing (some (longest f e)) ⌝ }
+        ensures { λ r. ⌜ ((f : Option ActivityDuration) (e : ActivityDuration) → self ≡ standing f → d ≡ within (some e) → r ≡ standing (some (longest f e))) ⌝ }
     {
         match self {
             Fixed::Nothing => Fixed::Standing(d),
@@ -215,7 +237,7 @@ impl Timed {
     // One resource more that the piece runs on, by the activity's timing there.
     pub fn on(self, piece: Piece, timing: ResourceTiming) -> Timed
         requires { ⌜ PieceAmounts piece × TimingAmounts timing ⌝ }
-        ensures { λ r. ⌜ (f : Found) → self ≡ known f → r ≡ known (timedOn f (pieceTiming piece timing)) ⌝ }
+        ensures { λ r. ⌜ ((f : Found) → self ≡ known f → r ≡ known (timedOn f (pieceTiming piece timing))) ⌝ }
     {
         let speed = self.speed;
         let fixed = self.fixed;
@@ -233,7 +255,7 @@ impl Timed {
 
     // The derived duration, once every resource has been seen. `base` is the activity's duration as the piece has it.
     pub fn duration(self, base: ActivityDuration) -> Derived
-        ensures { λ r. ⌜ (f : Found) → self ≡ known f → r ≡ within (timed base f) ⌝ }
+        ensures { λ r. ⌜ ((f : Found) → self ≡ known f → r ≡ within (timed base f)) ⌝ }
     {
         let speed = self.speed;
         let fixed = self.fixed;

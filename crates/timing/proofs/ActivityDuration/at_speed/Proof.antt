@@ -1,42 +1,37 @@
+-- `timing::ActivityDuration::at_speed` meets its contract. Assumes nothing.
+use mathlib.Core.Path.{sym, ap, _∙_, subst}
+use lib.Ieee.{ofBits}
+use Rattle.timing.proofs.Laws.{at-one, at-other, at-large}
 use borrow.Author.Needs.{needs}
 use Rattle.timing.proofs.ActivityDuration.at_speed.Statement.{statement}
 use Rattle.timing.proofs.ActivityDuration.at_speed.Tie as tie
-use Rattle.timing.proofs.ActivityDuration.at_speed.Reads as reads
-use Rattle.timing.proofs.ActivityDuration.at_speed.Lts as lts
-use Rattle.rounding.proofs.divided.Reads as divided-reads
-use Rattle.timing.proofs.ActivityDuration.derived.Reads as derived-reads
 
--- src/lib.rt:92:13
 derived-requires : tie.Need-derived-requires
 derived-requires c κs = search needs
 
--- src/lib.rt:92:13
 returns : tie.Need-returns
-returns c = ?
+unfolding ofBits
+returns c = (c .derived .ensures) ∙ at-one _ _ (c .before .if1 .taken)
 
--- src/lib.rt:97:13
 divided-requires : tie.Need-divided-requires
 divided-requires c κs = search needs
 
--- src/lib.rt:99:22
 enum-known-divided : tie.Need-enum-known-divided
 enum-known-divided c = search needs
 
--- src/lib.rt:105:17
 derived-requires-2 : tie.Need-derived-requires-2
 derived-requires-2 c κs = search needs
 
--- src/lib.rt:107:31
 enum-told : tie.Need-enum-told
 enum-told c = search needs
 
--- src/lib.rt:88:5
 returns-2 : tie.Need-returns-2
-returns-2 c = ?
+unfolding ofBits
+returns-2 c = (c .derived2 .ensures) ∙ at-other _ _ _ (c .before .before .before .before .before .if1 .left) (sym ((c .before .before .divided2 .given .1)) ∙ (c .before .before .before .before .divided .ensures))
 
--- src/lib.rt:88:5
 returns-3 : tie.Need-returns-3
-returns-3 c = ?
+unfolding ofBits
+returns-3 c = at-large _ _ (c .before .before .before .if1 .left) (sym ((c .enum-told .given .1)) ∙ (c .before .before .divided .ensures))
 
 pub at-speed-spec : {M : Type 1} → statement M
 at-speed-spec =

@@ -1,28 +1,25 @@
+-- `timing::Piece::duration` meets its contract. Assumes nothing.
+use mathlib.Core.Path.{sym, ap, _∙_, subst}
+use Rattle.timing.specs.Durations.{pieceDuration}
+use Rattle.timing.specs.Limits.{PieceAmounts}
 use borrow.Author.Needs.{needs}
 use Rattle.timing.proofs.Piece.duration.Statement.{statement}
 use Rattle.timing.proofs.Piece.duration.Tie as tie
-use Rattle.timing.proofs.Piece.duration.Reads as reads
-use Rattle.timing.proofs.Piece.duration.Lts as lts
 
--- src/lib.rt:162:29
 enum-told : tie.Need-enum-told
 enum-told c = search needs
 
--- src/lib.rt:163:27
 enum-known-self : tie.Need-enum-known-self
 enum-known-self c = search needs
 
--- src/lib.rt:166:30
-add-t5 : tie.Need-add-t5
-add-t5 c = ?
+in-part-requires : tie.Need-in-part-requires
+in-part-requires c κs = ((c .before .before .before .pre .1), subst PieceAmounts ((c .before .self .given .1)) ((c .before .before .before .pre .0)))
 
--- src/lib.rt:157:5
 returns : tie.Need-returns
 returns c = search needs
 
--- src/lib.rt:157:5
 returns-2 : tie.Need-returns-2
-returns-2 c = ?
+returns-2 c = (c .in-part .ensures) ∙ ap (λ p. pieceDuration p (c .before .before .before .before .args .base)) (sym ((c .before .before .self .given .1)))
 
 pub duration-spec : {M : Type 1} → statement M
-duration-spec = tie.close (tie.spec enum-told enum-known-self add-t5 returns returns-2)
+duration-spec = tie.close (tie.spec enum-told enum-known-self in-part-requires returns returns-2)
