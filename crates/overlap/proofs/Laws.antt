@@ -1,18 +1,18 @@
 -- A share of a span. Assumes nothing.
 use mathlib.Core.Path.{_≡_, refl, sym, ap, _∙_, subst}
 use Prim.Native.Nat.{ℕ, zero, suc, _+_, _-_, _*_, _/_, _%_, _^_, _≤_, _<_}
-use native.Mathlib.Nat.{mul-comm, mul-assoc, mul-left-comm, mul-right-comm, mul-one, mul-pos, mul-le-mul, mul-le-mul-right, le-of-mul-le-mul-right, le-trans, le-of-eq, lt-of-le-of-lt, lt-of-lt-of-le, eq-or-lt-of-le, mod-eq-of-lt, add-mul, mul-lt-mul-of-pos-right, lt-of-mul-lt-mul-right, div-lt-iff-lt-mul, div-eq-of-lt-le, mod-lt, div-add-mod'}
+use native.Mathlib.Nat.{mul-comm, mul-left-comm, mul-right-comm, mul-one, mul-pos, mul-le-mul, mul-le-mul-right, le-of-mul-le-mul-right, le-trans, le-of-eq, lt-of-le-of-lt, lt-of-lt-of-le, eq-or-lt-of-le, mod-eq-of-lt, add-mul, mul-lt-mul-of-pos-right, lt-of-mul-lt-mul-right, div-lt-iff-lt-mul, div-eq-of-lt-le, mod-lt, div-add-mod'}
 use native.Mathlib.Omega.{arith}
 use mathlib.Core.Bool.{Bool, true, false, not, _&&_, _||_, cond, true≢false}
-use lib.Dec.{T, leb, ltb, eqb, leb→le, le→leb, ltb→lt, lt→ltb, eqb→eq, lit≤}
+use lib.Dec.{T, ltb, eqb, leb→le, le→leb, ltb→lt, eqb→eq, lit≤}
 use borrow.Author.Tests.{ltb-true, ltb-false, ne-eqb, lt-leb, le-ltb, lt-ltb}
 use lib.IntN.{ℤ, pos, negsuc, subℕ, negℤ, _+ℤ_, _-ℤ_, natAbs}
 use lib.Signed.{mag}
 use mir.Syntax.{w64}
 use mir.Val.{toZ}
 use lib.Pow.{pow-pos, pow-mono}
-use lib.Ieee.{Float, nan, inf, fin, Format, binary64, prec, emax, low, up, down, size, odd, units, round, mul, ofInt, lt, le, toUnsigned, neg, ofFields, ofBits, nanBits}
-use lib.Ieee.Fits.{up-pos, down-pos, round-is}
+use lib.Ieee.{Float, nan, inf, fin, Format, binary64, prec, emax, low, up, down, odd, units, round, mul, ofInt, lt, le, toUnsigned, neg, ofFields, ofBits}
+use lib.Ieee.Fits.{down-pos, round-is}
 use lib.Ieee.Exact.{HasValue, odd-sign}
 use mathlib.Core.Logic.{_⊎_, inl, inr}
 use lib.Ieee.Back.{round-whole}

@@ -1,6 +1,6 @@
 -- What is known of durations whose total may be 2^53 or more. Assumes nothing.
-use mathlib.Core.Path.{_≡_, refl, sym, ap, _∙_, subst}
-use Prim.Native.Nat.{ℕ, _+_, _^_, _≤_, _<_}
+use mathlib.Core.Path.{_≡_, refl, sym, ap, _∙_}
+use Prim.Native.Nat.{ℕ, _^_, _≤_, _<_}
 use native.Mathlib.Omega.{arith}
 use mathlib.Core.Bool.{Bool, true, false, cond}
 use mathlib.Core.Option.{Option, none, some}
@@ -11,7 +11,7 @@ use Rattle.loops.specs.Lists.{option}
 use Rattle.loops.specs.Search.{orElse}
 use Rattle.rounding.specs.Rounding.{dividedBy, limited}
 use Rattle.rounding.specs.declared.Time.the-variants as time
-use Rattle.rounding.proofs.Laws.{limit-within, limit-beyond, limited-ms, limited-large}
+use Rattle.rounding.proofs.Laws.{limited-ms, limited-large}
 use Rattle.timing.specs.declared.Timed.{Timed}
 use Rattle.timing.specs.declared.ResourceTiming.the-variants.{Speed, Duration}
 use Rattle.timing.specs.declared.ActivityDuration.{ActivityDuration}
@@ -19,7 +19,6 @@ use Rattle.timing.specs.declared.Derived.{Derived}
 use Rattle.timing.specs.declared.Derived.the-variants.{Within, TooLarge}
 use Rattle.timing.specs.declared.Fixed.{Fixed}
 use Rattle.timing.specs.declared.Fixed.the-variants.{Nothing, Standing}
-use Rattle.timing.specs.declared.Part.{Part}
 use Rattle.timing.specs.Durations.{Found, totalMs, longest, timedOn, atSpeed, timed, one}
 use Rattle.timing.specs.Limits.{within, standing, known}
 

@@ -1,6 +1,6 @@
 -- The time of a piece on the resources that it runs on, as activity.rs has it, with exact sums. Assumes nothing.
 use Prim.Native.Nat.{ℕ, _+_}
-use mathlib.Core.Bool.{true, false, cond}
+use mathlib.Core.Bool.{false, cond}
 use mathlib.Core.List.{List, foldl}
 use mathlib.Core.Option.{Option, none, some}
 use lib.Dec.{ltb}

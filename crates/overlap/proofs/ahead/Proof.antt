@@ -1,5 +1,5 @@
 -- `overlap::ahead` meets its contract. Assumes nothing.
-use Prim.Native.Nat.{_+_, _^_, _≤_}
+use Prim.Native.Nat.{_^_, _≤_}
 use native.Mathlib.Omega.{arith}
 use lib.Dec.{le→leb}
 use lib.Ieee.{inFloat}

@@ -1,6 +1,6 @@
 -- `timing::fixed_in_part` meets its contract. Assumes nothing.
 use native.Mathlib.Omega.{arith}
-use mathlib.Core.Path.{sym, ap, _∙_, subst}
+use mathlib.Core.Path.{sym, ap, _∙_}
 use mathlib.Core.Option.{some}
 use Rattle.timing.specs.Durations.{inPart}
 use Rattle.timing.specs.Limits.{within}

@@ -1,5 +1,5 @@
 -- `timing::ActivityDuration::at_speed` meets its contract. Assumes nothing.
-use mathlib.Core.Path.{sym, ap, _∙_, subst}
+use mathlib.Core.Path.{sym, _∙_}
 use lib.Ieee.{ofBits}
 use Rattle.timing.proofs.Laws.{at-one, at-other, at-large}
 use borrow.Author.Needs.{needs}

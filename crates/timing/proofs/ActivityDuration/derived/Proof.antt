@@ -1,5 +1,5 @@
 -- `timing::ActivityDuration::derived` meets its contract. Assumes nothing.
-use mathlib.Core.Path.{sym, ap, _∙_, subst}
+use mathlib.Core.Path.{sym, _∙_}
 use Rattle.timing.proofs.Laws.{within-ms, within-large}
 use borrow.Author.Needs.{needs}
 use Rattle.timing.proofs.ActivityDuration.derived.Statement.{statement}

@@ -1,5 +1,5 @@
 -- `timing::Derived::longer` meets its contract. Assumes nothing.
-use mathlib.Core.Path.{sym, ap, _∙_, subst}
+use mathlib.Core.Path.{sym, _∙_}
 use Rattle.rounding.proofs.Laws.{limited-below, limited-large}
 use Rattle.timing.proofs.Laws.{both, both-le, longer-first, longer-next, longer-is-next, longer-is-first}
 use borrow.Author.Needs.{needs}

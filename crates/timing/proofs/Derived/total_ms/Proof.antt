@@ -1,5 +1,5 @@
 -- `timing::Derived::total_ms` meets its contract. Assumes nothing.
-use mathlib.Core.Path.{sym, ap, _∙_, subst}
+use mathlib.Core.Path.{sym, ap, _∙_}
 use mathlib.Core.Option.{some}
 use Rattle.rounding.specs.Rounding.{limited}
 use Rattle.rounding.proofs.Laws.{limit-beyond}

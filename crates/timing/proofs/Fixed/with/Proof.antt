@@ -1,5 +1,5 @@
 -- `timing::Fixed::with` meets its contract. Assumes nothing.
-use mathlib.Core.Path.{sym, ap, _∙_, subst}
+use mathlib.Core.Path.{sym, ap, _∙_}
 use Rattle.timing.specs.declared.Fixed.the-variants.{Standing}
 use Rattle.timing.proofs.Laws.{with-nothing, with-standing}
 use borrow.Author.Needs.{needs}

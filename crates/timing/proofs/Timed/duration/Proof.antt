@@ -1,5 +1,5 @@
 -- `timing::Timed::duration` meets its contract. Assumes nothing.
-use mathlib.Core.Path.{sym, ap, _∙_, subst}
+use mathlib.Core.Path.{_∙_}
 use Rattle.timing.proofs.Laws.{done-nothing, done-standing}
 use borrow.Author.Needs.{needs}
 use Rattle.timing.proofs.Timed.duration.Statement.{statement}

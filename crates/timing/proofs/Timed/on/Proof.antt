@@ -1,5 +1,5 @@
 -- `timing::Timed::on` meets its contract. Assumes nothing.
-use mathlib.Core.Path.{sym, ap, _∙_, subst}
+use mathlib.Core.Path.{ap, subst}
 use Rattle.timing.specs.declared.Timed.{Timed}
 use Rattle.timing.specs.Limits.{TimingAmounts}
 use Rattle.timing.proofs.Laws.{on-speed, on-fixed}
