@@ -7,13 +7,11 @@ Every answer is worked out twice and must come out the same: by ../differential/
 machine's Python, and below, in exact fractions with the rounding of IEEE 754 (binary64, nearest, ties to even) written
 out. Where a case names its answer, that was written down by hand, and both are held to it.
 """
-import os
 import random
 import sys
 from fractions import Fraction
 
 import listing
-from listing import HERE
 
 import generate
 import reading
@@ -128,8 +126,7 @@ class Cases:
             raise SystemExit(f"{remark}: {answers}, expected {wanted}")
         assert answers
         refusal = (0, 0) if first is None else (6, first)
-        out = [listing.DERIVED, *listing.rows(numbers), *refusal, len(answers), *(x for a in answers for x in a)]
-        self.sheets.append(listing.line(out, remark))
+        self.sheets.append(listing.case(remark, listing.rows(numbers), listing.expected(answers), listing.line("D", refusal)))
 
     def speed(self, remark, process, speeds, expected=None):
         """A process at some speeds, given as bits or floats."""
@@ -147,8 +144,7 @@ class Cases:
         answer = -1 if answer is None or answer >= LIMIT else answer
         if expected is not None and answer != expected:
             raise SystemExit(f"{remark}: {answer}, expected {expected}")
-        runs = listing.listed([[times, [bits]] for times, bits in listing.merged(speeds)])
-        self.speeds.append(listing.line([listing.SPEEDS, process, *runs, answer], remark))
+        self.speeds.append(listing.case(remark, listing.numbers(speeds), listing.line("P", [process, answer])))
 
     def share(self, remark, ms, work, whole, expected=None):
         answer = shared(ms, work, whole)
@@ -156,7 +152,7 @@ class Cases:
         answer = -1 if answer >= LIMIT else answer
         if expected is not None and answer != expected:
             raise SystemExit(f"{remark}: {answer}, expected {expected}")
-        self.shares.append(listing.line([listing.SHARE, ms, work, whole, answer], remark))
+        self.shares.append(listing.case(remark, listing.line("S", [ms, work, whole, answer])))
 
     def overlap(self, remark, share, start, end, lag=0, expected=None):
         bits = bits_of(share) if isinstance(share, float) else share
@@ -164,7 +160,7 @@ class Cases:
         assert answer == reading.overlap_start(bits, start, end), remark
         if expected is not None and answer != expected:
             raise SystemExit(f"{remark}: {answer}, expected {expected}")
-        self.overlaps.append(listing.line([listing.OVERLAP, bits, lag, start, end, answer, end + lag], remark))
+        self.overlaps.append(listing.case(remark, listing.line("O", [bits, lag, start, end, answer, end + lag])))
 
 
 # ---- speeds -----------------------------------------------------------------------------------------------
@@ -518,4 +514,4 @@ def main(folder):
 
 
 if __name__ == "__main__":
-    main(sys.argv[1] if len(sys.argv) > 1 else os.path.join(HERE, "derived_cases"))
+    main(sys.argv[1] if len(sys.argv) > 1 else listing.folder_of("derived_cases"))

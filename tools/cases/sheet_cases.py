@@ -6,12 +6,10 @@
 The answers are those of the second reading of document 01 (../differential/reading.py). Where a case below names its
 answer, that was written down by hand, and the reading is held to it. The same run gives the same files.
 """
-import os
 import random
 import sys
 
 import listing
-from listing import HERE
 
 import generate
 import reading
@@ -76,7 +74,7 @@ class Rows:
     """Cases of rows."""
 
     def __init__(self):
-        self.lines = []
+        self.cases = []
 
     def case(self, remark, rows, expected=None):
         """One case; rows are rows, or plain numbers."""
@@ -84,13 +82,13 @@ class Rows:
         answer = reading.refused_1_to_5(numbers) or ACCEPTED
         if expected is not None and answer != expected:
             raise SystemExit(f"{remark}: {answer}, expected {expected}")
-        assert len(numbers) <= 8192
-        self.lines.append(listing.line([listing.ROWS, *listing.rows(numbers), *answer], remark))
+        assert len(numbers) <= 8200
+        self.cases.append(listing.case(remark, listing.rows(numbers), listing.line("R", answer)))
 
     def alone(self, remark, r, expected=None):
         """A row among its owners, now before them, now after them."""
         owners = owners_of(r)
-        at = len(self.lines) % (len(owners) + 1)
+        at = len(self.cases) % (len(owners) + 1)
         rows = owners[:at] + [r] + owners[at:]
         if expected and expected != ACCEPTED:
             expected = (expected[0], at)
@@ -283,7 +281,7 @@ class Texts:
     """Cases of texts."""
 
     def __init__(self):
-        self.lines = []
+        self.cases = []
 
     def case(self, remark, parts, lent=800, expected=None):
         """One case; parts are bytes, or a list of (TIMES, bytes). Expected: a refusal, or the number of rows."""
@@ -293,10 +291,9 @@ class Texts:
         answer, rows = (read[1:], []) if read[0] == "refused" else ((0, len(read[1]) // 10), read[1])
         if expected is not None and answer != (expected if isinstance(expected, tuple) else (0, expected)):
             raise SystemExit(f"{remark}: {answer}, expected {expected}")
-        assert len(data) <= 65537 and lent <= 801
-        parts = [(times, part) for times, part in parts if part]
-        numbers = [listing.TEXT, lent, *listing.text(parts), *answer, *listing.rows(rows)]
-        self.lines.append(listing.line(numbers, remark))
+        assert len(data) <= 70_000 and lent <= 801
+        lent = lent * 10 + len(self.cases) % 10  # what is no whole row is not used
+        self.cases.append(listing.case(remark, listing.rows(rows), listing.text(parts), listing.line("T", [lent, *answer])))
 
 
 def line_of(kind):
@@ -330,17 +327,21 @@ def lines(c):
 
 GOOD = [b"0", b"-1", b"9", b"10", b"9223372036854775807", b"-9223372036854775807", b"1" + b"0" * 18, b"-1000000", b""]
 BAD = [b"-0", b"00", b"01", b"-01", b"007", b"+1", b" 1", b"1 ", b"1.0", b"1e3", b"0x1", b"--1", b"-", b"1-", b"1-1", b"a", b"1a", b"/", b":",
-       b"\x00", b"\x80", b"\xff", b'"1"', b"'1'", b"\t", b"\r", b";", b"9223372036854775808", b"-9223372036854775808", b"-9223372036854775809",
+       b"\x00", b"\xff", b'"1"', b"'1'", b"\t", b"\r", b";", b"9223372036854775808", b"-9223372036854775808", b"-9223372036854775809",
        b"9999999999999999999", b"18446744073709551616", b"18446744073709551617", b"10000000000000000000", b"-10000000000000000001",
        b"1" * 40, b"0" * 30, b"\xef\xbc\x91", b"\xc2\xa01"]
 
 
+def shown(field):
+    return repr(field)[1:42]
+
+
 def numbers(c):
     for field in GOOD:
-        c.case(f"column {field!r}"[:60], b"1,5," + field + b",7\n", expected=1)
+        c.case(f"column {shown(field)}", b"1,5," + field + b",7\n", expected=1)
     for field in BAD:
-        c.case(f"column {field!r}"[:60].encode("ascii", "replace").decode(), b"21\n1,5," + field + b",7\n", expected=(9, 1))
-        c.case(f"kind {field!r}"[:60].encode("ascii", "replace").decode(), b"21\n" + field + b",5\n", expected=(9, 1))
+        c.case(f"column {shown(field)}", b"21\n1,5," + field + b",7\n", expected=(9, 1))
+        c.case(f"kind {shown(field)}", b"21\n" + field + b",5\n", expected=(9, 1))
     for kind in (b"0", b"25", b"-1", b"26", b"99", b"9223372036854775807", b"-9223372036854775807"):
         c.case(f"kind {kind.decode()}", b"21\n" + kind + b"\n", expected=(2, 1))
     c.case("an empty kind", b",1\n", expected=(9, 0))
@@ -430,10 +431,9 @@ def main(folder):
     for part in (lines, numbers, text_order, sizes):
         part(texts)
     drawn_texts(texts, 60)
-    listing.write(folder, "rows", rows.lines)
-    listing.write(folder, "texts", texts.lines)
-    print(f"{len(rows.lines)} cases of rows, {len(texts.lines)} of texts")
+    listing.write(folder, "cases", rows.cases + texts.cases, most=None)
+    print(f"{len(rows.cases)} cases of rows, {len(texts.cases)} of texts")
 
 
 if __name__ == "__main__":
-    main(sys.argv[1] if len(sys.argv) > 1 else os.path.join(HERE, "sheet_cases"))
+    main(sys.argv[1] if len(sys.argv) > 1 else listing.folder_of("sheet_cases"))
