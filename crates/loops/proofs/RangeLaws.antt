@@ -64,3 +64,9 @@ collect-ext-at f g n (suc m) l h = ap₂ _++_ (collect-ext-at f g n m (omega ari
 -- two collections that agree at each place
 pub collect-ext : {A : Type 0} (f g : ℕ → List A) (n : ℕ) → ((k : ℕ) → k < n → f k ≡ g k) → collect f n ≡ collect g n
 collect-ext f g n h = collect-ext-at f g n n (omega arith) h
+
+-- two steps that agree everywhere
+pub fold-ext : {B : Type 0} (f g : B → ℕ → B) (b : B) (n : ℕ) → ((e : B) (k : ℕ) → f e k ≡ g e k) → fold f b n ≡ fold g b n
+unfolding fold
+fold-ext f g b zero h = refl
+fold-ext f g b (suc n) h = h (fold f b n) n ∙ ap (λ e. g e n) (fold-ext f g b n h)
