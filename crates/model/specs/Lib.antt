@@ -1,5 +1,6 @@
 pub mod Activity
 pub mod Constraint
+pub mod Indexed
 pub mod Resource
 pub mod Schedule
 pub mod Sheet
