@@ -1,5 +1,0 @@
-pub mod Accepted
-pub mod Index
-pub mod Places
-pub mod Refusals
-pub mod Steps
