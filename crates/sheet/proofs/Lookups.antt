@@ -1,0 +1,93 @@
+-- Laws of the lookups: a row by kind and id, and number m of the rows that pass a test. Assumes nothing.
+use Prim.Native.Nat.{ℕ, zero, suc, _+_, _<_, _≤_}
+use mathlib.Core.Path.{_≡_, refl, sym, ap, _∙_}
+use mathlib.Core.Bool.{Bool, true, false, cond, _&&_, and-false, true≢false}
+use mathlib.Core.List.{List}
+use mathlib.Core.Option.{Option, none, some}
+use native.Mathlib.Omega.{arith}
+use native.Mathlib.Decide.{decLt}
+use lib.Dec.{eqb}
+use lib.IntN.{ℤ}
+use borrow.Author.Tests.{eqb-true, eq-eqb, ne-eqb}
+use Rattle.loops.specs.Search.{orElse, someIf, firstPlace, countBelow}
+use Rattle.loops.specs.Chain.{Stands, Blind}
+use Rattle.loops.proofs.PlaceLaws.{found-at, count-same}
+use Rattle.loops.proofs.SearchLaws.{count-le}
+use Rattle.rows.specs.Cells.{rowCount, num, is}
+use Rattle.sheet.specs.Places.{ofKind, named, placeOf, isNth, nthPlace}
+
+pub and-left : (a b : Bool) → (a && b) ≡ true → a ≡ true
+and-left true b e = refl
+and-left false b e = e
+
+pub and-right : (a b : Bool) → (a && b) ≡ true → b ≡ true
+and-right true b e = e
+and-right false b e = absurd (true≢false (sym e))
+
+pub is-num : (rows : List ℤ) (k c v : ℕ) → is rows k c v ≡ true → num rows k c ≡ v
+unfolding is
+is-num rows k c v e = eqb-true (num rows k c) v e
+
+pub num-is : (rows : List ℤ) (k c v : ℕ) → num rows k c ≡ v → is rows k c v ≡ true
+unfolding is
+num-is rows k c v e = eq-eqb (num rows k c) v e
+
+-- ---- by kind and id
+
+pub named-blind : (rows : List ℤ) (x id : ℕ) → Blind (ofKind rows x) (named rows x id)
+unfolding ofKind named
+named-blind rows x id = record { still = λ k e. rw e }
+
+-- the chain made the test of the kind
+pub named-test : (rows : List ℤ) (x id n N i : ℕ) {r b : Bool} → i < N → N ≡ n → Stands (ofKind rows x) n i → r ≡ is rows i 1 id → r ≡ b → named rows x id i ≡ b
+unfolding ofKind named
+named-test rows x id n N i l z a e f = rw (a .here (omega arith), ← e) f
+
+-- what a row that was found has
+pub record Named (rows : List ℤ) (x id k : ℕ) : Type 0 where
+  pub within : k < rowCount rows
+  pub kind : num rows k 0 ≡ x
+  pub id-is : num rows k 1 ≡ id
+
+pub placed : (rows : List ℤ) (x id k : ℕ) → placeOf rows x id ≡ some k → Named rows x id k
+unfolding placeOf named
+placed rows x id k e =
+    let f = found-at (named rows x id) (rowCount rows) k e in
+    record {
+      within = f .0;
+      kind = is-num rows k 0 x (and-left (is rows k 0 x) (is rows k 1 id) (f .1));
+      id-is = is-num rows k 1 id (and-right (is rows k 0 x) (is rows k 1 id) (f .1));
+    }
+
+-- ---- number m of the rows that pass a test
+
+pub nth-blind : {p q : ℕ → Bool} (m : ℕ) → Blind p q → Blind p (isNth q m)
+unfolding isNth
+nth-blind m h = record { still = λ k e. let z : _ ≡ false = h .still k e in rw z }
+
+module _ (q : ℕ → Bool) (m : ℕ) where
+  pub is-nth : (k : ℕ) {y b : Bool} {s : ℕ} → s ≡ countBelow q k → y ≡ q k → b ≡ (y && eqb s m) → isNth q m k ≡ b
+  unfolding isNth
+  is-nth k e f r = rw (← e, ← f) (sym r)
+
+  -- what a row that was found has
+  pub nth-at : (n k : ℕ) → nthPlace q m n ≡ some k → (k < n) × (q k ≡ true) × (countBelow q k ≡ m)
+  unfolding nthPlace isNth
+  nth-at n k e =
+      let f = found-at (isNth q m) n k e in
+      (f .0, and-left (q k) (eqb (countBelow q k) m) (f .1), eqb-true (countBelow q k) m (and-right (q k) (eqb (countBelow q k) m) (f .1)))
+
+  miss-at : (n : ℕ) (b : Bool) → q n ≡ b → countBelow q n + cond b 1 0 ≤ m → isNth q m n ≡ false
+  unfolding isNth
+  miss-at n true e h = rw (e, ne-eqb (countBelow q n) m (λ z. omega arith))
+  miss-at n false e h = rw e
+
+  -- as few as m pass: there is no number m
+  pub too-few : (n : ℕ) → countBelow q n ≤ m → nthPlace q m n ≡ none
+  unfolding countBelow nthPlace firstPlace
+  too-few zero h = refl
+  too-few (suc n) h = rw (too-few n (omega arith), miss-at n (q n) refl h)
+
+  pub nth-step : (k : ℕ) → nthPlace q m (suc k) ≡ orElse (nthPlace q m k) (someIf (isNth q m k) k)
+  unfolding nthPlace firstPlace
+  nth-step k = refl

@@ -1,0 +1,183 @@
+-- Laws of the loops that fill the tables, and how large their entries are. Assumes nothing.
+use Prim.Native.Nat.{ℕ, zero, suc, _+_, _*_, _%_, _<_, _≤_}
+use mathlib.Core.Path.{_≡_, refl, sym, ap, _∙_}
+use mathlib.Core.Bool.{Bool, true, false, cond, _&&_}
+use mathlib.Core.List.{List}
+use mathlib.Core.Option.{Option, none, some}
+use native.Mathlib.Omega.{arith}
+use native.Mathlib.Numerals.{add-one}
+use native.Mathlib.Nat.{le-antisymm}
+use native.Mathlib.Decide.{ℕ-discrete}
+use lib.ListN.{length, getD, set, replicate, getD-replicate, length-set, length-replicate}
+use lib.Seq.{getD-set-same, getD-set-other}
+use lib.Dec.{eqb}
+use lib.IntN.{ℤ}
+use mir.Syntax.{w64}
+use mir.Val.{Fits}
+use borrow.Author.Tests.{eq-eqb, ne-eqb}
+use Rattle.loops.specs.Search.{orElse, someIf, countBelow}
+use Rattle.loops.proofs.SearchLaws.{count-le}
+use Rattle.rows.specs.Cells.{rowCount, num, is}
+use Rattle.sheet.specs.Places.{named, placeOf, isNth, nthPlace, isConstraint, requirementPlace, constraintPlace}
+use Rattle.sheet.specs.Index.{ownerKind, ownerOf, ownerPlace, orEnd, ownPlace, resPlace, ownedKey, Numbered, Linked}
+use Rattle.sheet.specs.Steps.{numberAt, Filling}
+use Rattle.sheet.proofs.Lookups.{is-nth, nth-at, nth-step, too-few, placed}
+
+-- ---- places are at most the number of rows
+
+below : (rows : List ℤ) (x : Option ℕ) → ((k : ℕ) → x ≡ some k → k < rowCount rows) → orEnd rows x ≤ rowCount rows
+unfolding orEnd
+below rows none h = omega arith
+below rows (some k) h = omega (arith, h k refl)
+
+pub named-below : (rows : List ℤ) (x id : ℕ) → orEnd rows (placeOf rows x id) ≤ rowCount rows
+named-below rows x id = below rows (placeOf rows x id) (λ k e. placed rows x id k e .within)
+
+pub nth-below : (rows : List ℤ) (q : ℕ → Bool) (m : ℕ) → orEnd rows (nthPlace q m (rowCount rows)) ≤ rowCount rows
+nth-below rows q m = below rows (nthPlace q m (rowCount rows)) (λ k e. nth-at q m (rowCount rows) k e .0)
+
+pub owner-below : (rows : List ℤ) (x k : ℕ) → orEnd rows (ownerOf rows x k) ≤ rowCount rows
+unfolding ownerOf orEnd
+owner-below rows x k = go (eqb x 1) (eqb x 2) (eqb x 5) (eqb x 11) (eqb x 17)
+  where
+    go : (b₁ b₂ b₃ b₄ b₅ : Bool) → orEnd rows (cond b₁ (placeOf rows 1 (num rows k 2)) (cond b₂ (placeOf rows 2 (num rows k 1))
+        (cond b₃ (nthPlace (named rows 5 (num rows k 1)) (num rows k 2) (rowCount rows)) (cond b₄ (placeOf rows 11 (num rows k 1))
+        (cond b₅ (nthPlace (isConstraint rows) (num rows k 1) (rowCount rows)) none))))) ≤ rowCount rows
+    go true b₂ b₃ b₄ b₅ = named-below rows 1 (num rows k 2)
+    go false true b₃ b₄ b₅ = named-below rows 2 (num rows k 1)
+    go false false true b₄ b₅ = nth-below rows (named rows 5 (num rows k 1)) (num rows k 2)
+    go false false false true b₅ = named-below rows 11 (num rows k 1)
+    go false false false false true = nth-below rows (isConstraint rows) (num rows k 1)
+    go false false false false false = omega arith
+
+pub own-below : (rows : List ℤ) (k : ℕ) → ownPlace rows k ≤ rowCount rows
+unfolding ownPlace ownerPlace
+own-below rows k = owner-below rows (ownerKind (num rows k 0)) k
+
+pub res-below : (rows : List ℤ) (k : ℕ) → resPlace rows k ≤ rowCount rows
+unfolding resPlace
+res-below rows k = go (is rows k 0 23)
+  where
+    go : (b : Bool) → cond b (orEnd rows (placeOf rows 11 (num rows k 3))) (rowCount rows) ≤ rowCount rows
+    go true = named-below rows 11 (num rows k 3)
+    go false = omega arith
+
+-- an entry that was read
+pub small : {x y : ℕ} (n : ℕ) → x ≡ y → y ≤ n → n ≤ 800 → Fits w64 x
+small n e l h = record { fits = omega arith }
+
+pub own-read : (rows : List ℤ) (k : ℕ) {r : ℕ} → r ≡ ownPlace rows k → rowCount rows ≤ 800 → r ≤ 800
+own-read rows k e l = omega (arith, own-below rows k)
+
+pub res-read : (rows : List ℤ) (k : ℕ) {r : ℕ} → r ≡ resPlace rows k → rowCount rows ≤ 800 → r ≤ 800
+res-read rows k e l = omega (arith, res-below rows k)
+
+pub owned-below : (rows : List ℤ) (k : ℕ) → rowCount rows ≤ 800 → ownedKey rows k < 8010
+unfolding ownedKey
+owned-below rows k l = omega (arith, own-below rows k)
+
+-- ---- the numbers of the constraints
+
+-- what the loop knows at row k
+pub record Numbering (rows : List ℤ) (k seen : ℕ) (t : List ℕ) : Type 0 where
+  pub size : length t ≡ 800
+  pub count : seen ≡ countBelow (isConstraint rows) k
+  pub number : (m : ℕ) → m < 800 → getD t m 0 ≡ orEnd rows (nthPlace (isConstraint rows) m k)
+
+pub numbering-start : (rows : List ℤ) (n : ℕ) → n ≡ rowCount rows → Numbering rows 0 0 (replicate 800 n)
+unfolding countBelow orEnd
+numbering-start rows n e = record {
+  size = length-replicate {A = ℕ} 800 n;
+  count = refl;
+  number = λ m l. getD-replicate {A = ℕ} 800 m n 0 l ∙ e ∙ sym (ap (orEnd rows) (too-few (isConstraint rows) m 0 (omega arith)));
+}
+
+module _ (rows : List ℤ) (k seen : ℕ) (t : List ℕ) (h : Numbering rows k seen t) where
+  abbrev p : ℕ → Bool
+  p = isConstraint rows
+
+  counted : {b : Bool} {seen′ : ℕ} → seen′ ≡ seen + cond b 1 0 → b ≡ p k → seen′ ≡ countBelow p (suc k)
+  unfolding countBelow
+  counted {b} r e = r ∙ ap (λ x. x + cond b 1 0) (h .count) ∙ ap (λ x. countBelow p k + cond x 1 0) e
+
+  or-none : (x : Option ℕ) → x ≡ orElse x none
+  or-none none = refl
+  or-none (some y) = refl
+
+  turn : (b : Bool) (seen′ : ℕ) (t′ : List ℕ) → b ≡ p k → k < 800 → seen ≤ k → t′ ≡ numberAt t seen k b → seen′ ≡ seen + cond b 1 0
+      → Numbering rows (suc k) seen′ t′
+  unfolding orEnd
+  turn true seen′ t′ e l s q r = record {
+    size = ap length q ∙ length-set t seen k ∙ h .size;
+    count = counted r e;
+    number = λ m z. rw q (numbers m z (ℕ-discrete m seen));
+  }
+    where
+      numbers : (m : ℕ) → m < 800 → Dec (m ≡ seen) → getD (set t seen k) m 0 ≡ orEnd rows (nthPlace p m (suc k))
+      numbers m z (yes a) =
+          rw (a, nth-step p seen k, too-few p seen k (omega (arith, h .count)), is-nth p seen k {y = true} {b = true} (h .count) e (sym (eq-eqb seen seen refl)))
+          (getD-set-same t seen k 0 (omega (arith, h .size)))
+      numbers m z (no a) =
+          rw (nth-step p m k, is-nth p m k {y = true} {b = false} (h .count) e (sym (ne-eqb seen m (λ w. a (sym w)))))
+          (getD-set-other t seen m k 0 a ∙ h .number m z ∙ ap (orEnd rows) (or-none (nthPlace p m k)))
+  turn false seen′ t′ e l s q r = record {
+    size = ap length q ∙ h .size;
+    count = counted r e;
+    number = λ m z. rw (q, nth-step p m k, is-nth p m k {y = false} {b = false} (h .count) e refl) (h .number m z ∙ ap (orEnd rows) (or-none (nthPlace p m k)));
+  }
+
+  pub numbering-turn : (b : Bool) (seen′ : ℕ) (t′ : List ℕ) → b ≡ p k → k < 800 → seen ≤ k → t′ ≡ numberAt t seen k b → seen′ ≡ seen + cond b 1 0
+      → Numbering rows (k + 1) seen′ t′
+  numbering-turn b seen′ t′ e l s q r = rw add-one (turn b seen′ t′ e l s q r)
+
+pub numbering-end : (rows : List ℤ) (k seen n : ℕ) (t : List ℕ) → Numbering rows k seen t → k ≤ n → n ≤ k → n ≡ rowCount rows → rowCount rows ≤ 800 → Numbered rows t
+numbering-end rows k seen n t h a b e s = record {
+  short = s;
+  number = λ m l. h .number m l ∙ ap (λ y. orEnd rows (nthPlace (isConstraint rows) m y)) (le-antisymm a b ∙ e);
+}
+
+-- a number that no constraint has
+pub past-end : (rows : List ℤ) (m n : ℕ) → n ≡ rowCount rows → rowCount rows ≤ 800 → 800 ≤ m → n ≡ orEnd rows (constraintPlace rows m)
+unfolding orEnd
+past-end rows m n e s l = rw (too-few (isConstraint rows) m (rowCount rows) (omega (arith, count-le (isConstraint rows) (rowCount rows)))) e
+
+-- ---- the links
+
+pub filling-start : (rows : List ℤ) (n : ℕ) → Filling rows 0 (replicate 1600 n)
+filling-start rows n = record { size = length-replicate {A = ℕ} 1600 n; own = λ j l. absurd (omega arith); res = λ j l. absurd (omega arith) }
+
+pub filling-turn : (rows : List ℤ) (k a b : ℕ) (t t′ : List ℕ) → k < 800 → a ≡ ownPlace rows k → b ≡ resPlace rows k → t′ ≡ set (set t k a) (800 + k) b
+    → Filling rows k t → Filling rows (k + 1) t′
+filling-turn rows k a b t t′ l e f q h = record {
+  size = ap length q ∙ length-set (set t k a) (800 + k) b ∙ length-set t k a ∙ h .size;
+  own = λ j z. rw q (getD-set-other (set t k a) (800 + k) j b 0 (λ w. omega arith) ∙ owns j z (ℕ-discrete j k));
+  res = λ j z. rw q (ress j z (ℕ-discrete j k));
+}
+  where
+    owns : (j : ℕ) → j < k + 1 → Dec (j ≡ k) → getD (set t k a) j 0 ≡ ownPlace rows j
+    owns j z (yes w) = rw w (getD-set-same t k a 0 (omega (arith, h .size)) ∙ e)
+    owns j z (no w) = getD-set-other t k j a 0 w ∙ h .own j (omega arith)
+
+    ress : (j : ℕ) → j < k + 1 → Dec (j ≡ k) → getD (set (set t k a) (800 + k) b) (800 + j) 0 ≡ resPlace rows j
+    ress j z (yes w) = rw w (getD-set-same (set t k a) (800 + k) b 0 (omega (arith, length-set t k a, h .size)) ∙ f)
+    ress j z (no w) =
+        getD-set-other (set t k a) (800 + k) (800 + j) b 0 (λ y. w (omega arith)) ∙ getD-set-other t k (800 + j) a 0 (λ y. omega arith) ∙ h .res j (omega arith)
+
+-- ---- the row that a row belongs to, by the kind of its owner
+
+module _ (rows : List ℤ) (k : ℕ) {kind x : ℕ} (e : kind ≡ num rows k 0) (q : x ≡ ownerKind kind) where
+  pub own-at : (v : ℕ) → x ≡ v → orEnd rows (ownerOf rows v k) ≡ ownPlace rows k
+  unfolding ownPlace ownerPlace
+  own-at v r = ap (λ y. orEnd rows (ownerOf rows y k)) (sym r ∙ q ∙ ap ownerKind e)
+
+  pub own-none : (x ≡ 1 → ⊥) → (x ≡ 2 → ⊥) → (x ≡ 5 → ⊥) → (x ≡ 11 → ⊥) → (x ≡ 17 → ⊥) → rowCount rows ≡ ownPlace rows k
+  unfolding ownerOf orEnd
+  own-none a b c d f = sym (rw (ne-eqb x 1 a, ne-eqb x 2 b, ne-eqb x 5 c, ne-eqb x 11 d, ne-eqb x 17 f) at (sym (own-at x refl)))
+
+  pub own-requirement : {a m r : ℕ} {f : Option ℕ} → x ≡ 5 → a ≡ num rows k 1 → m ≡ num rows k 2 → f ≡ requirementPlace rows a m → r ≡ orEnd rows f → r ≡ ownPlace rows k
+  unfolding ownerOf
+  own-requirement w a m f r = r ∙ ap (orEnd rows) (rw (a, m) at f) ∙ own-at 5 w
+
+  pub own-constraint : {m r : ℕ} → x ≡ 17 → m ≡ num rows k 1 → r ≡ orEnd rows (constraintPlace rows m) → r ≡ ownPlace rows k
+  unfolding ownerOf
+  own-constraint w m r = (rw m at r) ∙ own-at 17 w

@@ -1,0 +1,5 @@
+pub mod Accepted
+pub mod Index
+pub mod Places
+pub mod Refusals
+pub mod Steps
