@@ -1,0 +1,147 @@
+-- models/schedule.rs: bookings, time-only spans, and the violations that the checks report.
+use Prim.Native.Nat.{ℕ}
+use mathlib.Core.Bool.{Bool, true, false, cond}
+use mathlib.Core.List.{List, [], _∷_, _++_, map, foldl}
+use mathlib.Core.Option.{Option, none, some}
+use lib.Dec.{eqb}
+use lib.IntN.{ℤ, pos}
+use Rattle.loops.specs.Numbers.{toNat}
+use Rattle.loops.specs.Lists.{given, head, keep, each}
+use Rattle.loops.specs.Range.{collect}
+use Rattle.calendar.specs.Clock.{Clock}
+use Rattle.model.specs.Sheet.{Cell, number, instant, nothing, Sheet, numAt, timeAt, with2, rowAt}
+
+-- which part of a split activity, and how much of its processing it does
+pub record Part : Type 0 where
+  pub index : ℤ
+  pub work : ℕ
+
+-- a booking
+pub record Assignment (T : Type 0) : Type 0 where
+  pub activity : ℕ
+  pub task : ℕ
+  pub resource : ℕ
+  pub start : T
+  pub end : T
+  pub setup : ℕ
+  pub part : Option Part
+
+pub record TimeOnlySpan (T : Type 0) : Type 0 where
+  pub activity : ℕ
+  pub task : ℕ
+  pub start : T
+  pub end : T
+
+-- part index and part work: both or neither in an accepted sheet
+abbrev pub asPart : {T : Type 0} → Cell T → Cell T → Option Part
+asPart (number i) (number w) = some (record { index = i; work = toNat w })
+asPart (number i) (instant w) = none
+asPart (number i) nothing = none
+asPart (instant i) w = none
+asPart nothing w = none
+
+module _ {T : Type 0} (s : Sheet T) where
+  unfoldable pub assignmentAt : ℕ → List (Assignment T)
+  assignmentAt = rowAt s 23 λ k.
+      with2 (timeAt s k 4) (timeAt s k 5) λ a e.
+      record {
+        activity = numAt s k 1;
+        task = numAt s k 2;
+        resource = numAt s k 3;
+        start = a;
+        end = e;
+        setup = numAt s k 6;
+        part = asPart (s .cell k 7) (s .cell k 8);
+      }
+
+  -- those of the first n rows, and all
+  unfoldable pub assignmentsBelow : ℕ → List (Assignment T)
+  assignmentsBelow n = collect assignmentAt n
+
+  unfoldable pub assignments : List (Assignment T)
+  assignments = assignmentsBelow (s .count)
+
+  unfoldable pub assignmentsForActivityAll : ℕ → List (Assignment T)
+  assignmentsForActivityAll x = keep (λ a. eqb (a .activity) x) assignments
+
+  unfoldable pub spanAt : ℕ → List (TimeOnlySpan T)
+  spanAt = rowAt s 24 λ k.
+      with2 (timeAt s k 3) (timeAt s k 4) λ a e. record { activity = numAt s k 1; task = numAt s k 2; start = a; end = e }
+
+  unfoldable pub timeOnlyBelow : ℕ → List (TimeOnlySpan T)
+  timeOnlyBelow n = collect spanAt n
+
+  unfoldable pub timeOnly : List (TimeOnlySpan T)
+  timeOnly = timeOnlyBelow (s .count)
+
+  unfoldable pub timeOnlyForActivity : ℕ → Option (TimeOnlySpan T)
+  timeOnlyForActivity x = head (keep (λ a. eqb (a .activity) x) timeOnly)
+
+module _ {T : Type 0} (K : Clock T) where
+  abbrev pub later : Option T → T → Option T
+  later none x = some x
+  later (some a) x = some (cond (K .before a x) x a)
+
+  abbrev pub earlier : Option T → T → Option T
+  earlier none x = some x
+  earlier (some a) x = some (cond (K .before x a) x a)
+
+  -- `max` and `min` of some instants
+  unfoldable pub latest : List T → Option T
+  latest l = foldl later none l
+
+  unfoldable pub earliest : List T → Option T
+  earliest l = foldl earlier none l
+
+module _ {T : Type 0} (K : Clock T) (s : Sheet T) where
+  unfoldable pub taskCompletionTime : ℕ → Option T
+  taskCompletionTime t =
+      latest K
+      (each (λ a. given (eqb (a .task) t) (a .end)) (assignments s)
+      ++ each (λ x. given (eqb (x .task) t) (x .end)) (timeOnly s))
+
+-- ---- violations: check, type, entity, severity
+
+pub record Violation : Type 0 where
+  pub check : ℕ
+  pub type : ℕ
+  pub entity : ℕ
+  pub severity : ℕ
+
+abbrev pub violation : ℕ → ℕ → ℕ → ℕ → Violation
+violation c t e v = record { check = c; type = t; entity = e; severity = v }
+
+-- the types with their severities; the entity of a synchronize violation is its constraint's place
+module _ (check : ℕ) (entity : ℕ) where
+  abbrev pub deadlineMiss : Violation
+  deadlineMiss = violation check 1 entity 80
+
+  abbrev pub capacityExceeded : Violation
+  capacityExceeded = violation check 2 entity 90
+
+  abbrev pub precedenceViolation : Violation
+  precedenceViolation = violation check 3 entity 95
+
+  abbrev pub resourceUnavailable : Violation
+  resourceUnavailable = violation check 4 entity 85
+
+  abbrev pub skillMismatch : Violation
+  skillMismatch = violation check 5 entity 70
+
+  abbrev pub requirementUnfilled : Violation
+  requirementUnfilled = violation check 6 entity 95
+
+  abbrev pub timeWindowViolation : Violation
+  timeWindowViolation = violation check 7 entity 75
+
+  abbrev pub synchronizeViolation : Violation
+  synchronizeViolation = violation check 8 entity 75
+
+  abbrev pub unknownActivity : Violation
+  unknownActivity = violation check 9 entity 95
+
+  abbrev pub durationTooShort : Violation
+  durationTooShort = violation check 10 entity 90
+
+  abbrev pub earlyStart : Violation
+  earlyStart = violation check 11 entity 90
