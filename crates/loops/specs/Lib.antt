@@ -1,5 +1,6 @@
 pub mod Chain
 pub mod Lists
 pub mod Numbers
+pub mod Ordered
 pub mod Range
 pub mod Search

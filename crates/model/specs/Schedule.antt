@@ -9,6 +9,7 @@ use Rattle.loops.specs.Numbers.{toNat}
 use Rattle.loops.specs.Lists.{given, head, keep, each}
 use Rattle.loops.specs.Range.{collect}
 use Rattle.calendar.specs.Clock.{Clock}
+use Rattle.findings.specs.declared.Violation.{Violation}
 use Rattle.model.specs.Sheet.{Cell, number, instant, nothing, Sheet, numAt, timeAt, with2, rowAt}
 
 -- which part of a split activity, and how much of its processing it does
@@ -102,14 +103,8 @@ module _ {T : Type 0} (K : Clock T) (s : Sheet T) where
 
 -- ---- violations: check, type, entity, severity
 
-pub record Violation : Type 0 where
-  pub check : ℕ
-  pub type : ℕ
-  pub entity : ℕ
-  pub severity : ℕ
-
 abbrev pub violation : ℕ → ℕ → ℕ → ℕ → Violation
-violation c t e v = record { check = c; type = t; entity = e; severity = v }
+violation check kind entity severity = record { check = check; kind = kind; entity = entity; severity = severity }
 
 -- the types with their severities; the entity of a synchronize violation is its constraint's place
 module _ (check : ℕ) (entity : ℕ) where

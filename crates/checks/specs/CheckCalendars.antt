@@ -1,0 +1,45 @@
+-- Check 6: `check_calendars` of scheduler/feasibility.rs.
+use Prim.Native.Nat.{ℕ}
+use mathlib.Core.Bool.{Bool, true, false, cond, not, _&&_, _||_}
+use mathlib.Core.List.{List, [], _∷_, _++_, map}
+use mathlib.Core.Option.{Option, none, some}
+use lib.Dec.{ltb}
+use Rattle.loops.specs.Lists.{given, option, each}
+use Rattle.calendar.specs.Clock.{Clock}
+use Rattle.calendar.specs.Calendar.{Calendar, intervalFits, jointWorking}
+use Rattle.calendar.specs.Amount.{jointAvailableMs}
+use Rattle.findings.specs.declared.Violation.{Violation}
+use Rattle.model.specs.Sheet.{Sheet}
+use Rattle.model.specs.Resource.{Resource, findResource, windows}
+use Rattle.model.specs.Activity.{Activity, findActivity, neededMs}
+use Rattle.model.specs.Schedule.{Assignment, assignments, resourceUnavailable, timeWindowViolation}
+use Rattle.checks.specs.Pieces.{assignedWith, runsOn}
+
+module _ {T : Type 0} (K : Clock T) (s : Sheet T) where
+  -- `calendars`: those of all resources of the piece, and the activity's own
+  unfoldable pub calendarsOf : Assignment T → Activity T → List (Calendar T)
+  calendarsOf a activity = map (windows s 15) (assignedWith s a) ++ windows s 16 (activity .id) ∷ []
+
+  -- resumable work may pause: it starts in the joint working time, and that time within its span covers the work
+  unfoldable pub checkResumable : Assignment T → Activity T → List Violation
+  checkResumable a activity =
+      given
+      (not (jointWorking K (calendarsOf a activity) (a .start))
+      || ltb (jointAvailableMs K (calendarsOf a activity) (a .start) (a .end)) (neededMs s activity a (runsOn s a)))
+      (resourceUnavailable 6 (a .resource))
+
+  -- a plain booking is held whole by one window, of its resource and of its activity
+  unfoldable pub checkPlain : Assignment T → Option (Activity T) → List Violation
+  checkPlain a activity =
+      given (not (intervalFits K (windows s 15 (a .resource)) (a .start) (a .end))) (resourceUnavailable 6 (a .resource))
+      ++ option activity []
+      λ x. given (not (intervalFits K (windows s 16 (x .id)) (a .start) (a .end))) (timeWindowViolation 6 (a .activity))
+
+  unfoldable pub checkBooking : Assignment T → List Violation
+  checkBooking a =
+      option (findResource s (a .resource)) [] λ r.
+      option (findActivity s (a .activity)) (checkPlain a none) λ activity.
+      cond (activity .resumable) (checkResumable a activity) (checkPlain a (some activity))
+
+  unfoldable pub checkCalendars : List Violation
+  checkCalendars = each checkBooking (assignments s)

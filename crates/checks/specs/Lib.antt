@@ -1,0 +1,12 @@
+pub mod ActivitySpan
+pub mod CheckAssignments
+pub mod CheckCalendars
+pub mod CheckCapacity
+pub mod CheckConstraints
+pub mod CheckDeadlines
+pub mod CheckParts
+pub mod CheckPrecedence
+pub mod CheckRequirements
+pub mod CheckSchedule
+pub mod CheckTimeOnly
+pub mod Pieces

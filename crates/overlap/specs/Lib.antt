@@ -1,0 +1,2 @@
+-- Definitions that the contracts of `overlap` cite.
+pub mod Bounds

@@ -1,0 +1,2 @@
+-- Lemmas of `rounding`.
+pub mod Laws

@@ -1,0 +1,2 @@
+-- Lemmas of `share`.
+pub mod Laws

@@ -1,0 +1,2 @@
+-- Definitions that the contracts of `share` cite.
+pub mod Share

@@ -1,0 +1,90 @@
+-- The time of a piece on the resources that it runs on, as activity.rs has it, with exact sums. Assumes nothing.
+use Prim.Native.Nat.{ℕ, _+_}
+use mathlib.Core.Bool.{true, false, cond}
+use mathlib.Core.List.{List, foldl}
+use mathlib.Core.Option.{Option, none, some}
+use lib.Dec.{ltb}
+use lib.IntN.{ℤ, pos}
+use lib.Signed.{ltZ}
+use lib.Ieee.{Float, fin, binary64, mul, eq}
+use Rattle.rounding.specs.Rounding.{dividedBy}
+use Rattle.share.specs.Share.{shareOf}
+use Rattle.timing.specs.declared.ActivityDuration.{ActivityDuration}
+use Rattle.timing.specs.declared.ResourceTiming.{ResourceTiming}
+use Rattle.timing.specs.declared.ResourceTiming.the-variants.{Speed, Duration}
+use Rattle.timing.specs.declared.Part.{Part}
+use Rattle.timing.specs.declared.Piece.{Piece}
+use Rattle.timing.specs.declared.Piece.the-variants.{Whole, InPart}
+
+-- `ActivityDuration::total_ms`
+abbrev pub totalMs : ActivityDuration → ℕ
+totalMs d = d .«setup_ms» + d .«process_ms» + d .«teardown_ms»
+
+-- ---- `Activity::part`
+
+-- a part by its index and work, the activity's processing and the split's overhead, which the parts after the first have
+abbrev pub partOf : ℤ → ℕ → ℕ → ℕ → Part
+partOf index work whole overhead = record { «work_ms» = work; «whole_ms» = whole; «overhead_ms» = cond (ltZ (pos 0) index) overhead 0 }
+
+-- the activity's own duration, as the piece has it
+abbrev pub pieceDuration : Piece → ActivityDuration → ActivityDuration
+pieceDuration Whole d = d
+pieceDuration (InPart p) d =
+    record { «setup_ms» = d .«setup_ms»; «process_ms» = p .«work_ms»; «teardown_ms» = d .«teardown_ms» + p .«overhead_ms» }
+
+-- a resource's own duration for the activity, as the piece has it
+abbrev pub pieceFixed : Piece → ActivityDuration → ActivityDuration
+pieceFixed Whole d = d
+pieceFixed (InPart p) d =
+    record {
+      «setup_ms» = d .«setup_ms»;
+      «process_ms» = shareOf (d .«process_ms») (p .«work_ms») (p .«whole_ms»);
+      «teardown_ms» = d .«teardown_ms» + p .«overhead_ms»;
+    }
+
+abbrev pub pieceTiming : Piece → ResourceTiming → ResourceTiming
+pieceTiming piece (Speed s) = Speed s
+pieceTiming piece (Duration d) = Duration (pieceFixed piece d)
+
+-- ---- `timed_duration`
+
+abbrev pub one : Float
+one = fin false 1 (pos 0)
+
+-- its variables `speed` and `fixed`
+pub record Found : Type 0 where
+  pub speed : Float
+  pub fixed : Option ActivityDuration
+
+abbrev pub start : Found
+start = record { speed = one; fixed = none }
+
+-- the greatest total, the earliest among equals
+abbrev pub longest : Option ActivityDuration → ActivityDuration → ActivityDuration
+longest none d = d
+longest (some f) d = cond (ltb (totalMs f) (totalMs d)) d f
+
+-- one resource more, by its timing
+abbrev pub timedOn : Found → ResourceTiming → Found
+timedOn f (Speed s) = record { speed = mul binary64 (f .speed) s; fixed = f .fixed }
+timedOn f (Duration d) = record { speed = f .speed; fixed = some (longest (f .fixed) d) }
+
+-- the base's processing at a product of speeds; none where the quotient is not finite
+abbrev pub withProcess : ActivityDuration → Option ℕ → Option ActivityDuration
+withProcess base none = none
+withProcess base (some n) = some (record { «setup_ms» = base .«setup_ms»; «process_ms» = n; «teardown_ms» = base .«teardown_ms» })
+
+unfoldable pub atSpeed : ActivityDuration → Float → Option ActivityDuration
+atSpeed base speed = cond (eq speed one) (some base) (withProcess base (dividedBy (base .«process_ms») speed))
+
+-- what it returns; none where the quotient is not finite
+abbrev pub orElseAt : Option ActivityDuration → Option ActivityDuration → Option ActivityDuration
+orElseAt none x = x
+orElseAt (some d) x = some d
+
+abbrev pub timed : ActivityDuration → Found → Option ActivityDuration
+timed base f = orElseAt (f .fixed) (atSpeed base (f .speed))
+
+-- the timings are those of the resources that the piece runs on, in booking order
+unfoldable pub timedDuration : ActivityDuration → List ResourceTiming → Option ActivityDuration
+timedDuration base timings = timed base (foldl timedOn start timings)

@@ -1,0 +1,3 @@
+-- Definitions that the contracts of `timing` cite.
+pub mod Durations
+pub mod Limits
