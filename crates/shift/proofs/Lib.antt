@@ -1,1 +1,5 @@
-
+pub mod Nothing
+pub mod Numbers
+pub mod Bare
+pub mod Moved
+pub mod Shift
