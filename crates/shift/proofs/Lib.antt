@@ -3,3 +3,4 @@ pub mod Numbers
 pub mod Bare
 pub mod Moved
 pub mod Shift
+pub mod Calls
