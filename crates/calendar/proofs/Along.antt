@@ -8,11 +8,9 @@ use native.Mathlib.Omega.{arith}
 use lib.Dec.{T, ltb, ltb→lt}
 use lib.IntN.{ℤ, pos, negsuc, _-ℤ_}
 use Rattle.calendar.specs.Clock.{clock, amountOf, ahead}
+use Rattle.calendar.specs.Calendar.{Calendar, jointWorking}
 use Rattle.calendar.specs.Amount.{one, count, since, jointAvailableMs}
 use Rattle.calendar.specs.WorkEnd.{Ending, endsAt, pauses, never, mapEnding, after, endIn, endAfter, endFrom}
-use Rattle.calendar.specs.Layout.{calendarsOf, latest}
-use Rattle.calendar.proofs.Places.{jointAt}
-use Rattle.calendar.proofs.Stretches.{joint-latest}
 use Rattle.calendar.proofs.Laws.{Means, settled-means, end-is}
 use Rattle.calendar.proofs.Walk.{availableAt, endAt}
 
@@ -44,25 +42,30 @@ map-map f g (endsAt e) = refl
 map-map f g pauses = refl
 map-map f g never = refl
 
-module _ (cs w : List ℕ) where
-  pub avail-along : (a e : ℕ) → availableAt cs w a e ≡ jointAvailableMs clock (calendarsOf w cs) (pos a) (pos e)
+module _ (cs : List (Calendar ℤ)) where
+  -- joint working time, as a test of numbers
+  abbrev test : ℕ → Bool
+  test u = jointWorking clock cs (pos u)
+
+  pub avail-along : (a e : ℕ) → availableAt test a e ≡ jointAvailableMs clock cs (pos a) (pos e)
   unfolding jointAvailableMs availableAt
   avail-along a e =
       sym
-      (ap (count (since clock (calendarsOf w cs) (pos a)) 0) (gap a e)
-      ∙ count-along (jointAt cs w) a (e - a) 0
-      ∙ ap (λ (x : ℕ). count (jointAt cs w) x (e - a)) (add-zero a))
+      (ap (count (since clock cs (pos a)) 0) (gap a e)
+      ∙ count-along test a (e - a) 0
+      ∙ ap (λ (x : ℕ). count test x (e - a)) (add-zero a))
 
-  -- the look as far as the latest start or end of any window ends as the one of the definition does
-  pub walk-along : (t work : ℕ) → mapEnding (λ k. pos k) (endAt cs w t work) ≡ endFrom clock (calendarsOf w cs) (pos t) work
-  unfolding endAt endFrom
-  walk-along t work =
-      ap (λ (x : ℕ). mapEnding (λ k. pos k) (endIn (jointAt cs w) (latest w + work) x work)) (sym (add-zero t))
-      ∙ ap (mapEnding (λ k. pos k)) (end-along (jointAt cs w) t (latest w + work) 0 work)
-      ∙ map-map (λ k. t + k) (λ k. pos k) (endIn (λ k. jointAt cs w (t + k)) (latest w + work) 0 work)
-      ∙ ap (mapEnding (λ k. pos (t + k))) (sym (end-is (calendarsOf w cs) (pos t) work (endIn (λ k. jointAt cs w (t + k)) (latest w + work) 0 work) looked))
-    where
-      looked : Means (λ k. jointAt cs w (t + k)) 0 work (endIn (λ k. jointAt cs w (t + k)) (latest w + work) 0 work)
-      looked =
-          settled-means (λ k. jointAt cs w (t + k)) 0 (latest w)
-          (λ u l. joint-latest cs w (t + (0 + latest w)) (t + u) (omega arith) (omega arith)) work
+  -- a look up to a number from which on working time does not change ends as the one of the definition does
+  module _ (m : ℕ) (settled : (u : ℕ) → m ≤ u → test u ≡ test m) where
+    pub walk-along : (t work : ℕ) → mapEnding (λ k. pos k) (endAt test m t work) ≡ endFrom clock cs (pos t) work
+    unfolding endAt endFrom
+    walk-along t work =
+        ap (λ (x : ℕ). mapEnding (λ k. pos k) (endIn test (m + work) x work)) (sym (add-zero t))
+        ∙ ap (mapEnding (λ k. pos k)) (end-along test t (m + work) 0 work)
+        ∙ map-map (λ k. t + k) (λ k. pos k) (endIn (λ k. test (t + k)) (m + work) 0 work)
+        ∙ ap (mapEnding (λ k. pos (t + k))) (sym (end-is cs (pos t) work (endIn (λ k. test (t + k)) (m + work) 0 work) looked))
+      where
+        looked : Means (λ k. test (t + k)) 0 work (endIn (λ k. test (t + k)) (m + work) 0 work)
+        looked =
+            settled-means (λ k. test (t + k)) 0 m
+            (λ u l. settled (t + u) (omega arith) ∙ sym (settled (t + (0 + m)) (omega arith))) work

@@ -3,21 +3,17 @@
 use Prim.Native.Nat.{ℕ, zero, suc, _+_, _-_, _<_, _≤_}
 use mathlib.Core.Path.{_≡_, refl, sym, ap, ap₂, subst, _∙_}
 use mathlib.Core.Logic.{_⊎_, inl, inr, ⊎-elim}
-use mathlib.Core.Bool.{Bool, true, false, true≢false, not, _&&_, _||_, and-comm}
+use mathlib.Core.Bool.{Bool, true, false, true≢false, cond}
 use mathlib.Core.List.{List}
 use native.Mathlib.Nat.{not-suc-le-zero, sub-self}
 use native.Mathlib.Numerals.{add-one}
 use native.Mathlib.Omega.{arith}
-use lib.Dec.{leb, ltb, leb·suc-suc}
-use borrow.Author.Tests.{leb-true, leb-false, ltb-true, le-leb, lt-ltb, not-true, ltb-false}
 use lib.IntN.{ℤ, pos, negsuc, _+ℤ_}
-use Rattle.calendar.specs.declared.Answer.{Answer}
-use Rattle.calendar.specs.declared.Answer.the-variants.{End, Pause, Never}
-use Rattle.calendar.specs.Clock.{Clock, clock}
+use Rattle.calendar.specs.Clock.{Clock, clock, amountOf}
 use Rattle.calendar.specs.Calendar.{Calendar, jointWorking}
-use Rattle.calendar.specs.Layout.{ending}
 use Rattle.calendar.specs.Amount.{one, count, since}
-use Rattle.calendar.specs.WorkEnd.{Ending, endsAt, pauses, never, mapEnding, after, endIn, reaches, endAfter, endFrom, orPause, jointWorkEnd}
+use Rattle.calendar.specs.WorkEnd.{Ending, endsAt, pauses, never, mapEnding, after, endIn, reaches, endAfter, endFrom, jointWorkEnd}
+use Rattle.calendar.proofs.Tests.{le-or-lt}
 use Rattle.calendar.proofs.Counts.{count-split, count-const, end-suc}
 use Rattle.calendar.proofs.Settled.{joint-settled}
 
@@ -32,13 +28,6 @@ abbrev pub Means : (ℕ → Bool) → ℕ → ℕ → Ending ℕ → Type 0
 Means p t work (endsAt e) = EndsAt p t work e
 Means p t work pauses = ⊥
 Means p t work never = (n : ℕ) → count p t n < work
-
-pub le-or-lt : (a b : ℕ) → (a ≤ b) ⊎ (b < a)
-le-or-lt a b = go (leb a b) refl
-  where
-    go : (v : Bool) → leb a b ≡ v → (a ≤ b) ⊎ (b < a)
-    go true e = inl (leb-true a b e)
-    go false e = inr (leb-false a b e)
 
 -- the same, for a look at n milliseconds
 abbrev MeansIn : (ℕ → Bool) → ℕ → ℕ → ℕ → Ending ℕ → Type 0
@@ -188,11 +177,11 @@ pub endFrom-tells : (cs : List (Calendar ℤ)) (t : ℤ) (work : ℕ) → Tells 
 unfolding endFrom
 endFrom-tells cs t work = told clock cs t work (endAfter clock cs t work) (end-means cs t work)
 
-pub workEnd-says : (cs : List (Calendar ℤ)) (t : ℤ) (work : ℕ) → Says clock cs t work (jointWorkEnd clock cs t work)
+pub workEnd-says : (cs : List (Calendar ℤ)) (t work : ℤ) → Says clock cs t (amountOf work) (jointWorkEnd clock cs t work)
 unfolding jointWorkEnd
-workEnd-says cs t work = go (jointWorking clock cs t) refl (endFrom clock cs t work) (endFrom-tells cs t work)
+workEnd-says cs t work = go (jointWorking clock cs t) refl (endFrom clock cs t (amountOf work)) (endFrom-tells cs t (amountOf work))
   where
-    go : (v : Bool) → jointWorking clock cs t ≡ v → (x : Ending ℤ) → Tells clock cs t work x → Says clock cs t work (orPause v x)
+    go : (v : Bool) → jointWorking clock cs t ≡ v → (x : Ending ℤ) → Tells clock cs t (amountOf work) x → Says clock cs t (amountOf work) (cond v x pauses)
     go true e (endsAt s) h = (e, h)
     go true e pauses h = absurd h
     go true e never h = (e, h)
@@ -227,19 +216,3 @@ module _ {T : Type 0} (K : Clock T) (cs : List (Calendar T)) (t : T) (work : ℕ
   says-unique never (endsAt e) h h′ = tells-unique never (endsAt e) (h .1) (h′ .1)
   says-unique never pauses h h′ = absurd (true≢false (sym (h .0) ∙ h′))
   says-unique never never h h′ = refl
-
--- ---- an answer is known by what it stands for
-
-abbrev back : Ending ℤ → Answer
-back (endsAt (pos e)) = End e
-back (endsAt (negsuc e)) = Never
-back pauses = Pause
-back never = Never
-
-back-ending : (x : Answer) → back (ending x) ≡ x
-back-ending (End e) = refl
-back-ending Pause = refl
-back-ending Never = refl
-
-pub ending-same : (x y : Answer) → ending x ≡ ending y → x ≡ y
-ending-same x y h = sym (back-ending x) ∙ ap back h ∙ back-ending y

@@ -1,18 +1,20 @@
 -- Moving every instant by a whole d: working time, fits and amounts stay, and the work end moves by d. Assumes nothing.
-use Prim.Native.Nat.{ℕ, zero, suc, _+_, _<_}
+use Prim.Native.Nat.{ℕ, zero, suc, _+_, _*_, _/_, _<_, _≤_, min}
 use mathlib.Core.Path.{_≡_, refl, sym, ap, ap₂, _∙_}
 use mathlib.Core.Bool.{Bool, true, false}
 use mathlib.Core.List.{List, [], _∷_, _++_, map}
 use native.Mathlib.Omega.{arith}
 use lib.IntN.{ℤ, pos, _+ℤ_}
-use lib.Dec.{eqb}
+use lib.Dec.{leb}
+use lib.ListN.{length, getD}
+use Rattle.calendar.specs.declared.TimeWindow.{TimeWindow}
 use Rattle.calendar.specs.Clock.{Clock, clock}
 use Rattle.loops.specs.Lists.{given}
 use Rattle.loops.specs.Range.{collect}
 use Rattle.calendar.specs.Calendar.{Window, Calendar, isWorkingTime, intervalFits, jointWorking}
 use Rattle.calendar.specs.Amount.{jointAvailableMs}
 use Rattle.calendar.specs.WorkEnd.{Ending, endsAt, pauses, never, mapEnding, endFrom, jointWorkEnd}
-use Rattle.calendar.specs.Layout.{windowAt, windowsIn, windowOf, calendarOf, calendarsOf}
+use Rattle.calendar.specs.Layout.{windowsIn, windowAt, windowOf, windowsOf, calendarOf, listsOf, calendarsOf}
 use Rattle.calendar.specs.Moves.{by, instant, both, list, mapWindow, calendar, ending, later, laters}
 use Rattle.calendar.proofs.Moving.{moved, unmoved}
 
@@ -33,7 +35,7 @@ module _ (d : ℤ) where
   pub endFrom-moved : (cs : List (Calendar ℤ)) (t : ℤ) (work : ℕ) → endFrom clock (laters d cs) (t +ℤ d) work ≡ mapEnding (by d) (endFrom clock cs t work)
   endFrom-moved cs t work = moved (both (list calendar) instant) ending (λ T K x. endFrom K (x .0) (x .1) work) d (cs, t)
 
-  pub workEnd-moved : (cs : List (Calendar ℤ)) (t : ℤ) (work : ℕ) → jointWorkEnd clock (laters d cs) (t +ℤ d) work ≡ mapEnding (by d) (jointWorkEnd clock cs t work)
+  pub workEnd-moved : (cs : List (Calendar ℤ)) (t : ℤ) (work : ℤ) → jointWorkEnd clock (laters d cs) (t +ℤ d) work ≡ mapEnding (by d) (jointWorkEnd clock cs t work)
   workEnd-moved cs t work = moved (both (list calendar) instant) ending (λ T K x. jointWorkEnd K (x .0) (x .1) work) d (cs, t)
 
 -- ---- of windows lent as numbers
@@ -41,33 +43,46 @@ module _ (d : ℤ) where
 -- v's windows are w's, each d later (d may be below 0)
 pub record Moved (d : ℤ) (w v : List ℕ) : Type 0 where
   pub as-many : windowsIn v ≡ windowsIn w
-  pub cals : (i : ℕ) → windowAt v i .cal ≡ windowAt w i .cal
   pub each : (i : ℕ) → i < windowsIn w → windowOf (windowAt v i) ≡ mapWindow (by d) (windowOf (windowAt w i))
 
-module _ {d : ℤ} {w v : List ℕ} (m : Moved d w v) where
-  map-append : (l k : Calendar ℤ) → later d (l ++ k) ≡ later d l ++ later d k
-  map-append [] k = refl
-  map-append (x ∷ l) k = ap (λ z. mapWindow (by d) x ∷ z) (map-append l k)
+map-append : {A B : Type 0} (f : A → B) (l k : List A) → map f (l ++ k) ≡ map f l ++ map f k
+map-append f [] k = refl
+map-append f (x ∷ l) k = ap (λ z. f x ∷ z) (map-append f l k)
 
-  one-moved : (b : Bool) (x y : Window ℤ) → y ≡ mapWindow (by d) x → given b y ≡ later d (given b x)
+module _ {d : ℤ} {w v : List ℕ} (m : Moved d w v) where
+  one-moved : (b : Bool) (x y : TimeWindow) → windowOf y ≡ mapWindow (by d) (windowOf x) → map windowOf (given b y) ≡ later d (map windowOf (given b x))
   one-moved true x y h = ap (λ z. z ∷ []) h
   one-moved false x y h = refl
 
-  below-moved : (c n : ℕ) → ((i : ℕ) → i < n → windowOf (windowAt v i) ≡ mapWindow (by d) (windowOf (windowAt w i)))
-      → collect (λ i. given (eqb (windowAt v i .cal) c) (windowOf (windowAt v i))) n ≡ later d (collect (λ i. given (eqb (windowAt w i .cal) c) (windowOf (windowAt w i))) n)
+  below-moved : (from n : ℕ) → n ≤ windowsIn w
+      → map windowOf (collect (λ i. given (leb from i) (windowAt v i)) n) ≡ later d (map windowOf (collect (λ i. given (leb from i) (windowAt w i)) n))
   unfolding collect
-  below-moved c zero h = refl
-  below-moved c (suc n) h =
-      ap₂ _++_ (below-moved c n (λ i l. h i (omega arith)))
-      (ap (λ (z : ℕ). given (eqb z c) (windowOf (windowAt v n))) (m .cals n) ∙ one-moved (eqb (windowAt w n .cal) c) (windowOf (windowAt w n)) (windowOf (windowAt v n)) (h n (omega arith)))
-      ∙ sym (map-append (collect (λ i. given (eqb (windowAt w i .cal) c) (windowOf (windowAt w i))) n) (given (eqb (windowAt w n .cal) c) (windowOf (windowAt w n))))
+  below-moved from zero h = refl
+  below-moved from (suc n) h =
+      map-append windowOf (collect (λ i. given (leb from i) (windowAt v i)) n) (given (leb from n) (windowAt v n))
+      ∙ ap₂ _++_ (below-moved from n (omega arith)) (one-moved (leb from n) (windowAt w n) (windowAt v n) (m .each n (omega arith)))
+      ∙ sym
+      (ap (later d) (map-append windowOf (collect (λ i. given (leb from i) (windowAt w i)) n) (given (leb from n) (windowAt w n)))
+      ∙ map-append (mapWindow (by d)) (map windowOf (collect (λ i. given (leb from i) (windowAt w i)) n)) (map windowOf (given (leb from n) (windowAt w n))))
 
-  pub calendar-moved : (c : ℕ) → calendarOf v c ≡ later d (calendarOf w c)
-  unfolding calendarOf
-  calendar-moved c =
-      ap (collect (λ i. given (eqb (windowAt v i .cal) c) (windowOf (windowAt v i)))) (m .as-many) ∙ below-moved c (windowsIn w) (m .each)
+  pub calendar-moved : (from to : ℕ) → calendarOf v from to ≡ later d (calendarOf w from to)
+  unfolding calendarOf windowsOf
+  calendar-moved from to =
+      ap (λ (n : ℕ). map windowOf (collect (λ i. given (leb from i) (windowAt v i)) (min to n))) (m .as-many)
+      ∙ below-moved from (min to (windowsIn w)) (omega arith)
+
+  lists-moved : (cs : List ℕ) (n : ℕ)
+      → map (map windowOf) (collect (λ j. given true (windowsOf v (getD cs (2 * j) 0) (getD cs (2 * j + 1) 0))) n)
+      ≡ laters d (map (map windowOf) (collect (λ j. given true (windowsOf w (getD cs (2 * j) 0) (getD cs (2 * j + 1) 0))) n))
+  unfolding collect calendarOf
+  lists-moved cs zero = refl
+  lists-moved cs (suc n) =
+      map-append (map windowOf) (collect (λ j. given true (windowsOf v (getD cs (2 * j) 0) (getD cs (2 * j + 1) 0))) n) (windowsOf v (getD cs (2 * n) 0) (getD cs (2 * n + 1) 0) ∷ [])
+      ∙ ap₂ (λ (a : List (Calendar ℤ)) (b : Calendar ℤ). a ++ (b ∷ [])) (lists-moved cs n) (calendar-moved (getD cs (2 * n) 0) (getD cs (2 * n + 1) 0))
+      ∙ sym
+      (ap (laters d) (map-append (map windowOf) (collect (λ j. given true (windowsOf w (getD cs (2 * j) 0) (getD cs (2 * j + 1) 0))) n) (windowsOf w (getD cs (2 * n) 0) (getD cs (2 * n + 1) 0) ∷ []))
+      ∙ map-append (later d) (map (map windowOf) (collect (λ j. given true (windowsOf w (getD cs (2 * j) 0) (getD cs (2 * j + 1) 0))) n)) (map windowOf (windowsOf w (getD cs (2 * n) 0) (getD cs (2 * n + 1) 0)) ∷ []))
 
   pub calendars-moved : (cs : List ℕ) → calendarsOf v cs ≡ laters d (calendarsOf w cs)
-  unfolding calendarsOf
-  calendars-moved [] = refl
-  calendars-moved (c ∷ cs) = ap₂ _∷_ (calendar-moved c) (calendars-moved cs)
+  unfolding calendarsOf listsOf
+  calendars-moved cs = lists-moved cs (length cs / 2)

@@ -1,55 +1,32 @@
--- Working time does not change between two neighbouring starts or ends of windows, nor after the latest. Assumes nothing.
-use Prim.Native.Nat.{ℕ, zero, suc, _+_, _-_, _*_, _<_, _≤_, max}
+-- What one pass finds holds up to the stop that it names: from the instant up to there no window starts or ends. Assumes nothing.
+use Prim.Native.Nat.{ℕ, zero, suc, _+_, _*_, _/_, _<_, _≤_, max, min}
 use mathlib.Core.Path.{_≡_, refl, sym, ap, ap₂, subst, _∙_}
 use mathlib.Core.Logic.{_⊎_, inl, inr, ⊎-elim}
-use mathlib.Core.Bool.{Bool, true, false, cond, not, _&&_, _||_}
-use mathlib.Core.List.{List}
-use native.Mathlib.Nat.{le-of-suc-le-suc, not-suc-le-zero, eq-or-lt-of-le}
-use native.Mathlib.Numerals.{add-one}
+use mathlib.Core.Bool.{Bool, true, false, cond, not, _&&_, _||_, and-assoc, and-true}
+use mathlib.Core.List.{List, [], _∷_, _++_, map, foldl}
 use native.Mathlib.Omega.{arith}
+use lib.IntN.{pos}
 use lib.Dec.{leb, ltb}
 use lib.ListN.{length, getD}
-use borrow.Author.Tests.{le-leb, lt-leb, lt-ltb, le-ltb, ltb-true, ltb-false}
-use Rattle.calendar.specs.declared.Entry.{Entry}
-use Rattle.calendar.specs.declared.Test.the-variants.{Covers}
-use lib.IntN.{pos}
+use borrow.Author.Tests.{lt-ltb, le-ltb, ltb-true, ltb-false}
+use Rattle.loops.specs.Lists.{given, allOf}
+use Rattle.loops.specs.Range.{collect}
+use Rattle.calendar.specs.declared.TimeWindow.{TimeWindow}
+use Rattle.calendar.specs.declared.Here.{Here}
+use Rattle.calendar.specs.declared.Joint.{Joint}
 use Rattle.calendar.specs.Clock.{clock}
-use Rattle.calendar.specs.Calendar.{contains, isWorkingTime}
-use Rattle.calendar.specs.Layout.{windowAt, windowsIn, windowOf, calendarOf, latestOf, latest}
-use Rattle.calendar.specs.Search.{isOf, covers, someWindow}
-use Rattle.calendar.specs.Stops.{nearer, stopOf, stop}
-use Rattle.calendar.proofs.Tests.{any-agree, all-agree}
-use Rattle.calendar.proofs.Places.{jointAt, some-at, works-at, joint-at}
+use Rattle.calendar.specs.Calendar.{contains, isWorkingTime, intervalFits, jointWorking}
+use Rattle.calendar.specs.Layout.{windowsIn, windowAt, windowOf, windowsOf, listsOf, calendarOf, calendarsOf}
+use Rattle.calendar.specs.Scan.{standing, standingAt, standingOver, allows, nearer, withWindow, lookAt, withCalendar, jointLook}
+use Rattle.calendar.proofs.Standings.{mostOf, works-most, fits-most, allWork, joint-most, fold-most}
 
--- ---- instants that lie in the same windows
+-- r is at most b, after t if b is, and x does not lie between t and r
+record Nearer (t x b r : ℕ) : Type 0 where
+  most : r ≤ b
+  above : t < b → t < r
+  clear : (x ≤ t) ⊎ (r ≤ x)
 
--- t and u lie in the same windows
-abbrev pub Same : List ℕ → ℕ → ℕ → Type 0
-Same w t u = (i : ℕ) → i < windowsIn w → contains clock (pos t) (windowOf (windowAt w i)) ≡ contains clock (pos u) (windowOf (windowAt w i))
-
-covered-same : (w : List ℕ) (c k t u : ℕ) → Same w t u → someWindow w c (Covers k t) ≡ someWindow w c (Covers k u)
-unfolding covers
-covered-same w c k t u h =
-    some-at w c (Covers k t)
-    ∙ any-agree _ _ _ (λ i l. ap (λ (v : Bool). isOf (windowAt w i) c k && v) (h i l))
-    ∙ sym (some-at w c (Covers k u))
-
-works-same : (w : List ℕ) (c t u : ℕ) → Same w t u → isWorkingTime clock (calendarOf w c) (pos t) ≡ isWorkingTime clock (calendarOf w c) (pos u)
-works-same w c t u h = rw (works-at w c t, works-at w c u, covered-same w c 0 t u h, covered-same w c 1 t u h)
-
-pub joint-same : (cs w : List ℕ) (t u : ℕ) → Same w t u → jointAt cs w t ≡ jointAt cs w u
-joint-same cs w t u h =
-    joint-at cs w t ∙ all-agree _ _ _ (λ i l. works-same w (getD cs i 0) t u h) ∙ sym (joint-at cs w u)
-
--- ---- up to the next stop
-
--- b is a stop after t and at most b₀, and no x lies between
-pub record Nearer (t x b r : ℕ) : Type 0 where
-  pub most : r ≤ b
-  pub above : t < b → t < r
-  pub clear : (x ≤ t) ⊎ (r ≤ x)
-
-pub nearer-is : (t x b : ℕ) → Nearer t x b (nearer t x b)
+nearer-is : (t x b : ℕ) → Nearer t x b (nearer t x b)
 unfolding nearer
 nearer-is t x b = go (ltb t x) (ltb x b) refl refl
   where
@@ -59,117 +36,186 @@ nearer-is t x b = go (ltb t x) (ltb x b) refl refl
     go false true e e′ = record { most = omega arith; above = λ l. l; clear = inl (ltb-false t x e) }
     go false false e e′ = record { most = omega arith; above = λ l. l; clear = inl (ltb-false t x e) }
 
-pub record Stop (w : List ℕ) (t b r n : ℕ) : Type 0 where
-  pub most : r ≤ b
-  pub above : t < b → t < r
-  pub starts : (i : ℕ) → i < n → (windowAt w i .start ≤ t) ⊎ (r ≤ windowAt w i .start)
-  pub ends : (i : ℕ) → i < n → (windowAt w i .end ≤ t) ⊎ (r ≤ windowAt w i .end)
+-- no start and no end of a window lies after t and before r
+abbrev Clear : ℕ → ℕ → List TimeWindow → Type 0
+Clear t r [] = Unit
+Clear t r (x ∷ l) = (((x .start ≤ t) ⊎ (r ≤ x .start)) × ((x .end ≤ t) ⊎ (r ≤ x .end))) × Clear t r l
 
--- what holds below n, with r for b, and at n
-lower : {x t r r′ : ℕ} → r′ ≤ r → (x ≤ t) ⊎ (r ≤ x) → (x ≤ t) ⊎ (r′ ≤ x)
+lower : {t x r r′ : ℕ} → r′ ≤ r → (x ≤ t) ⊎ (r ≤ x) → (x ≤ t) ⊎ (r′ ≤ x)
 lower l (inl h) = inl h
 lower l (inr h) = inr (omega arith)
 
-upto : {n : ℕ} (P : ℕ → Type 0) → ((i : ℕ) → i < n → P i) → P n → (i : ℕ) → i < suc n → P i
-upto P h e i l = ⊎-elim (λ q. subst P (sym q) e) (h i) (eq-or-lt-of-le (le-of-suc-le-suc l))
+lower-all : (t r r′ : ℕ) → r′ ≤ r → (l : List TimeWindow) → Clear t r l → Clear t r′ l
+lower-all t r r′ h [] k = tt
+lower-all t r r′ h (x ∷ l) k = ((lower h (k .0 .0), lower h (k .0 .1)), lower-all t r r′ h l (k .1))
 
-stop-of : (w : List ℕ) (t b n : ℕ) → Stop w t b (stopOf w t b n) n
-unfolding stopOf
-stop-of w t b zero = record {
-  most = omega arith;
-  above = λ l. l;
-  starts = λ i l. absurd (not-suc-le-zero l);
-  ends = λ i l. absurd (not-suc-le-zero l);
-}
-stop-of w t b (suc n) =
-    let s = stop-of w t b n in
-    let x = nearer-is t (windowAt w n .start) (stopOf w t b n) in
-    let y = nearer-is t (windowAt w n .end) (nearer t (windowAt w n .start) (stopOf w t b n)) in
-    record {
-      most = omega (arith, s .most, x .most, y .most);
-      above = λ l. y .above (x .above (s .above l));
-      starts = upto _ (λ i l. lower (omega (arith, x .most, y .most)) (s .starts i l)) (lower (y .most) (x .clear));
-      ends = upto _ (λ i l. lower (omega (arith, x .most, y .most)) (s .ends i l)) (y .clear);
-    }
-
-pub stop-is : (w : List ℕ) (t b : ℕ) → Stop w t b (stop w t b) (windowsIn w)
-unfolding stop
-stop-is w t b = stop-of w t b (windowsIn w)
-
--- one turn of the loop of `next_stop`
-pub stop-more :
-    (w : List ℕ) (t b i : ℕ) {best m r : ℕ} {x : Entry}
-    → best ≡ stopOf w t b i
-    → x ≡ windowAt w i
-    → m ≡ nearer t (x .start) best
-    → r ≡ nearer t (x .end) m
-    → r ≡ stopOf w t b (i + 1)
-unfolding stopOf
-stop-more w t b i e ex em er = rw add-one (cc)
-
-module _ {t u r : ℕ} (l : t ≤ u) (l′ : u < r) where
+module _ (t u r : ℕ) (l : t ≤ u) (l′ : u < r) where
   ltb-same : (e : ℕ) → (e ≤ t) ⊎ (r ≤ e) → ltb t e ≡ ltb u e
   ltb-same e (inl h) = le-ltb t e h ∙ sym (le-ltb u e (omega arith))
   ltb-same e (inr h) = lt-ltb t e (omega arith) ∙ sym (lt-ltb u e (omega arith))
 
-stop-same : (w : List ℕ) (t b u : ℕ) → t ≤ u → u < stop w t b → Same w t u
-unfolding contains
-stop-same w t b u l l′ i h =
-    ap₂ (λ (x y : Bool). not x && y) (ltb-same l l′ _ (stop-is w t b .starts i h)) (ltb-same l l′ _ (stop-is w t b .ends i h))
+  most-same : (ls : List TimeWindow) → Clear t r ls → mostOf (standingAt u) ls ≡ mostOf (standingAt t) ls
+  unfolding mostOf standingAt contains
+  most-same [] h = refl
+  most-same (x ∷ ls) h =
+      rw (ltb-same (x .start) (h .0 .0), ltb-same (x .end) (h .0 .1), most-same ls (h .1))
 
--- the key to the walk: working time does not change from t up to the next stop
-pub joint-stretch : (cs w : List ℕ) (t b u : ℕ) → t ≤ u → u < stop w t b → jointAt cs w u ≡ jointAt cs w t
-joint-stretch cs w t b u l l′ = sym (joint-same cs w t u (stop-same w t b u l l′))
+-- what a pass over the windows leaves of what was known before
+record Looked (t : ℕ) (s : Here) (l : List TimeWindow) (r : Here) : Type 0 where
+  best : r .most ≡ max (s .most) (mostOf (standingAt t) l)
+  most : r .stop ≤ s .stop
+  above : t < s .stop → t < r .stop
+  clear : Clear t (r .stop) l
 
--- ---- from the latest start or end on
+module _ (t : ℕ) (s : Here) (x : TimeWindow) (l : List TimeWindow) where
+  looked-more : (q : Here) → q ≡ withWindow t s x → Looked t q l (foldl (withWindow t) q l) → Looked t s (x ∷ l) (foldl (withWindow t) q l)
+  unfolding withWindow mostOf
+  looked-more q e h =
+      let a = nearer-is t (x .start) (s .stop) in
+      let b = nearer-is t (x .end) (nearer t (x .start) (s .stop)) in
+      let m = ap (λ (z : Here). z .most) e in
+      let p = ap (λ (z : Here). z .stop) e in
+      record {
+        best = omega (arith, h .best, m);
+        most = omega (arith, h .most, p, a .most, b .most);
+        above = λ k. h .above (omega (arith, p, b .above (a .above k)));
+        clear = ((lower (omega (arith, h .most, p, b .most)) (a .clear), lower (omega (arith, h .most, p)) (b .clear)), h .clear);
+      }
 
-pub record Latest (w : List ℕ) (r n : ℕ) : Type 0 where
-  pub starts : (i : ℕ) → i < n → windowAt w i .start ≤ r
-  pub ends : (i : ℕ) → i < n → windowAt w i .end ≤ r
+looked : (t : ℕ) (l : List TimeWindow) (s : Here) → Looked t s l (foldl (withWindow t) s l)
+unfolding mostOf
+looked t [] s = record { best = omega arith; most = omega arith; above = λ h. h; clear = tt }
+looked t (x ∷ l) s = looked-more t s x l (withWindow t s x) refl (looked t l (withWindow t s x))
 
-latest-of : (w : List ℕ) (n : ℕ) → Latest w (latestOf w n) n
-unfolding latestOf
-latest-of w zero = record { starts = λ i l. absurd (not-suc-le-zero l); ends = λ i l. absurd (not-suc-le-zero l) }
-latest-of w (suc n) =
-    let s = latest-of w n in
+pub look-most : (l : List TimeWindow) (t b : ℕ) → lookAt l t b .most ≡ mostOf (standingAt t) l
+unfolding lookAt
+look-most l t b = let h = looked t l (record { most = 0; stop = b }) in omega (arith, h .best)
+
+-- ---- several calendars
+
+abbrev ClearAll : ℕ → ℕ → List (List TimeWindow) → Type 0
+ClearAll t r [] = Unit
+ClearAll t r (l ∷ ls) = Clear t r l × ClearAll t r ls
+
+all-same : (t u r : ℕ) → t ≤ u → u < r → (ls : List (List TimeWindow)) → ClearAll t r ls → allWork ls u ≡ allWork ls t
+unfolding allWork allOf
+all-same t u r h h′ [] k = refl
+all-same t u r h h′ (l ∷ ls) k = ap₂ (λ (n : ℕ) (v : Bool). allows n && v) (most-same t u r h h′ l (k .0)) (all-same t u r h h′ ls (k .1))
+
+record Joined (t : ℕ) (s : Joint) (ls : List (List TimeWindow)) (r : Joint) : Type 0 where
+  working : r .working ≡ (s .working && allWork ls t)
+  most : r .stop ≤ s .stop
+  above : t < s .stop → t < r .stop
+  clear : ClearAll t (r .stop) ls
+
+abbrev joining : ℕ → Joint → List TimeWindow → Joint
+joining t s l = withCalendar s (lookAt l t (s .stop))
+
+module _ (t : ℕ) (s : Joint) (l : List TimeWindow) (ls : List (List TimeWindow)) where
+  joined-more : (q : Joint) → q ≡ joining t s l → Joined t q ls (foldl (joining t) q ls) → Joined t s (l ∷ ls) (foldl (joining t) q ls)
+  unfolding withCalendar lookAt allWork allOf
+  joined-more q e h =
+      let a = looked t l (record { most = 0; stop = s .stop }) in
+      let p = ap (λ (z : Joint). z .stop) e in
+      record {
+        working =
+            h .working
+            ∙ ap (λ (v : Bool). v && allWork ls t) (ap (λ (z : Joint). z .working) e ∙ ap (λ (n : ℕ). s .working && allows n) (look-most l t (s .stop)))
+            ∙ and-assoc (s .working) (allows (mostOf (standingAt t) l)) (allWork ls t);
+        most = omega (arith, h .most, p, a .most);
+        above = λ k. h .above (omega (arith, p, a .above k));
+        clear = (lower-all t (q .stop) (foldl (joining t) q ls .stop) (h .most) l (subst (λ (n : ℕ). Clear t n l) (sym p) (a .clear)), h .clear);
+      }
+
+joined : (t : ℕ) (ls : List (List TimeWindow)) (s : Joint) → Joined t s ls (foldl (joining t) s ls)
+unfolding allWork allOf
+joined t [] s = record { working = sym (and-true (s .working)); most = omega arith; above = λ h. h; clear = tt }
+joined t (l ∷ ls) s = joined-more t s l ls (joining t s l) refl (joined t ls (joining t s l))
+
+-- from t up to r, which is at most b, the test gives v throughout
+pub record Stretch (p : ℕ → Bool) (t b r : ℕ) (v : Bool) : Type 0 where
+  pub most : r ≤ b
+  pub above : t < b → t < r
+  pub here : v ≡ p t
+  pub same : (u : ℕ) → t ≤ u → u < r → p u ≡ v
+
+pub joint-stretch : (ls : List (List TimeWindow)) (t b : ℕ) → Stretch (allWork ls) t b (jointLook ls t b .stop) (jointLook ls t b .working)
+unfolding jointLook
+joint-stretch ls t b =
+    let h = joined t ls (record { working = true; stop = b }) in
     record {
-      starts = upto _ (λ i l. omega (arith, s .starts i l)) (omega arith);
-      ends = upto _ (λ i l. omega (arith, s .ends i l)) (omega arith);
+      most = h .most;
+      above = h .above;
+      here = h .working;
+      same = λ u l l′. all-same t u (foldl (joining t) (record { working = true; stop = b }) ls .stop) l l′ ls (h .clear) ∙ sym (h .working);
     }
 
--- one turn of the loop of `latest_of`
-pub latest-more :
-    (w : List ℕ) (i : ℕ) {best m r : ℕ} {x : Entry}
-    → best ≡ latestOf w i
-    → x ≡ windowAt w i
-    → m ≡ max (x .start) (x .end)
-    → r ≡ max best m
-    → r ≡ latestOf w (i + 1)
-unfolding latestOf
-latest-more w i e ex em er = rw add-one (cc)
+-- ---- what the passes say of the calendars
 
-pub latest-is : (w : List ℕ) → Latest w (latest w) (windowsIn w)
-unfolding latest
-latest-is w = latest-of w (windowsIn w)
+pub works-look : (w : List ℕ) (from to t b : ℕ) → allows (lookAt (windowsOf w from to) t b .most) ≡ isWorkingTime clock (calendarOf w from to) (pos t)
+unfolding calendarOf
+works-look w from to t b = ap allows (look-most (windowsOf w from to) t b) ∙ works-most (windowsOf w from to) t
 
--- a bound on every number of the list is one on the latest start or end
-latestOf-le : (w : List ℕ) (b n : ℕ) → ((k : ℕ) → getD w k 0 ≤ b) → latestOf w n ≤ b
-unfolding latestOf
-latestOf-le w b zero h = omega arith
-latestOf-le w b (suc n) h = omega (arith, latestOf-le w b n h, h (4 * n + 2), h (4 * n + 3))
+pub fits-look :
+    (w : List ℕ) (from to a e : ℕ)
+    → allows (foldl (λ m x. max m (standingOver a e x)) 0 (windowsOf w from to)) ≡ intervalFits clock (calendarOf w from to) (pos a) (pos e)
+unfolding calendarOf
+fits-look w from to a e =
+    ap allows (fold-most (standingOver a e) 0 (windowsOf w from to) ∙ omega arith) ∙ fits-most (windowsOf w from to) a e
 
-pub latest-le : (w : List ℕ) (b : ℕ) → ((k : ℕ) → getD w k 0 ≤ b) → latest w ≤ b
-unfolding latest
-latest-le w b h = latestOf-le w b (windowsIn w) h
+-- joint working time, as a test of numbers
+abbrev pub jointAt : List ℕ → List ℕ → ℕ → Bool
+jointAt w cs t = jointWorking clock (calendarsOf w cs) (pos t)
 
-pub joint-latest : (cs w : List ℕ) (t u : ℕ) → latest w ≤ t → t ≤ u → jointAt cs w u ≡ jointAt cs w t
-unfolding contains
-joint-latest cs w t u l l′ =
-    sym
-    (joint-same cs w t u
-    (λ i h.
-    let s = latest-is w .starts i h in
-    let e = latest-is w .ends i h in
-    ap₂ (λ (x y : Bool). not x && y)
-    (le-ltb t _ (omega arith) ∙ sym (le-ltb u _ (omega arith)))
-    (le-ltb t _ (omega arith) ∙ sym (le-ltb u _ (omega arith)))))
+pub all-work : (w cs : List ℕ) (t : ℕ) → allWork (listsOf w cs) t ≡ jointAt w cs t
+unfolding calendarsOf
+all-work w cs t = joint-most (listsOf w cs) t
+
+pub joint-look : (w cs : List ℕ) (t b : ℕ) → Stretch (jointAt w cs) t b (jointLook (listsOf w cs) t b .stop) (jointLook (listsOf w cs) t b .working)
+joint-look w cs t b =
+    let h = joint-stretch (listsOf w cs) t b in
+    record {
+      most = h .most;
+      above = h .above;
+      here = h .here ∙ all-work w cs t;
+      same = λ u l l′. sym (all-work w cs u) ∙ h .same u l l′;
+    }
+
+pub looked-at : (w cs : List ℕ) (t b : ℕ) (s : Joint) → s ≡ jointLook (listsOf w cs) t b → Stretch (jointAt w cs) t b (s .stop) (s .working)
+looked-at w cs t b s e = subst (λ (z : Joint). Stretch (jointAt w cs) t b (z .stop) (z .working)) (sym e) (joint-look w cs t b)
+
+-- ---- from a number on that none in the list exceeds, working time does not change
+
+clear-append : (t r : ℕ) (l k : List TimeWindow) → Clear t r l → Clear t r k → Clear t r (l ++ k)
+clear-append t r [] k h h′ = h′
+clear-append t r (x ∷ l) k h h′ = (h .0, clear-append t r l k (h .1) h′)
+
+clear-all-append : (t r : ℕ) (l k : List (List TimeWindow)) → ClearAll t r l → ClearAll t r k → ClearAll t r (l ++ k)
+clear-all-append t r [] k h h′ = h′
+clear-all-append t r (x ∷ l) k h h′ = (h .0, clear-all-append t r l k (h .1) h′)
+
+module _ (w cs : List ℕ) (m r : ℕ) (h : (k : ℕ) → getD w k 0 ≤ m) where
+  clear-given : (b : Bool) (i : ℕ) → Clear m r (given b (windowAt w i))
+  clear-given true i = ((inl (h (3 * i + 1)), inl (h (3 * i + 2))), tt)
+  clear-given false i = tt
+
+  clear-below : (from n : ℕ) → Clear m r (collect (λ i. given (leb from i) (windowAt w i)) n)
+  unfolding collect
+  clear-below from zero = tt
+  clear-below from (suc n) =
+      clear-append m r (collect (λ i. given (leb from i) (windowAt w i)) n) (given (leb from n) (windowAt w n)) (clear-below from n) (clear-given (leb from n) n)
+
+  clear-lists : (n : ℕ) → ClearAll m r (collect (λ j. given true (windowsOf w (getD cs (2 * j) 0) (getD cs (2 * j + 1) 0))) n)
+  unfolding collect windowsOf
+  clear-lists zero = tt
+  clear-lists (suc n) =
+      clear-all-append m r (collect (λ j. given true (windowsOf w (getD cs (2 * j) 0) (getD cs (2 * j + 1) 0))) n)
+      (windowsOf w (getD cs (2 * n) 0) (getD cs (2 * n + 1) 0) ∷ [])
+      (clear-lists n) (clear-below (getD cs (2 * n) 0) (min (getD cs (2 * n + 1) 0) (windowsIn w)), tt)
+
+pub settled-at : (w cs : List ℕ) (m : ℕ) → ((k : ℕ) → getD w k 0 ≤ m) → (u : ℕ) → m ≤ u → jointAt w cs u ≡ jointAt w cs m
+unfolding listsOf
+settled-at w cs m h u l =
+    sym (all-work w cs u)
+    ∙ all-same m u (suc u) l (omega arith) (listsOf w cs) (clear-lists w cs m (suc u) h (length cs / 2))
+    ∙ all-work w cs m

@@ -1,50 +1,46 @@
--- How calendars are lent: a flat list of numbers, four to a window (calendar, kind, start, end); and what an answer stands for.
-use Prim.Native.Nat.{ℕ, zero, suc, _+_, _*_, _/_, max}
+-- How calendars are lent, as numbers; and what an answer stands for.
+use Prim.Native.Nat.{ℕ, _+_, _*_, _/_, _^_, min}
+use mathlib.Core.Bool.{true, cond}
 use mathlib.Core.List.{List, map}
 use lib.IntN.{ℤ, pos}
 use lib.ListN.{length, getD}
-use lib.Dec.{eqb}
-use Rattle.calendar.specs.declared.Entry.{Entry}
-use Rattle.calendar.specs.declared.Answer.{Answer}
-use Rattle.calendar.specs.declared.Answer.the-variants.{End, Pause, Never}
+use lib.Dec.{leb, ltb}
 use Rattle.loops.specs.Lists.{given}
 use Rattle.loops.specs.Range.{collect}
+use Rattle.calendar.specs.declared.TimeWindow.{TimeWindow}
+use Rattle.calendar.specs.declared.Answer.{Answer}
+use Rattle.calendar.specs.declared.Answer.the-variants.{End, Pause, Never, Beyond}
+use Rattle.calendar.specs.Clock.{amountOf}
 use Rattle.calendar.specs.Calendar.{Window, Calendar}
 use Rattle.calendar.specs.WorkEnd.{Ending, endsAt, pauses, never}
 
--- how many whole windows the list holds
+-- three numbers to a window: closed, start, end; a shorter tail is no window
 abbrev pub windowsIn : List ℕ → ℕ
-windowsIn w = length w / 4
+windowsIn w = length w / 3
 
--- the window at place i
-abbrev pub windowAt : List ℕ → ℕ → Entry
-windowAt w i = record {
-  cal = getD w (4 * i) 0;
-  kind = getD w (4 * i + 1) 0;
-  start = getD w (4 * i + 2) 0;
-  end = getD w (4 * i + 3) 0;
-}
+abbrev pub windowAt : List ℕ → ℕ → TimeWindow
+windowAt w i = record { closed = getD w (3 * i) 0; start = getD w (3 * i + 1) 0; end = getD w (3 * i + 2) 0 }
 
-abbrev pub windowOf : Entry → Window ℤ
-windowOf x = record { closed = x .kind; start = pos (x .start); end = pos (x .end) }
+-- the windows at the places from, from + 1, .. (to - 1)
+unfoldable pub windowsOf : List ℕ → ℕ → ℕ → List TimeWindow
+windowsOf w from to = collect (λ i. given (leb from i) (windowAt w i)) (min to (windowsIn w))
 
--- the windows of calendar c, as they stand; of each of the calendars that cs names
-unfoldable pub calendarOf : List ℕ → ℕ → Calendar ℤ
-calendarOf w c = collect (λ i. given (eqb (windowAt w i .cal) c) (windowOf (windowAt w i))) (windowsIn w)
+abbrev pub windowOf : TimeWindow → Window ℤ
+windowOf x = record { closed = x .closed; start = pos (x .start); end = pos (x .end) }
+
+-- the calendar at these places
+unfoldable pub calendarOf : List ℕ → ℕ → ℕ → Calendar ℤ
+calendarOf w from to = map windowOf (windowsOf w from to)
+
+-- several calendars: two numbers to each, from and to
+unfoldable pub listsOf : List ℕ → List ℕ → List (List TimeWindow)
+listsOf w cs = collect (λ j. given true (windowsOf w (getD cs (2 * j) 0) (getD cs (2 * j + 1) 0))) (length cs / 2)
 
 unfoldable pub calendarsOf : List ℕ → List ℕ → List (Calendar ℤ)
-calendarsOf w cs = map (calendarOf w) cs
+calendarsOf w cs = map (map windowOf) (listsOf w cs)
 
--- the answer's meaning
-abbrev pub ending : Answer → Ending ℤ
-ending (End e) = endsAt (pos e)
-ending Pause = pauses
-ending Never = never
-
--- the latest start or end of the first n windows; of all
-unfoldable pub latestOf : List ℕ → ℕ → ℕ
-latestOf w zero = 0
-latestOf w (suc n) = max (latestOf w n) (max (windowAt w n .start) (windowAt w n .end))
-
-unfoldable pub latest : List ℕ → ℕ
-latest w = latestOf w (windowsIn w)
+-- the answer that says so: an end past the last number of 64 bits is beyond
+abbrev pub answerOf : Ending ℤ → Answer
+answerOf (endsAt e) = cond (ltb (amountOf e) (2 ^ 64)) (End (amountOf e)) Beyond
+answerOf pauses = Pause
+answerOf never = Never

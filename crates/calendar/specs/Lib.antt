@@ -4,6 +4,5 @@ pub mod Amount
 pub mod WorkEnd
 pub mod Moves
 pub mod Layout
-pub mod Search
-pub mod Stops
+pub mod Scan
 pub mod Examples

@@ -1,9 +1,9 @@
 -- When work ends that runs only in working time.
 use Prim.Native.Nat.{ℕ, zero, suc, _+_, max}
-use mathlib.Core.Bool.{Bool, true, false}
+use mathlib.Core.Bool.{Bool, true, false, cond}
 use mathlib.Core.List.{List, [], _∷_}
-use lib.IntN.{pos}
-use Rattle.calendar.specs.Clock.{Clock, ahead}
+use lib.IntN.{ℤ, pos}
+use Rattle.calendar.specs.Clock.{Clock, amountOf, ahead}
 use Rattle.calendar.specs.Calendar.{Window, Calendar, jointWorking}
 use Rattle.calendar.specs.Amount.{since}
 
@@ -30,10 +30,6 @@ endIn p zero t (suc left) = never
 endIn p (suc n) t zero = endsAt t
 endIn p (suc n) t (suc left) = endIn p n (suc t) (after (p t) left)
 
-abbrev pub orPause : {T : Type 0} → Bool → Ending T → Ending T
-orPause true x = x
-orPause false x = pauses
-
 module _ {T : Type 0} (K : Clock T) where
   -- the milliseconds from t on until every window of the calendar has ended; from there on its working time does not change
   unfoldable pub reach : T → Calendar T → ℕ
@@ -53,6 +49,6 @@ module _ {T : Type 0} (K : Clock T) where
   unfoldable pub endFrom : List (Calendar T) → T → ℕ → Ending T
   endFrom cs t work = mapEnding (λ k. K .plus t (pos k)) (endAfter cs t work)
 
-  -- the work end: a pause where the start is no working time
-  unfoldable pub jointWorkEnd : List (Calendar T) → T → ℕ → Ending T
-  jointWorkEnd cs t work = orPause (jointWorking K cs t) (endFrom cs t work)
+  -- the work end: pause where the start is no working time; work below zero counts as none
+  unfoldable pub jointWorkEnd : List (Calendar T) → T → ℤ → Ending T
+  jointWorkEnd cs t work = cond (jointWorking K cs t) (endFrom cs t (amountOf work)) pauses

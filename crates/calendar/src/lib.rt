@@ -1,173 +1,141 @@
 // Calendar time: sets of whole milliseconds that calendars list as windows.
 //
-// Windows are lent as one flat slice, four numbers to a window: calendar, kind (0 open, 1 closed), start, end.
-// A tail shorter than four numbers is no window.
+// Windows are lent as numbers, three to a window: closed (0 an open window, 1 a closure), start, end. A shorter tail is no window.
+// A calendar is the windows at the places from `from` up to, not with, `to`; several calendars are lent as numbers too, two to a
+// calendar: from, to. A place past the last window is the place of none. Any numbers may be handed in.
 ghost use mathlib.Core.Path.{_≡_};
-ghost use mathlib.Core.Bool.{Bool, true, false};
-ghost use Prim.Native.Nat.{ℕ, _+_, _-_, _*_, _/_, _<_, _≤_, _^_, max};
+ghost use mathlib.Core.Bool.{Bool, true, false, cond};
+ghost use Prim.Native.Nat.{ℕ, _+_, _-_, _*_, _/_, _<_, _≤_, max, min};
 ghost use lib.ListN.{length, getD};
 ghost use lib.IntN.{ℤ, pos};
 ghost use Rattle.calendar.specs.Clock.{clock, amountOf};
-ghost use Rattle.calendar.specs.Calendar.{isWorkingTime, intervalFits, jointWorking};
+ghost use Rattle.calendar.specs.Calendar.{contains, holds, hits, isWorkingTime, intervalFits, jointWorking};
 ghost use Rattle.calendar.specs.Amount.{jointAvailableMs};
 ghost use Rattle.calendar.specs.WorkEnd.{endFrom, jointWorkEnd};
-ghost use Rattle.calendar.specs.Layout.{windowAt, windowsIn, calendarOf, calendarsOf, ending, latest};
-ghost use Rattle.calendar.specs.Search.{isOf, covers, holdsAll, hitsSome, passes, someWindow};
-ghost use Rattle.calendar.specs.Stops.{nearer, stop};
+ghost use Rattle.calendar.specs.Layout.{windowsIn, windowAt, windowOf, windowsOf, listsOf, calendarOf, calendarsOf, answerOf};
+ghost use Rattle.calendar.specs.Scan.{standing, standingAt, standingOver, allows, nearer, withWindow, lookAt, withCalendar, jointLook};
 
-struct Entry {
-    pub cal: u64,
-    pub kind: u64,
+struct TimeWindow {
+    pub closed: u64,
     pub start: u64,
     pub end: u64,
 }
 
-// When work ends: at an instant; or the start is no working time; or too little working time follows.
+// When work ends: at an instant; or the start is no working time; or too little working time follows; or at an instant that is no u64.
 pub enum Answer {
     End(u64),
     Pause,
     Never,
+    Beyond,
 }
 
 // The window at place i.
-fn window_at(w: &[u64], i: usize) -> Entry
+fn window_at(w: &[u64], i: usize) -> TimeWindow
     requires { ⌜ i < windowsIn (now w) ⌝ }
     ensures { λ r. ⌜ r ≡ windowAt (now (w .entry)) i ⌝ }
 {
-    Entry {
-        cal: w[4 * i],
-        kind: w[4 * i + 1],
-        start: w[4 * i + 2],
-        end: w[4 * i + 3],
+    TimeWindow {
+        closed: w[3 * i],
+        start: w[3 * i + 1],
+        end: w[3 * i + 2],
     }
 }
 
-// Whether x is a window of calendar c and of this kind.
-fn is_of(x: Entry, c: u64, kind: u64) -> bool
-    ensures { λ r. ⌜ r ≡ isOf x c kind ⌝ }
+// The place past the last window of a calendar that ends at `to`.
+fn last_place(w: &[u64], to: usize) -> usize
+    ensures { λ r. ⌜ r ≡ min to (windowsIn (now (w .entry))) ⌝ }
 {
-    if x.cal != c {
-        return false;
-    }
-    x.kind == kind
+    let n = w.len() / 3;
+    if to <= n { to } else { n }
 }
 
-// Whether x is a window of calendar c and of this kind that holds the instant t.
-fn covers_at(x: Entry, c: u64, kind: u64, t: u64) -> bool
-    ensures { λ r. ⌜ r ≡ covers x c kind t ⌝ }
+// Whether the instant t lies in the window.
+fn contains(x: TimeWindow, t: u64) -> bool
+    ensures { λ r. ⌜ r ≡ contains clock (pos t) (windowOf x) ⌝ }
 {
-    if !is_of(x, c, kind) {
-        return false;
-    }
     if t < x.start {
         return false;
     }
     t < x.end
 }
 
-// What is asked of a calendar's windows.
-enum Test {
-    // an open window
-    Listed,
-    // a window of this kind that holds the instant t
-    Covers(u64, u64),
-    // an open window that holds all of [a, e)
-    Holds(u64, u64),
-    // a closure that hits [a, e)
-    Hits(u64, u64),
-}
-
-// Whether x is a window of calendar c that passes the test.
-fn passes_at(x: Entry, c: u64, q: Test) -> bool
-    ensures { λ r. ⌜ r ≡ passes x c q ⌝ }
+// Whether the window holds all of [a, e).
+fn holds(x: TimeWindow, a: u64, e: u64) -> bool
+    ensures { λ r. ⌜ r ≡ holds clock (pos a) (pos e) (windowOf x) ⌝ }
 {
-    match q {
-        Test::Listed => is_of(x, c, 0),
-        Test::Covers(kind, t) => covers_at(x, c, kind, t),
-        Test::Holds(a, e) => holds_all(x, c, a, e),
-        Test::Hits(a, e) => hits_some(x, c, a, e),
-    }
-}
-
-// Whether some window of calendar c passes the test.
-fn has_window(w: &[u64], c: u64, q: Test) -> bool
-    ensures { λ r. ⌜ r ≡ someWindow (now (w .entry)) c q ⌝ }
-{
-    let n = w.len() / 4;
-    let mut i = 0;
-    while i < n {
-        if passes_at(window_at(w, i), c, q) {
-            return true;
-        }
-        i += 1;
-    }
-    false
-}
-
-// Whether t is working time of calendar c.
-pub fn is_working(w: &[u64], c: u64, t: u64) -> bool
-    ensures { λ r. ⌜ r ≡ isWorkingTime clock (calendarOf (now (w .entry)) c) (pos t) ⌝ }
-{
-    if has_window(w, c, Test::Covers(1, t)) {
-        return false;
-    }
-    if has_window(w, c, Test::Covers(0, t)) {
-        return true;
-    }
-    !has_window(w, c, Test::Listed)
-}
-
-// Whether t is working time of every calendar that cs names.
-pub fn joint_working(cs: &[u64], w: &[u64], t: u64) -> bool
-    ensures { λ r. ⌜ r ≡ jointWorking clock (calendarsOf (now (w .entry)) (now (cs .entry))) (pos t) ⌝ }
-{
-    let mut i = 0;
-    while i < cs.len() {
-        if !is_working(w, cs[i], t) {
-            return false;
-        }
-        i += 1;
-    }
-    true
-}
-
-// Whether x is an open window of calendar c that holds all of [a, e).
-fn holds_all(x: Entry, c: u64, a: u64, e: u64) -> bool
-    ensures { λ r. ⌜ r ≡ holdsAll x c a e ⌝ }
-{
-    if !is_of(x, c, 0) {
-        return false;
-    }
     if a < x.start {
         return false;
     }
     e <= x.end
 }
 
-// Whether x is a closure of calendar c that hits [a, e).
-fn hits_some(x: Entry, c: u64, a: u64, e: u64) -> bool
-    ensures { λ r. ⌜ r ≡ hitsSome x c a e ⌝ }
+// Whether the window, as a closure, hits [a, e).
+fn hits(x: TimeWindow, a: u64, e: u64) -> bool
+    ensures { λ r. ⌜ r ≡ hits clock (pos a) (pos e) (windowOf x) ⌝ }
 {
-    if !is_of(x, c, 1) {
-        return false;
-    }
     if x.end <= a {
         return false;
     }
     x.start < e
 }
 
-// Whether [a, e) fits calendar c whole.
-pub fn interval_fits(w: &[u64], c: u64, a: u64, e: u64) -> bool
-    ensures { λ r. ⌜ r ≡ intervalFits clock (calendarOf (now (w .entry)) c) (pos a) (pos e) ⌝ }
+// What one window says: 3 closed here, 2 open here, 1 open elsewhere, 0 nothing.
+fn standing_of(closed: u64, held: bool, hit: bool) -> u64
+    ensures { λ r. ⌜ r ≡ standing closed held hit ⌝ }
 {
-    if has_window(w, c, Test::Hits(a, e)) {
-        return false;
+    if closed == 1 {
+        if hit {
+            return 3;
+        }
+        return 0;
     }
-    if has_window(w, c, Test::Holds(a, e)) {
+    if closed != 0 {
+        return 0;
+    }
+    if held { 2 } else { 1 }
+}
+
+fn standing_at(x: TimeWindow, t: u64) -> u64
+    ensures { λ r. ⌜ r ≡ standingAt t x ⌝ }
+{
+    let inside = contains(x, t);
+    standing_of(x.closed, inside, inside)
+}
+
+fn standing_over(x: TimeWindow, a: u64, e: u64) -> u64
+    ensures { λ r. ⌜ r ≡ standingOver a e x ⌝ }
+{
+    standing_of(x.closed, holds(x, a, e), hits(x, a, e))
+}
+
+// Whether the greatest of the windows' standings leaves it working time.
+fn is_allowed(most: u64) -> bool
+    ensures { λ r. ⌜ r ≡ allows most ⌝ }
+{
+    if most == 0 {
         return true;
     }
-    !has_window(w, c, Test::Listed)
+    most == 2
+}
+
+fn greater(a: u64, b: u64) -> u64
+    ensures { λ r. ⌜ r ≡ max a b ⌝ }
+{
+    if a <= b { b } else { a }
+}
+
+// Whether [a, e) fits the calendar whole.
+pub fn interval_fits(w: &[u64], from: usize, to: usize, a: u64, e: u64) -> bool
+    ensures { λ r. ⌜ r ≡ intervalFits clock (calendarOf (now (w .entry)) from to) (pos a) (pos e) ⌝ }
+{
+    let n = last_place(w, to);
+    let mut most = 0;
+    let mut i = from;
+    while i < n {
+        most = greater(most, standing_over(window_at(w, i), a, e));
+        i += 1;
+    }
+    is_allowed(most)
 }
 
 // x if it lies between t and b, else b.
@@ -183,91 +151,134 @@ fn nearer_of(t: u64, x: u64, b: u64) -> u64
     x
 }
 
-// The least start or end of a window after t, if it is below b; else b.
-fn next_stop(w: &[u64], t: u64, b: u64) -> u64
-    ensures { λ r. ⌜ r ≡ stop (now (w .entry)) t b ⌝ }
+// What is known of a calendar at an instant: the greatest of its windows' standings, and the next instant at which one may change.
+struct Here {
+    pub most: u64,
+    pub stop: u64,
+}
+
+fn with_window(s: Here, x: TimeWindow, t: u64) -> Here
+    ensures { λ r. ⌜ r ≡ withWindow t s x ⌝ }
 {
-    let n = w.len() / 4;
-    let mut best = b;
-    let mut i = 0;
+    Here {
+        most: greater(s.most, standing_at(x, t)),
+        stop: nearer_of(t, x.end, nearer_of(t, x.start, s.stop)),
+    }
+}
+
+// The calendar at the instant t, with its next stop if that is below b, else b.
+fn look(w: &[u64], from: usize, to: usize, t: u64, b: u64) -> Here
+    ensures { λ r. ⌜ r ≡ lookAt (windowsOf (now (w .entry)) from to) t b ⌝ }
+{
+    let n = last_place(w, to);
+    let mut s = Here { most: 0, stop: b };
+    let mut i = from;
     while i < n {
-        let x = window_at(w, i);
-        best = nearer_of(t, x.end, nearer_of(t, x.start, best));
+        s = with_window(s, window_at(w, i), t);
         i += 1;
     }
-    best
+    s
 }
 
-// The latest start or end of any window.
-fn latest_of(w: &[u64]) -> u64
-    ensures { λ r. ⌜ r ≡ latest (now (w .entry)) ⌝ }
+// Whether t is working time of the calendar.
+pub fn is_working_time(w: &[u64], from: usize, to: usize, t: u64) -> bool
+    ensures { λ r. ⌜ r ≡ isWorkingTime clock (calendarOf (now (w .entry)) from to) (pos t) ⌝ }
 {
-    let n = w.len() / 4;
-    let mut best = 0;
-    let mut i = 0;
-    while i < n {
-        let x = window_at(w, i);
-        best = later(best, later(x.start, x.end));
-        i += 1;
+    let s = look(w, from, to, t, t);
+    is_allowed(s.most)
+}
+
+// Several calendars at an instant: whether it is working time of all, and the next instant at which that may change.
+struct Joint {
+    pub working: bool,
+    pub stop: u64,
+}
+
+fn with_calendar(s: Joint, x: Here) -> Joint
+    ensures { λ r. ⌜ r ≡ withCalendar s x ⌝ }
+{
+    Joint {
+        working: s.working && is_allowed(x.most),
+        stop: x.stop,
     }
-    best
 }
 
-fn later(a: u64, b: u64) -> u64
-    ensures { λ r. ⌜ r ≡ max a b ⌝ }
+fn joint_look(cs: &[usize], w: &[u64], t: u64, b: u64) -> Joint
+    ensures { λ r. ⌜ r ≡ jointLook (listsOf (now (w .entry)) (now (cs .entry))) t b ⌝ }
 {
-    if a <= b { b } else { a }
+    let n = cs.len() / 2;
+    let mut s = Joint {
+        working: true,
+        stop: b,
+    };
+    let mut j = 0;
+    while j < n {
+        s = with_calendar(s, look(w, cs[2 * j], cs[2 * j + 1], t, s.stop));
+        j += 1;
+    }
+    s
 }
 
-// The milliseconds of [a, e) in which every calendar that cs names works.
-pub fn joint_available_ms(cs: &[u64], w: &[u64], a: u64, e: u64) -> u64
+// Whether t is working time of every one of the calendars.
+pub fn joint_working(cs: &[usize], w: &[u64], t: u64) -> bool
+    ensures { λ r. ⌜ r ≡ jointWorking clock (calendarsOf (now (w .entry)) (now (cs .entry))) (pos t) ⌝ }
+{
+    let s = joint_look(cs, w, t, t);
+    s.working
+}
+
+// The working milliseconds from t up to the next stop.
+fn gained(s: Joint, t: u64) -> u64
+    ensures { λ r. ⌜ r ≡ cond (s .working) (s .stop - t) 0 ⌝ }
+{
+    if !s.working {
+        return 0;
+    }
+    if s.stop <= t {
+        return 0;
+    }
+    s.stop - t
+}
+
+// Joint working time within [a, e), in milliseconds.
+pub fn joint_available_ms(cs: &[usize], w: &[u64], a: u64, e: u64) -> u64
     ensures { λ r. ⌜ r ≡ jointAvailableMs clock (calendarsOf (now (w .entry)) (now (cs .entry))) (pos a) (pos e) ⌝ }
 {
     let mut t = a;
     let mut sum = 0;
     while t < e {
-        let b = next_stop(w, t, e);
-        if joint_working(cs, w, t) {
-            sum += b - t;
-        }
-        t = b;
+        let s = joint_look(cs, w, t, e);
+        sum += gained(s, t);
+        t = s.stop;
     }
     sum
 }
 
-// The first instant at which `work` milliseconds of joint working time have gone by since `start`; Never if too little follows.
-// A start in a pause is no obstacle here.
-pub fn end_from(cs: &[u64], w: &[u64], start: u64, work: u64) -> Answer
-    requires { ⌜ start + latest (now w) + work < 2 ^ 64 ⌝ }
-    ensures { λ r. ⌜ ending r ≡ endFrom clock (calendarsOf (now (w .entry)) (now (cs .entry))) (pos start) work ⌝ }
+// The last instant that a u64 holds: every window has ended by then.
+const LAST: u64 = 18446744073709551615;
+
+// The first instant by which `work` milliseconds of joint working time have passed since `start`. A start in a pause is no obstacle here.
+pub fn end_from(cs: &[usize], w: &[u64], start: u64, work: u64) -> Answer
+    ensures { λ r. ⌜ r ≡ answerOf (endFrom clock (calendarsOf (now (w .entry)) (now (cs .entry))) (pos start) work) ⌝ }
 {
-    let last = latest_of(w);
+    if work == 0 {
+        return Answer::End(start);
+    }
     let mut t = start;
     let mut left = work;
-    while 0 < left {
-        if joint_working(cs, w, t) {
-            let b = next_stop(w, t, t + left);
-            left -= b - t;
-            t = b;
-        } else {
-            if last <= t {
-                return Answer::Never;
-            }
-            t = next_stop(w, t, last);
+    while t < LAST {
+        let s = joint_look(cs, w, t, LAST);
+        let d = gained(s, t);
+        if left <= d {
+            return Answer::End(t + left);
         }
+        left -= d;
+        t = s.stop;
     }
-    Answer::End(t)
-}
-
-// When `work` milliseconds of work end that start at `start` and run only while every calendar that cs names works.
-pub fn work_end(cs: &[u64], w: &[u64], start: u64, work: u64) -> Answer
-    requires { ⌜ (start < 2 ^ 61) × (latest (now w) < 2 ^ 61) × (work < 2 ^ 61) ⌝ }
-    ensures { λ r. ⌜ ending r ≡ jointWorkEnd clock (calendarsOf (now (w .entry)) (now (cs .entry))) (pos start) work ⌝ }
-{
-    if !joint_working(cs, w, start) {
-        return Answer::Pause;
+    if joint_working(cs, w, t) {
+        return Answer::Beyond;
     }
-    end_from(cs, w, start, work)
+    Answer::Never
 }
 
 // An amount of work that may be below zero, which counts as none.
@@ -280,10 +291,12 @@ fn amount(work: i64) -> u64
     work as u64
 }
 
-// The same, of an amount of work that may be below zero.
-pub fn joint_work_end(cs: &[u64], w: &[u64], start: u64, work: i64) -> Answer
-    requires { ⌜ (start < 2 ^ 61) × (latest (now w) < 2 ^ 61) × (amountOf work < 2 ^ 61) ⌝ }
-    ensures { λ r. ⌜ ending r ≡ jointWorkEnd clock (calendarsOf (now (w .entry)) (now (cs .entry))) (pos start) (amountOf work) ⌝ }
+// When `work` milliseconds of work started at `start` end, if it runs only while every one of the calendars works and pauses otherwise.
+pub fn joint_work_end(cs: &[usize], w: &[u64], start: u64, work: i64) -> Answer
+    ensures { λ r. ⌜ r ≡ answerOf (jointWorkEnd clock (calendarsOf (now (w .entry)) (now (cs .entry))) (pos start) work) ⌝ }
 {
-    work_end(cs, w, start, amount(work))
+    if !joint_working(cs, w, start) {
+        return Answer::Pause;
+    }
+    end_from(cs, w, start, amount(work))
 }

@@ -1,7 +1,7 @@
 -- A float times 2 is exact below 2 ^ 53, and its whole part, plus one, halved, is the float to the nearest whole number. Assumes nothing.
 use mathlib.Core.Path.{_≡_, refl, sym, ap, _∙_, subst}
 use Prim.Native.Nat.{ℕ, zero, suc, _+_, _-_, _*_, _/_, _%_, _^_, _≤_, _<_}
-use native.Mathlib.Nat.{mul-comm, mul-assoc, mul-right-comm, mul-left-comm, mul-one, one-mul, zero-mul, mul-zero, mul-pos, mul-le-mul-right, add-div-right, div-div-eq-div-mul, div-lt-iff-lt-mul, div-eq-of-lt, le-div-iff-mul-le, zero-lt-suc, le-of-mul-le-mul-right, lt-of-lt-of-le, lt-of-le-of-lt, le-of-lt, le-trans, le-of-eq, not-le-of-lt, lt-of-not-le, eq-zero-or-pos, lt-irrefl, le-of-suc-le-suc, eq-of-mul-eq-mul-right, zero-div, pow-suc, mul-lt-mul-of-pos-right, lt-of-mul-lt-mul-right}
+use native.Mathlib.Nat.{mul-comm, mul-assoc, mul-left-comm, mul-one, one-mul, zero-mul, mul-pos, mul-le-mul-right, add-div-right, div-div-eq-div-mul, div-lt-iff-lt-mul, div-eq-of-lt, le-div-iff-mul-le, zero-lt-suc, lt-of-lt-of-le, le-of-eq, not-le-of-lt, lt-of-not-le, le-of-suc-le-suc, eq-of-mul-eq-mul-right, zero-div, pow-suc, mul-lt-mul-of-pos-right, lt-of-mul-lt-mul-right}
 use native.Mathlib.Omega.{arith}
 use mathlib.Core.Bool.{Bool, true, false, not, _&&_, _||_, cond, true≢false}
 use lib.Dec.{T, leb, ltb, eqb, leb→le, ltb→lt, lt→ltb, eqb→eq, lit≤}
@@ -11,12 +11,12 @@ use lib.Ieee.{Float, nan, inf, fin, Format, binary64, low, prec, emax, up, down,
 use lib.Ieee.Fits.{up-pos, down-pos, and-l, and-r}
 use lib.Ieee.Exact.{HasValue, round-exact}
 use lib.Ieee.Nearest.{div-same}
-use lib.Ieee.Positive.{num, den, den-pos}
+use lib.Ieee.Positive.{num, den}
 use lib.Ieee.Digits.{back}
-use Rattle.rounding.specs.Rounding.{halfUp, rounded, dividedBy, limited}
+use Rattle.rounding.specs.Rounding.{halfUp, rounded, limited}
 use Rattle.rounding.specs.declared.Time.the-variants.{Ms, TooLarge}
-use mathlib.Core.Option.{none, some}
-use borrow.Author.Tests.{lt-ltb, le-ltb, ltb-true, ltb-false, ne-eqb}
+use mathlib.Core.Option.{Option, none, some}
+use borrow.Author.Tests.{lt-ltb, le-ltb, ltb-true, ltb-false}
 use lib.Ieee.Bits.{nanBits-is, nanBits-above}
 
 -- (2n / d + 1) / 2
@@ -150,6 +150,32 @@ limit-within n h = rw (lt-ltb n (2 ^ 53) h)
 pub limit-beyond : (n : ℕ) → 2 ^ 53 ≤ n → TooLarge ≡ limited (some n)
 unfolding limited
 limit-beyond n h = rw (le-ltb n (2 ^ 53) h)
+
+-- what a limited time tells of the time
+pub limited-ms : (o : Option ℕ) (n : ℕ) → Ms n ≡ limited o → o ≡ some n
+unfolding limited
+limited-ms none n e = absurd (let z : _≡_ {A = ℕ} 0 1 = cc in omega arith)
+limited-ms (some m) n e = go (ltb m (2 ^ 53)) e
+  where
+    go : (b : Bool) → Ms n ≡ cond b (Ms m) TooLarge → some m ≡ some n
+    go true h = cc
+    go false h = absurd (let z : _≡_ {A = ℕ} 0 1 = cc in omega arith)
+
+pub limited-below : (n m : ℕ) → Ms m ≡ limited (some n) → (m ≡ n) × (n < 2 ^ 53)
+unfolding limited
+limited-below n m e = go (ltb n (2 ^ 53)) (ltb-true n (2 ^ 53)) e
+  where
+    go : (b : Bool) → (b ≡ true → n < 2 ^ 53) → Ms m ≡ cond b (Ms n) TooLarge → (m ≡ n) × (n < 2 ^ 53)
+    go true k h = (cc, k refl)
+    go false k h = absurd (let z : _≡_ {A = ℕ} 0 1 = cc in omega arith)
+
+pub limited-large : (n : ℕ) → TooLarge ≡ limited (some n) → 2 ^ 53 ≤ n
+unfolding limited
+limited-large n e = go (ltb n (2 ^ 53)) (ltb-false n (2 ^ 53)) e
+  where
+    go : (b : Bool) → (b ≡ false → 2 ^ 53 ≤ n) → TooLarge ≡ cond b (Ms n) TooLarge → 2 ^ 53 ≤ n
+    go true k h = absurd (let z : _≡_ {A = ℕ} 0 1 = cc in omega arith)
+    go false k h = k refl
 
 -- ---- what `rounded` is, by the tests of the code
 

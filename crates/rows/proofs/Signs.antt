@@ -53,3 +53,8 @@ module _ (z : ℤ) (f : SFits w64 z) where
 
   pub nat-over : ltZ (toZ w64 (ofZ w64 z)) (pos 0) ≡ false → natAbs (toZ w64 (ofZ w64 z)) ≡ toNat z
   nat-over e = rw (toZ-ofZ f) (nat-pos z (rw (toZ-ofZ f) at e))
+
+-- a number that is held is below 2^63
+pub nat-bound : (z : ℤ) → SFits w64 z → toNat z < 9223372036854775808
+nat-bound (pos n) f = omega (arith, f .sfits)
+nat-bound (negsuc n) f = omega arith

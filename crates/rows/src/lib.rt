@@ -268,3 +268,12 @@ pub fn is_at(rows: &[i64], k: usize, c: usize, v: u64) -> bool
 {
     num_at(rows, k, c) == v
 }
+
+// The same, with its bound: what is reported fits a signed number.
+pub fn id_at(rows: &[i64], k: usize, c: usize) -> u64
+    ensures value { λ r. ⌜ r ≡ num (now (rows .entry)) k c ⌝ }
+    ensures bound { λ r. ⌜ r < 9223372036854775808 ⌝ }
+{
+    let x = cell_at(rows, k, c);
+    if x < 0 { 0 } else { x as u64 }
+}

@@ -1,7 +1,7 @@
 -- (2 * ms * work + d) / (2 * d) by long division with two digits of work. Assumes nothing.
 use mathlib.Core.Path.{_≡_, sym, ap, _∙_}
-use Prim.Native.Nat.{ℕ, _+_, _*_, _/_, _%_, _^_, _≤_, _<_}
-use native.Mathlib.Nat.{mul-comm, mul-assoc, mul-left-comm, mul-add, add-mul, mul-pos, mul-le-mul, add-div-right, div-div-eq-div-mul, div-lt-iff-lt-mul, div-le-self, mod-lt, div-add-mod', add-mul-div-right, mul-right-comm, add-assoc, add-comm}
+use Prim.Native.Nat.{ℕ, _+_, _*_, _/_, _%_, _≤_, _<_}
+use native.Mathlib.Nat.{mul-comm, mul-assoc, mul-left-comm, mul-add, mul-le-mul, add-div-right, div-div-eq-div-mul, div-lt-iff-lt-mul, div-le-self, mod-lt, div-add-mod', add-mul-div-right, mul-right-comm}
 use native.Mathlib.Omega.{arith}
 use borrow.Author.Tests.{eq-eqb, ne-eqb}
 use Rattle.share.specs.Share.{shareOf}

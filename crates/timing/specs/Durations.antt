@@ -1,12 +1,14 @@
 -- The time of a piece on the resources that it runs on, as activity.rs has it, with exact sums. Assumes nothing.
 use Prim.Native.Nat.{ℕ, _+_}
-use mathlib.Core.Bool.{true, false, cond}
+use mathlib.Core.Bool.{false, cond}
 use mathlib.Core.List.{List, foldl}
 use mathlib.Core.Option.{Option, none, some}
 use lib.Dec.{ltb}
 use lib.IntN.{ℤ, pos}
 use lib.Signed.{ltZ}
 use lib.Ieee.{Float, fin, binary64, mul, eq}
+use Rattle.loops.specs.Lists.{option}
+use Rattle.loops.specs.Search.{orElse}
 use Rattle.rounding.specs.Rounding.{dividedBy}
 use Rattle.share.specs.Share.{shareOf}
 use Rattle.timing.specs.declared.ActivityDuration.{ActivityDuration}
@@ -26,21 +28,18 @@ totalMs d = d .«setup_ms» + d .«process_ms» + d .«teardown_ms»
 abbrev pub partOf : ℤ → ℕ → ℕ → ℕ → Part
 partOf index work whole overhead = record { «work_ms» = work; «whole_ms» = whole; «overhead_ms» = cond (ltZ (pos 0) index) overhead 0 }
 
--- the activity's own duration, as the piece has it
+-- a duration with another processing time, and with the part's overhead in its teardown
+abbrev pub inPart : ActivityDuration → ℕ → Part → ActivityDuration
+inPart d process p = record { «setup_ms» = d .«setup_ms»; «process_ms» = process; «teardown_ms» = d .«teardown_ms» + p .«overhead_ms» }
+
+-- the activity's own duration, and a resource's, as the piece has them
 abbrev pub pieceDuration : Piece → ActivityDuration → ActivityDuration
 pieceDuration Whole d = d
-pieceDuration (InPart p) d =
-    record { «setup_ms» = d .«setup_ms»; «process_ms» = p .«work_ms»; «teardown_ms» = d .«teardown_ms» + p .«overhead_ms» }
+pieceDuration (InPart p) d = inPart d (p .«work_ms») p
 
--- a resource's own duration for the activity, as the piece has it
 abbrev pub pieceFixed : Piece → ActivityDuration → ActivityDuration
 pieceFixed Whole d = d
-pieceFixed (InPart p) d =
-    record {
-      «setup_ms» = d .«setup_ms»;
-      «process_ms» = shareOf (d .«process_ms») (p .«work_ms») (p .«whole_ms»);
-      «teardown_ms» = d .«teardown_ms» + p .«overhead_ms»;
-    }
+pieceFixed (InPart p) d = inPart d (shareOf (d .«process_ms») (p .«work_ms») (p .«whole_ms»)) p
 
 abbrev pub pieceTiming : Piece → ResourceTiming → ResourceTiming
 pieceTiming piece (Speed s) = Speed s
@@ -69,21 +68,17 @@ abbrev pub timedOn : Found → ResourceTiming → Found
 timedOn f (Speed s) = record { speed = mul binary64 (f .speed) s; fixed = f .fixed }
 timedOn f (Duration d) = record { speed = f .speed; fixed = some (longest (f .fixed) d) }
 
--- the base's processing at a product of speeds; none where the quotient is not finite
-abbrev pub withProcess : ActivityDuration → Option ℕ → Option ActivityDuration
-withProcess base none = none
-withProcess base (some n) = some (record { «setup_ms» = base .«setup_ms»; «process_ms» = n; «teardown_ms» = base .«teardown_ms» })
-
+-- the base with its processing divided by a product of speeds; a product of 1.0 changes nothing; none where the quotient is not finite
 unfoldable pub atSpeed : ActivityDuration → Float → Option ActivityDuration
-atSpeed base speed = cond (eq speed one) (some base) (withProcess base (dividedBy (base .«process_ms») speed))
+atSpeed base speed =
+    cond (eq speed one)
+    (some base)
+    (option (dividedBy (base .«process_ms») speed) none λ n.
+    some (record { «setup_ms» = base .«setup_ms»; «process_ms» = n; «teardown_ms» = base .«teardown_ms» }))
 
--- what it returns; none where the quotient is not finite
-abbrev pub orElseAt : Option ActivityDuration → Option ActivityDuration → Option ActivityDuration
-orElseAt none x = x
-orElseAt (some d) x = some d
-
+-- what it returns: the fixed duration where there is one
 abbrev pub timed : ActivityDuration → Found → Option ActivityDuration
-timed base f = orElseAt (f .fixed) (atSpeed base (f .speed))
+timed base f = orElse (f .fixed) (atSpeed base (f .speed))
 
 -- the timings are those of the resources that the piece runs on, in booking order
 unfoldable pub timedDuration : ActivityDuration → List ResourceTiming → Option ActivityDuration

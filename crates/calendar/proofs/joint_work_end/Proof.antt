@@ -1,26 +1,33 @@
 -- `calendar::joint_work_end` meets its contract. A signed argument reaches a callee as it is read back from its bits. Assumes nothing.
 use borrow.Author.Needs.{needs}
-use native.Mathlib.Omega.{arith}
-use mathlib.Core.Path.{ap, _∙_}
+use mathlib.Core.Path.{sym, ap, _∙_}
 use mir.Syntax.{w64}
 use mir.ValLaws.{toZ-ofZ}
-use Rattle.calendar.specs.WorkEnd.{jointWorkEnd}
+use borrow.Author.Tests.{not-true, not-false}
 use Rattle.calendar.specs.Clock.{clock, amountOf}
+use Rattle.calendar.specs.WorkEnd.{endFrom, jointWorkEnd}
+use Rattle.calendar.specs.Layout.{answerOf}
 use Rattle.calendar.proofs.joint_work_end.Statement.{statement}
 use Rattle.calendar.proofs.joint_work_end.Tie as tie
+
+joint-working-requires : tie.Need-joint-working-requires
+joint-working-requires c κs = search needs
+
+returns : tie.Need-returns
+unfolding jointWorkEnd
+returns c = rw (sym (c .before .joint-working .ensures) ∙ not-true (c .before .joint-working .result) (c .if1 .taken))
 
 amount-requires : tie.Need-amount-requires
 amount-requires c κs = search needs
 
-work-end-requires : tie.Need-work-end-requires
-work-end-requires c κs =
-    let s = c .before .before .before in
-    omega (arith, c .amount .ensures ∙ ap amountOf (toZ-ofZ w64 (s .args .work) (s .fits .work)), s .pre)
+end-from-requires : tie.Need-end-from-requires
+end-from-requires c κs = search needs
 
-returns : tie.Need-returns
-returns c =
-    let s = c .before .before .before .before in
-    c .work-end .ensures ∙ ap (jointWorkEnd clock _ _) (c .before .amount .ensures ∙ ap amountOf (toZ-ofZ w64 (s .args .work) (s .fits .work)))
+returns-2 : tie.Need-returns-2
+unfolding jointWorkEnd
+returns-2 c = rw (sym (c .before .before .before .joint-working .ensures) ∙ not-false (c .before .before .before .joint-working .result) (c .before .before .if1 .left))
+    ((c .end-from .ensures) ∙ ap answerOf (ap (endFrom clock _ _) ((c .before .amount .ensures) ∙ ap amountOf (toZ-ofZ w64 (c .before .before .before .before .before .before .args .work) (c .before .before .before .before .before .before .fits .work)))))
 
 pub joint-work-end-spec : {M : Type 1} → statement M
-joint-work-end-spec = tie.close (tie.spec amount-requires work-end-requires returns)
+joint-work-end-spec =
+    tie.close (tie.spec joint-working-requires returns amount-requires end-from-requires returns-2)

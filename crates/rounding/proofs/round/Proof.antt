@@ -1,6 +1,6 @@
 -- `rounding::round` meets its contract. Assumes nothing.
 use borrow.Author.Needs.{needs}
-use mathlib.Core.Path.{_≡_, ap, _∙_}
+use mathlib.Core.Path.{ap, _∙_}
 use Prim.Native.Nat.{ℕ, _+_, _*_, _/_, _^_, _<_}
 use native.Mathlib.Omega.{arith}
 use mathlib.Core.Bool.{false}

@@ -1,0 +1,2 @@
+-- Lemmas of `overlap`.
+pub mod Laws

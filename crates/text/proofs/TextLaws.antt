@@ -1,0 +1,165 @@
+-- Laws of reading a text's lines one after the other. Assumes nothing.
+use Prim.Native.Nat.{ℕ, zero, suc, _+_, _*_, _-_, _/_, _≤_, _<_}
+use mathlib.Core.Bool.{Bool, true, false, cond, _&&_, not}
+use mathlib.Core.List.{List, [], _∷_, _++_, map, append-nil}
+use mathlib.Core.Path.{_≡_, refl, sym, ap, subst, _∙_}
+use native.Mathlib.Omega.{arith}
+use native.Mathlib.Numerals.{add-one}
+use lib.Dec.{ltb, eqb}
+use lib.ListN.{length, getD, drop, take, set, replicate, length-append, length-replicate, length-map, length-drop}
+use lib.Seq.{sets, length-sets, sets-eq}
+use lib.IntN.{ℤ, pos, negsuc}
+use borrow.Author.Tests.{ne-eqb, lt-ltb, le-ltb, ltb-true, eqb-true}
+use Rattle.loops.specs.Lists.{isEmpty}
+use Rattle.loops.specs.Numbers.{toNat}
+use Rattle.rows.specs.Table.{width}
+use Rattle.text.specs.Parts.{upTo, parts}
+use Rattle.text.specs.Line.{byKind, fieldsOf, spelled, valueOf, lineOf, rowOf}
+use Rattle.text.specs.Stored.{rowsRead, onRow}
+use Rattle.text.specs.Text.{answerFrom, rowsOf, afterLine, answerOf}
+use Rattle.text.specs.declared.Line.{Line}
+use Rattle.text.specs.declared.Line.the-variants.{Row, Wrong}
+use Rattle.text.specs.declared.Answer.{Answer}
+use Rattle.text.specs.declared.Answer.the-variants.{Accepted, Refused}
+use Rattle.rows.proofs.Tables.{width-most}
+use Rattle.text.proofs.LineLaws.{no-row, sets-append}
+use Rattle.text.proofs.PartLaws.{up-within, parts-last, parts-more, parts-first, tail-is}
+
+-- ---- a row has ten numbers
+
+some-columns : (k n : ℕ) → byKind k n ≡ Row → n ≤ 10
+some-columns k n e = go (ltb 0 k && ltb k 25) (eqb n (suc (width k))) refl e
+  where
+    go : (a t : Bool) → eqb n (suc (width k)) ≡ t → cond a (cond t Row (Wrong 9)) (Wrong 2) ≡ Row → n ≤ 10
+    go true true q e = omega (arith, width-most k, eqb-true n (suc (width k)) q)
+    go true false q e = absurd (no-row e)
+    go false t q e = absurd (no-row e)
+
+few-fields : (l : List ℕ) → lineOf l ≡ Row → length (fieldsOf l) ≤ 10
+unfolding lineOf
+few-fields l e = go (spelled (fieldsOf l) && not (isEmpty (getD (fieldsOf l) 0 []))) e
+  where
+    go : (t : Bool) → cond t (byKind (toNat (valueOf (getD (fieldsOf l) 0 []))) (length (fieldsOf l))) (Wrong 9) ≡ Row → length (fieldsOf l) ≤ 10
+    go true q = some-columns (toNat (valueOf (getD (fieldsOf l) 0 []))) (length (fieldsOf l)) q
+    go false q = absurd (no-row q)
+
+pub row-long : (l : List ℕ) → lineOf l ≡ Row → length (rowOf l) ≡ 10
+unfolding rowOf
+row-long l e = simp (length-append, length-map, length-replicate) (omega (arith, few-fields l e))
+
+-- ---- the lines
+
+-- where the lines before place were read to the rows, and rest is left of the text
+pub record LinesRead (text : List ℕ) (lent : ℕ) (rows₀ rows : List ℤ) (rest : List ℕ) (place : ℕ) : Type 0 where
+  pub answer : answerFrom lent place (parts 10 rest) ≡ answerFrom lent 0 (parts 10 text)
+  pub stores : sets rows (place * 10) (rowsRead lent place (parts 10 rest)) ≡ sets rows₀ 0 (rowsRead lent 0 (parts 10 text))
+  pub within : place + length rest ≤ length text
+  pub long : length rows ≡ length rows₀
+
+-- what the loop gives at its end
+abbrev pub Ends : List ℕ → ℕ → List ℤ → List ℤ → Answer → Type 0
+Ends text lent rows₀ rows a = (a ≡ answerFrom lent 0 (parts 10 text)) × (rows ≡ sets rows₀ 0 (rowsRead lent 0 (parts 10 text)))
+
+pub lines-none : (text : List ℕ) (lent : ℕ) (rows : List ℤ) → LinesRead text lent rows rows text 0
+lines-none text lent rows = record { answer = refl; stores = refl; within = omega arith; long = refl }
+
+nil-of : (xs : List ℕ) → length xs ≤ 0 → xs ≡ []
+nil-of [] h = refl
+nil-of (x ∷ xs) h = absurd (omega arith)
+
+some-bytes : (l : List ℕ) → 0 < length l → isEmpty l ≡ false
+some-bytes [] h = absurd (omega arith)
+some-bytes (x ∷ l) h = refl
+
+no-accept : {k p n : ℕ} → Refused k p ≡ Accepted n → ⊥
+no-accept e = let z : _≡_ {A = ℕ} 0 1 = cc in omega arith
+
+module _ (text : List ℕ) (lent : ℕ) (rows₀ rows : List ℤ) (rest : List ℕ) (place : ℕ) (w : LinesRead text lent rows₀ rows rest place) where
+  -- nothing is left
+  pub lines-end : length rest ≤ 0 → Ends text lent rows₀ rows (Accepted place)
+  unfolding answerFrom rowsRead parts
+  lines-end h = let n = nil-of rest h in (rw n at (w .answer), rw n at (w .stores))
+
+  module _ (l : List ℕ) (e : l ≡ upTo 10 rest) where
+    -- no line feed
+    pub lines-open : 0 < length rest → length rest ≤ length l → Ends text lent rows₀ rows (Refused 9 place)
+    unfolding answerFrom rowsRead
+    lines-open h k =
+        let p : parts 10 rest ≡ l ∷ [] = rw e (parts-last 10 rest (omega (arith, up-within 10 rest, ap length e))) in
+        (rw (p, some-bytes l (omega arith)) at (w .answer), rw p at (w .stores))
+
+    module _ (h : length l < length rest) (rows′ : List ℤ) (s : rows′ ≡ sets rows (place * 10) (rowOf l)) where
+      -- the line and those after it
+      opened : (ps : List (List ℕ)) × (parts 10 rest ≡ l ∷ upTo 10 (drop (length l + 1) rest) ∷ ps) × (parts 10 (drop (length l + 1) rest) ≡ upTo 10 (drop (length l + 1) rest) ∷ ps)
+      opened =
+          let o : parts 10 rest ≡ l ∷ parts 10 (drop (length l + 1) rest) = rw e (parts-more 10 rest (rw e at h)) in
+          let p = parts-first 10 (drop (length l + 1) rest) in
+          (p .0, o ∙ ap (λ (ps : List (List ℕ)). l ∷ ps) (p .1), p .1)
+
+      pub lines-wrong : (k : ℕ) → lineOf l ≡ Wrong k → Ends text lent rows₀ rows′ (Refused k place)
+      unfolding answerFrom rowsRead
+      lines-wrong k q = (rw (opened .1, q) at (w .answer), s ∙ (rw (opened .1, q, append-nil (rowOf l)) at (w .stores)))
+
+      pub lines-full : lineOf l ≡ Row → lent ≤ place → Ends text lent rows₀ rows′ (Refused 10 place)
+      unfolding answerFrom rowsRead
+      lines-full q k =
+          (rw (opened .1, q, le-ltb place lent k) at (w .answer), s ∙ (rw (opened .1, q, le-ltb place lent k, append-nil (rowOf l)) at (w .stores)))
+
+      pub lines-more : lineOf l ≡ Row → place < lent → LinesRead text lent rows₀ rows′ (take (length rest - (length l + 1)) (drop (length l + 1) rest)) (place + 1)
+      unfolding answerFrom rowsRead
+      lines-more q k =
+          let r = rowOf l in
+          let i : (place + 1) * 10 ≡ place * 10 + length r = omega (arith, row-long l q) in
+          rw (tail-is (length l + 1) rest)
+          (record {
+            answer = rw (add-one place, opened .2) (rw (opened .1, q, lt-ltb place lent k) at (w .answer));
+            stores =
+                rw (s, i, add-one place, opened .2)
+                (sets-append rows (place * 10) r (rowsRead lent (suc place) (upTo 10 (drop (length l + 1) rest) ∷ opened .0))
+                ∙ (rw (opened .1, q, lt-ltb place lent k) at (w .stores)));
+            within = simp length-drop (omega (arith, w .within));
+            long = ap length s ∙ length-sets rows (place * 10) r ∙ w .long;
+          })
+
+-- ---- an accepted text
+
+-- all of its rows are read, and they are as many as the answer says
+pub accepted-rows : (lent p : ℕ) (ps : List (List ℕ)) (n : ℕ) → p ≤ lent → answerFrom lent p ps ≡ Accepted n
+    → (p * 10 + length (rowsOf ps) ≡ n * 10) × (n ≤ lent) × (rowsRead lent p ps ≡ rowsOf ps)
+unfolding answerFrom rowsOf rowsRead
+accepted-rows lent p [] n h e = let q : p ≡ n = cc in (omega arith, omega arith, refl)
+accepted-rows lent p (l ∷ []) n h e = go (isEmpty l) e
+  where
+    go : (t : Bool) → cond t (Accepted p) (Refused 9 p) ≡ Accepted n → (p * 10 + 0 ≡ n * 10) × (n ≤ lent) × (_≡_ {A = List ℤ} [] [])
+    go true e = let q : p ≡ n = cc in (omega arith, omega arith, refl)
+    go false e = absurd (no-accept e)
+accepted-rows lent p (l ∷ m ∷ ls) n h e = go (lineOf l) refl (ltb p lent) refl e (accepted-rows lent (suc p) (m ∷ ls) n)
+  where
+    go : (x : Line) → lineOf l ≡ x → (t : Bool) → ltb p lent ≡ t → afterLine x p (cond t (answerFrom lent (suc p) (m ∷ ls)) (Refused 10 p)) ≡ Accepted n
+        → (suc p ≤ lent → answerFrom lent (suc p) (m ∷ ls) ≡ Accepted n → (suc p * 10 + length (rowsOf (m ∷ ls)) ≡ n * 10) × (n ≤ lent) × (rowsRead lent (suc p) (m ∷ ls) ≡ rowsOf (m ∷ ls)))
+        → (p * 10 + length (rowOf l ++ rowsOf (m ∷ ls)) ≡ n * 10) × (n ≤ lent)
+        × (rowOf l ++ onRow x (cond t (rowsRead lent (suc p) (m ∷ ls)) []) ≡ rowOf l ++ rowsOf (m ∷ ls))
+    go Row q true t e k =
+        let w = k (ltb-true p lent t) e in
+        (simp length-append (omega (arith, row-long l q, w .0)), w .1, ap (λ (zs : List ℤ). rowOf l ++ zs) (w .2))
+    go Row q false t e k = absurd (no-accept e)
+    go (Wrong i) q t u e k = absurd (no-accept e)
+
+pub accepted-stored : (rows : List ℤ) (ps : List (List ℕ)) (n : ℕ) → answerFrom (length rows / 10) 0 ps ≡ Accepted n
+    → sets rows 0 (rowsRead (length rows / 10) 0 ps) ≡ rowsOf ps ++ drop (10 * n) rows
+accepted-stored rows ps n e =
+    let w = accepted-rows (length rows / 10) 0 ps n (omega arith) e in
+    let i : 0 + length (rowsOf ps) ≡ 10 * n = omega (arith, w .0) in
+    rw (w .2) (sets-eq (rowsOf ps) rows 0 (omega (arith, w .0, w .1)) ∙ ap (λ (k : ℕ). rowsOf ps ++ drop k rows) i)
+
+pub long-text : (text : List ℕ) (lent : ℕ) → 65536 < length text → answerOf text lent ≡ Refused 8 0
+unfolding answerOf
+long-text text lent h = rw (lt-ltb 65536 (length text))
+
+pub short-text : (text : List ℕ) (lent : ℕ) → length text ≤ 65536 → answerOf text lent ≡ answerFrom lent 0 (parts 10 text)
+unfolding answerOf
+short-text text lent h = rw (le-ltb 65536 (length text))
+
+pub none-lent : (xs ys : List ℤ) → length xs ≡ 0 → xs ++ ys ≡ ys
+none-lent [] ys e = refl
+none-lent (x ∷ xs) ys e = absurd (omega arith)

@@ -1,0 +1,35 @@
+use mathlib.Core.Path.{sym, _∙_}
+use mathlib.Core.Logic.{inl, inr, ⊎-elim}
+use Rattle.text.proofs.DigitLaws.{digits-empty, digits-zero, digits-plain}
+use borrow.Author.Needs.{needs}
+use Rattle.text.proofs.read_digits.Statement.{statement}
+use Rattle.text.proofs.read_digits.Tie as tie
+use Rattle.text.proofs.read_digits.Reads as reads
+use Rattle.text.proofs.read_digits.Lts as lts
+use Rattle.text.proofs.digits_value.Reads as digits-value-reads
+
+-- src/lib.rt:58:9
+returns : tie.Need-returns
+returns c = sym (digits-empty _ (c .if1 .taken))
+
+-- src/lib.rt:60:8
+shared-slice-read-if2 : tie.Need-shared-slice-read-if2
+shared-slice-read-if2 c = search needs
+
+-- src/lib.rt:62:13
+returns-2 : tie.Need-returns-2
+returns-2 c = sym (digits-zero _ (c .before .if2 .taken) (c .if3 .taken))
+
+-- src/lib.rt:65:5
+digits-value-requires : tie.Need-digits-value-requires
+digits-value-requires c κs = search needs
+
+-- src/lib.rt:54:1
+returns-3 : tie.Need-returns-3
+returns-3 c =
+    c .digits-value .ensures
+    ∙ sym (digits-plain _ (c .before .before .before .if1 .left) (⊎-elim (λ w. inr (w .1 .left)) (λ w. inl (w .left)) (c .before .if2 .came)))
+
+pub read-digits-spec : {M : Type 1} → statement M
+read-digits-spec =
+    tie.close (tie.spec returns shared-slice-read-if2 returns-2 digits-value-requires returns-3)

@@ -1,0 +1,98 @@
+"""Answers cases by the second reading of document 01 (reading.py) and the reference (reference/)."""
+import os
+import subprocess
+
+import reading
+
+HERE = os.path.dirname(os.path.abspath(__file__))
+ROOT = os.path.dirname(os.path.dirname(HERE))
+BUILT = os.path.join(ROOT, "target", "differential")
+ROOM = 10**9  # for a sheet without a word before it: room for all findings
+
+
+def build(profile="dev"):
+    """Builds the reference; gives the path of its program. dev: overflow checks on; release: for timing."""
+    words = ["cargo", "build", "--offline", "--quiet", "--profile", profile]
+    words += ["--manifest-path", os.path.join(HERE, "reference", "Cargo.toml")]
+    subprocess.run(words, check=True, env=dict(os.environ, CARGO_TARGET_DIR=BUILT))
+    return os.path.join(BUILT, "debug" if profile == "dev" else profile, "reference")
+
+
+def numbers(words):
+    return [int(word) for word in words]
+
+
+def split_case(line):
+    """The word of a case and what follows it."""
+    words = line.replace(",", " ").split()
+    if words and words[0].isalpha():
+        return words[0], words[1:]
+    return "check", [str(ROOM)] + words
+
+
+def refusal(number, place):
+    return f"refused {number} {place}"
+
+
+def sheet_answer(sheet, room):
+    """An answer, or the sheet and the room where the reference has the word."""
+    refused = reading.refused_1_to_6(sheet)
+    return refusal(*refused) if refused else (sheet, room)
+
+
+def own_answer(word, rest):
+    if word == "check":
+        return sheet_answer(numbers(rest[1:]), int(rest[0]))
+    if word == "program":
+        read = reading.read_text(bytes.fromhex("".join(rest)), 800)
+        return refusal(*read[1:]) if read[0] == "refused" else sheet_answer(read[1], 8000)
+    if word == "rows":
+        refused = reading.refused_1_to_5(numbers(rest))
+        return refusal(*refused) if refused else "accepted"
+    if word == "text":
+        read = reading.read_text(bytes.fromhex("".join(rest[1:])), int(rest[0]))
+        if read[0] == "refused":
+            return refusal(*read[1:])
+        return " ".join(map(str, ["accepted", len(read[1]) // 10] + read[1]))
+    if word == "work":
+        resource, start, work, *sheet = numbers(rest)
+        return " ".join(map(str, reading.work_end_inquiry(sheet, resource, start, work)))
+    if word == "derived":
+        return derived_answer(numbers(rest))
+    raise SystemExit(f"answer: no such case: {word}")
+
+
+def derived_answer(sheet):
+    """For each booking of a known activity its place and setup, process and teardown, or 6."""
+    refused = reading.refused_1_to_5(sheet)
+    if refused:
+        return refusal(*refused)
+    typed = reading.Sheet(sheet)
+    words = ["accepted"]
+    for place, r in enumerate(typed.rows):
+        if r[0] == 23 and r[1] in typed.activity:
+            d = typed.derived(r)
+            words.append(f"{place}:" + ("6" if reading.stretched(d) else ",".join(map(str, d))))
+    return " ".join(words)
+
+
+def by_reference(sheets, program):
+    text = "".join(" ".join(map(str, sheet)) + "\n" for sheet in sheets)
+    return subprocess.run([program], input=text, capture_output=True, text=True, check=True).stdout.splitlines()
+
+
+def within(line, room):
+    """The reference's line, or refusal 7 where its findings exceed the whole fours of the room."""
+    word, count = line.split()[:2]
+    return refusal(7, 0) if word == "accepted" and int(count) > room // 4 else line
+
+
+def answers(lines, program=None):
+    """The answers to cases, in their order."""
+    found = [own_answer(*split_case(line)) for line in lines]
+    asked = [at for at, answer in enumerate(found) if isinstance(answer, tuple)]
+    if asked:
+        lines = by_reference([found[at][0] for at in asked], program or build())
+        for at, line in zip(asked, lines, strict=True):
+            found[at] = within(line, found[at][1])
+    return found
