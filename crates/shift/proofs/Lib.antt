@@ -4,3 +4,4 @@ pub mod Bare
 pub mod Moved
 pub mod Shift
 pub mod Calls
+pub mod Examples

@@ -158,6 +158,7 @@ too-far (negsuc e) (pos n) f p q = go (ltb n (suc e)) refl q
     high true true h = refl
     high true false h = h
     high false a h = absurd (false≢true h)
+
     go : (b : Bool) → ltb n (suc e) ≡ b → inClass t-c (cond b (negsuc (suc e - suc n)) (pos (n - suc e))) ≡ true → ⊥
     go true t h = false≢true h
     go false t h = omega (arith, ltb-false n (suc e) t, leb-true 4000000000000 e f, leb-true n 4000000000000 (high (leb 0 n) (leb n 4000000000000) p))

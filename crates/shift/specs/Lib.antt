@@ -1,2 +1,3 @@
 pub mod Call
+pub mod Examples
 pub mod Shift
