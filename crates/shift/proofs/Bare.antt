@@ -10,6 +10,7 @@ use lib.IntN.{ℤ, pos}
 use lib.ListN.{length}
 use Rattle.loops.specs.Lists.{given, keep, anyOf, each, isEmpty, option}
 use Rattle.loops.specs.Range.{collect}
+use Rattle.loops.proofs.PartLaws.{collect-nothing, each-nothing}
 use Rattle.calendar.specs.Clock.{Clock}
 use Rattle.findings.specs.declared.Violation.{Violation}
 use Rattle.model.specs.Sheet.{Sheet, isKind}
@@ -45,7 +46,6 @@ use Rattle.checks.specs.CheckPrecedence.{endToStart, ordered, checkPrecedenceCo
 use Rattle.checks.specs.CheckDeadlines.{checkDeadline, checkDeadlines}
 use Rattle.checks.specs.CheckConstraints.{firstOn, startOf, checkOverlaps, differing, checkConstraint, checkConstraintAt, checkConstraints}
 use Rattle.checks.specs.CheckSchedule.{beforeCapacity, afterCapacity}
-use Rattle.shift.proofs.Nothing.{collect-nothing, each-nothing}
 use Rattle.shift.proofs.Numbers.{numbers, each-task, each-activity-of}
 
 pub record Bare {T : Type 0} (s : Sheet T) : Type 0 where

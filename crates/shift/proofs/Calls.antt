@@ -13,7 +13,7 @@ use lib.IntN.{ℤ, pos}
 use lib.Signed.{ltZ}
 use Rattle.loops.specs.Lists.{given, countOf, allOf, anyOf, each}
 use Rattle.loops.specs.Range.{collect}
-use Rattle.loops.proofs.ListLaws.{all-append}
+use Rattle.loops.proofs.PartLaws.{all-each, all-collect}
 use Rattle.calendar.specs.Clock.{Clock, clock}
 use Rattle.findings.specs.declared.Violation.{Violation}
 use Rattle.findings.specs.Sink.{flat}
@@ -22,24 +22,10 @@ use Rattle.model.specs.Schedule.{Assignment, assignmentAt, assignmentsBelow, ca
 use Rattle.checks.specs.CheckCapacity.{capOf, peak, checkResource, checkFirstBooking, checkCapacityAt, checkCapacity}
 use Rattle.checks.specs.CheckSchedule.{beforeCapacity, afterCapacity, checkSchedule, findings}
 use Rattle.shift.specs.Shift.{Shifted, InClass}
-use Rattle.shift.specs.Call.{Answer, accepted, refused, Refusal, sameLine, AsOften, Listed, Written, Refused, Ended, Checked, isCapacity, SameFindings, SameCalls, Unmoved, Demand3}
+use Rattle.shift.specs.Call.{Answer, accepted, refused, Refusal, sameLine, AsOften, Listed, Written, Refused, Ended, Checked, isCapacity, SameFindings, SameCalls, SameOutcome, Demand3}
 use Rattle.shift.proofs.Shift.{SameParts, same-parts, same-findings}
 
 -- ---- check 5's lines
-
-module _ {A : Type 0} (p : A → Bool) where
-  all-both : (l m : List A) → allOf p l ≡ true → allOf p m ≡ true → allOf p (l ++ m) ≡ true
-  all-both l m h k = all-append p l m ∙ rw (h, k)
-
-  all-each : {B : Type 0} (f : B → List A) → ((x : B) → allOf p (f x) ≡ true) → (l : List B) → allOf p (each f l) ≡ true
-  unfolding each allOf
-  all-each f h [] = refl
-  all-each f h (x ∷ l) = all-both (f x) (each f l) (h x) (all-each f h l)
-
-  all-collect : (f : ℕ → List A) → ((k : ℕ) → allOf p (f k) ≡ true) → (n : ℕ) → allOf p (collect f n) ≡ true
-  unfolding collect allOf
-  all-collect f h zero = refl
-  all-collect f h (suc n) = all-both (collect f n) (f n) (all-collect f h n) (h n)
 
 module _ {T : Type 0} (K : Clock T) (s : Sheet T) where
   resource-lines : (x : ℕ) → allOf isCapacity (checkResource K s x) ≡ true

@@ -18,13 +18,13 @@ use Rattle.shift.proofs.Bare.{Bare, found, same-found, none5, none-afte
 use Rattle.shift.proofs.Moved.{far, moving, sheet-moved, numbers-same, bare, bare′}
 
 -- Whatever is worked out of a sheet through the clock alone is the same for both, if no instant becomes none.
-pub unseen : {R : Type 0} (F : (T : Type 0) → Clock T → Sheet T → R) (d : ℤ) (a b : List ℤ)
+pub same-by-clock : {R : Type 0} (F : (T : Type 0) → Clock T → Sheet T → R) (d : ℤ) (a b : List ℤ)
     → far d ≡ false
     → InClass a
     → InClass b
     → Shifted d a b
     → F ℤ clock (sheet a) ≡ F ℤ clock (sheet b)
-unseen F d a b near okA okB h =
+same-by-clock F d a b near okA okB h =
     sym (unmoved moving F d (sheet a)) ∙ ap (F ℤ clock) (sym (sheet-moved d a b h near okA okB))
 
 -- the three parts of the list: checks 1 to 4, check 5, checks 6 to 9
@@ -37,9 +37,9 @@ module _ (d : ℤ) (a b : List ℤ) (okA : InClass a) (okB : InClass b) (h : Shi
   near-parts : far d ≡ false → SameParts a b
   near-parts near =
       record {
-        before = unseen (λ T K s. beforeCapacity K s) d a b near okA okB h;
-        capacity = unseen (λ T K s. checkCapacity K s) d a b near okA okB h;
-        after = unseen (λ T K s. afterCapacity K s) d a b near okA okB h;
+        before = same-by-clock (λ T K s. beforeCapacity K s) d a b near okA okB h;
+        capacity = same-by-clock (λ T K s. checkCapacity K s) d a b near okA okB h;
+        after = same-by-clock (λ T K s. afterCapacity K s) d a b near okA okB h;
       }
 
   far-parts : far d ≡ true → SameParts a b

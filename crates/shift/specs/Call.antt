@@ -101,7 +101,7 @@ pub record SameCalls (a b : List ℤ) (n m : ℕ) (after after′ : List ℤ) : 
 
 module _ (refusal : List ℤ → ℕ → Option Refusal) where
   -- of two sheets: the definition's findings are equal, and any two calls that accept, whatever space each was lent, have written the same
-  pub record Unmoved (a b : List ℤ) : Type 0 where
+  pub record SameOutcome (a b : List ℤ) : Type 0 where
     pub findings : findings a ≡ findings b
     pub calls : (before before′ after after′ : List ℤ) (n m : ℕ)
         → Checked refusal a before (accepted n) after
@@ -110,4 +110,4 @@ module _ (refusal : List ℤ → ℕ → Option Refusal) where
 
   -- for every two accepted sheets of which the second is the first with d added to every instant, d any whole number
   abbrev pub Demand3 : Type 0
-  Demand3 = (d : ℤ) (a b : List ℤ) → InClass a → InClass b → Shifted d a b → Unmoved a b
+  Demand3 = (d : ℤ) (a b : List ℤ) → InClass a → InClass b → Shifted d a b → SameOutcome a b
