@@ -1,7 +1,7 @@
 -- A sheet without bookings, time-only spans and time windows: no finding looks at an instant. Checks 1, 3 and 5 to 9 find nothing, check 2 finds
 -- the activities that hold no resource, and check 4 the requirements; both are worked out of the sheet's numbers alone. Assumes nothing.
 use Prim.Native.Nat.{ℕ}
-use mathlib.Core.Path.{_≡_, refl, sym, _∙_, ap, ap₂}
+use mathlib.Core.Path.{_≡_, refl, _∙_, ap, ap₂}
 use mathlib.Core.Bool.{Bool, true, false, cond, not, _&&_}
 use mathlib.Core.List.{List, [], _∷_, _++_, append-nil}
 use mathlib.Core.Option.{Option, none, some}
@@ -18,22 +18,7 @@ use Rattle.model.specs.Task.{Task, tasks}
 use Rattle.model.specs.Activity.{Activity, Split, ResourceRequirement, split, predecessors, activitiesOf, requirements, requirementAt, namedFor, isCandidate}
 use Rattle.model.specs.Resource.{resourceAt, resources, listed}
 use Rattle.model.specs.Constraint.{Constraint, precedence, capacity, timeWindow, noOverlap, synchronize, constraintAt, constraints, members}
-use Rattle.model.specs.Schedule.{
-  Assignment,
-  assignmentAt,
-  assignmentsBelow,
-  assignments,
-  assignmentsForActivityAll,
-  spanAt,
-  timeOnlyBelow,
-  timeOnly,
-  timeOnlyForActivity,
-  latest,
-  earliest,
-  taskCompletionTime,
-  timeWindowViolation,
-  synchronizeViolation,
-}
+use Rattle.model.specs.Schedule.{assignmentAt, assignmentsBelow, assignments, assignmentsForActivityAll, spanAt, timeOnlyBelow, timeOnly, timeOnlyForActivity, latest, earliest, taskCompletionTime, timeWindowViolation, synchronizeViolation}
 use Rattle.checks.specs.ActivitySpan.{activitySpan}
 use Rattle.checks.specs.CheckAssignments.{checkAssignmentAt, checkAssignments}
 use Rattle.checks.specs.CheckTimeOnly.{seen, checkSpanAt, checkUnplaced, checkTimeOnly}

@@ -1,18 +1,17 @@
 -- Demand 3, as any two calls write it. Assumes nothing.
-use Prim.Native.Nat.{ℕ, zero, suc, _+_, _*_, _/_, _≤_}
+use Prim.Native.Nat.{ℕ, _+_, _*_, _/_, _≤_}
 use mathlib.Core.Path.{_≡_, refl, sym, _∙_, ap, subst}
 use mathlib.Core.Bool.{Bool, true, false, cond, _&&_, false≢true}
 use mathlib.Core.List.{List, [], _∷_, _++_}
 use mathlib.Core.Option.{Option, none, some}
-use lib.ListN.{length, take, drop, length-append}
+use lib.ListN.{length, take, length-append}
 use lib.Seq.{take-at}
 use native.Mathlib.Omega.{arith}
 use lib.Dec.{eqb}
 use borrow.Author.Tests.{eqb-true, eq-eqb}
 use lib.IntN.{ℤ, pos}
 use lib.Signed.{ltZ}
-use Rattle.loops.specs.Lists.{given, countOf, allOf, anyOf, each}
-use Rattle.loops.specs.Range.{collect}
+use Rattle.loops.specs.Lists.{given, countOf, allOf, anyOf}
 use Rattle.loops.proofs.PartLaws.{all-each, all-collect}
 use Rattle.calendar.specs.Clock.{Clock, clock}
 use Rattle.findings.specs.declared.Violation.{Violation}
@@ -22,7 +21,7 @@ use Rattle.model.specs.Schedule.{Assignment, assignmentAt, assignmentsBelow, ca
 use Rattle.checks.specs.CheckCapacity.{capOf, peak, checkResource, checkFirstBooking, checkCapacityAt, checkCapacity}
 use Rattle.checks.specs.CheckSchedule.{beforeCapacity, afterCapacity, checkSchedule, findings}
 use Rattle.shift.specs.Shift.{Shifted, InClass}
-use Rattle.shift.specs.Call.{Answer, accepted, refused, Refusal, sameLine, AsOften, Listed, Written, Refused, Ended, Checked, isCapacity, SameFindings, SameCalls, SameOutcome, Demand3}
+use Rattle.shift.specs.Call.{accepted, refused, Refusal, sameLine, AsOften, Listed, Written, Ended, Checked, isCapacity, SameFindings, SameCalls, Demand3}
 use Rattle.shift.proofs.Shift.{SameParts, same-parts, same-findings}
 
 -- ---- check 5's lines

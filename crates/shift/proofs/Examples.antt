@@ -1,5 +1,5 @@
 -- The twelve examples, by computation. Assumes nothing.
-use mathlib.Core.Path.{_≡_, refl}
+use mathlib.Core.Path.{refl}
 use lib.Ieee.{ofBits, ofInt, mul, div}
 use Rattle.loops.specs.Lists.{keep, anyOf, allOf, each}
 use Rattle.loops.specs.Range.{collect}

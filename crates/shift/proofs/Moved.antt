@@ -1,15 +1,14 @@
 -- Two accepted sheets, the second the first with d added to every instant. Unless d is below -4,000,000,000,000 no instant becomes the number that
 -- stands for none, and the second typed sheet is the first with every instant moved by d. Else no row has a column t, and the two sheets have the
 -- same numbers. Assumes nothing.
-use Prim.Native.Nat.{ℕ, zero, suc, _-_, _/_, _≤_, _<_}
+use Prim.Native.Nat.{ℕ, suc, _-_, _/_, _<_}
 use mathlib.Core.Path.{_≡_, refl, sym, _∙_, ap, subst}
 use mathlib.Core.Bool.{Bool, true, false, cond, _&&_, _||_, false≢true}
 use mathlib.Core.List.{List}
 use native.Mathlib.Omega.{arith}
 use lib.IntN.{ℤ, pos, negsuc, _+ℤ_}
-use lib.Signed.{leZ}
 use lib.Dec.{T, eqb, ltb, leb, eqb→eq}
-use borrow.Author.Tests.{ltb-true, ltb-false, leb-true, leb-false}
+use borrow.Author.Tests.{ltb-false, leb-true, leb-false}
 use Rattle.loops.specs.Numbers.{toNat}
 use Rattle.rows.specs.Class.{Class, blank-c, kind-c, id-c, n-c, u-c, t-c, m-c, g-c, f-c, share-c, speed-c, n?-c, t?-c, m?-c, task-c, activity-c, resource-c, requirement-c, constraint-c}
 use Rattle.rows.specs.Table.{classOf}

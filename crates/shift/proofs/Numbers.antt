@@ -5,10 +5,9 @@ use mathlib.Core.Bool.{Bool, true, false, cond}
 use mathlib.Core.List.{List, [], _∷_, _++_}
 use lib.Dec.{eqb}
 use Rattle.loops.specs.Lists.{each}
-use Rattle.loops.specs.Range.{collect}
 use Rattle.loops.proofs.ListLaws.{each-collect, each-keep}
 use Rattle.loops.proofs.RangeLaws.{collect-ext}
-use Rattle.model.specs.Sheet.{Sheet, Cell, number, asInt, isKind}
+use Rattle.model.specs.Sheet.{Sheet, number, asInt, isKind}
 use Rattle.model.specs.Task.{Task, taskAt, tasks}
 use Rattle.model.specs.Activity.{Activity, activityAt, activities, activitiesOf}
 

@@ -1,19 +1,15 @@
 -- Two sheets of which the second is the first with a whole number of milliseconds added to every instant have the same findings, whatever the number.
 -- Assumes nothing.
-use Prim.Native.Nat.{ℕ}
-use mathlib.Core.Path.{_≡_, refl, sym, _∙_, ap, ap₂}
+use mathlib.Core.Path.{_≡_, refl, sym, _∙_, ap}
 use mathlib.Core.Bool.{Bool, true, false}
-use mathlib.Core.List.{List, [], _++_}
+use mathlib.Core.List.{List, _++_}
 use lib.IntN.{ℤ}
 use Rattle.calendar.specs.Clock.{Clock, clock}
-use Rattle.calendar.specs.Moves.{by}
 use Rattle.calendar.proofs.Moving.{unmoved}
-use Rattle.findings.specs.declared.Violation.{Violation}
 use Rattle.model.specs.Sheet.{Sheet, sheet}
 use Rattle.checks.specs.CheckCapacity.{checkCapacity}
 use Rattle.checks.specs.CheckSchedule.{beforeCapacity, afterCapacity, checkSchedule, findings}
 use Rattle.shift.specs.Shift.{Shifted, InClass}
-use Rattle.shift.proofs.Numbers.{numbers}
 use Rattle.shift.proofs.Bare.{Bare, found, same-found, none5, none-after, only-before}
 use Rattle.shift.proofs.Moved.{far, moving, sheet-moved, numbers-same, bare, bare′}
 

@@ -3,7 +3,7 @@ use Prim.Native.Nat.{ℕ}
 use mathlib.Core.Path.{_≡_}
 use mathlib.Core.Bool.{true, false}
 use mathlib.Core.List.{List, [], _∷_, _++_}
-use mathlib.Core.Option.{Option, some}
+use mathlib.Core.Option.{some}
 use lib.IntN.{ℤ, pos, negsuc}
 use lib.Ieee.{Float, binary64, ofBits}
 use Rattle.calendar.specs.Clock.{clock}
