@@ -1,5 +1,6 @@
 pub mod ChainLaws
 pub mod ListLaws
+pub mod PartLaws
 pub mod PlaceLaws
 pub mod RangeLaws
 pub mod SearchLaws

@@ -10,6 +10,6 @@ use Rattle.sheet.specs.Index.{Kinds, Linked, Owned}
 pub record Indexed (rows : List ℤ) (kinds links owned : List ℕ) : Type 0 where
   -- refusals 1 to 5 do not refuse it
   pub accepted : refusalOf rows ≡ none
-  pub kinds : Kinds rows kinds
-  pub links : Linked rows links
-  pub owned : Owned rows owned
+  pub by-kind : Kinds rows kinds
+  pub linked : Linked rows links
+  pub by-owner : Owned rows owned

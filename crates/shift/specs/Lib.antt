@@ -1,0 +1,3 @@
+pub mod Call
+pub mod Examples
+pub mod Shift
