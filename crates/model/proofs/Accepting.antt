@@ -1,0 +1,208 @@
+-- What a sheet has that refusals 1 to 5 do not refuse: at most 800 rows, each number in the class of its column, every owner, no id twice. Assumes nothing.
+use Prim.Native.Nat.{ℕ, zero, suc, _+_, _*_, _/_, _%_, _<_, _≤_}
+use mathlib.Core.Path.{_≡_, refl, ap, sym, _∙_}
+use mathlib.Core.Bool.{Bool, true, false, not, _&&_, _||_, true≢false}
+use mathlib.Core.List.{List}
+use mathlib.Core.Option.{Option, none, some}
+use native.Mathlib.Omega.{arith}
+use native.Mathlib.Decide.{decLt}
+use borrow.Author.Tests.{ltb-false, not-false, ne-eqb, eqb-true, eq-eqb, leb-true}
+use lib.IntN.{ℤ, pos, negsuc}
+use lib.Signed.{leZ}
+use lib.Dec.{eqb, ltb, leb}
+use lib.ListN.{length}
+use Rattle.loops.specs.Numbers.{toNat}
+use Rattle.loops.specs.Search.{orElse, first, firstPlace, anyBelow}
+use Rattle.loops.proofs.SearchLaws.{any-none}
+use Rattle.loops.proofs.PlaceLaws.{or-none-left, or-none-right, first-none, if-none, place-only}
+use Rattle.rows.specs.Cells.{rowCount, cell, num, is}
+use Rattle.rows.specs.Class.{Class, blank-c}
+use Rattle.rows.specs.Table.{classOf}
+use Rattle.rows.specs.Ranges.{within, isNone, inRange, orNone, inClass, low, high}
+use Rattle.rows.proofs.Signs.{cell-past, cell-wide}
+use Rattle.rows.proofs.Tables.{class-wide}
+use Rattle.sheet.specs.Places.{named, placeOf}
+use Rattle.sheet.specs.Refusals.{Refusal, refuse, misshapen, knownKind, badCell, halfPart, outOfRange, absentAt, lacks, unowned, group, paired, sameAt, again, repeated, columnFault, ownerFault, repeatFault, refusalOf}
+use Rattle.sheet.specs.Accepted.{Accepted}
+use Rattle.sheet.proofs.Lookups.{and-left, and-right, is-num}
+
+or-false-left : (a b : Bool) → (a || b) ≡ false → a ≡ false
+or-false-left true b e = e
+or-false-left false b e = refl
+
+or-false-right : (a b : Bool) → (a || b) ≡ false → b ≡ false
+or-false-right true b e = absurd (true≢false e)
+or-false-right false b e = e
+
+record Passed (rows : List ℤ) : Type 0 where
+  shape : misshapen (length rows) ≡ false
+  columns : (k : ℕ) → k < rowCount rows → columnFault rows k ≡ none
+  owners : (k : ℕ) → k < rowCount rows → ownerFault rows k ≡ none
+  repeats : (k : ℕ) → k < rowCount rows → repeatFault rows k ≡ none
+
+passed : (rows : List ℤ) → refusalOf rows ≡ none → Passed rows
+unfolding refusalOf
+passed rows h =
+    let a : Option Refusal = refuse (misshapen (length rows)) 1 0 in
+    let b : Option Refusal = first (columnFault rows) (rowCount rows) in
+    let d : Option Refusal = first (ownerFault rows) (rowCount rows) in
+    let e : Option Refusal = first (repeatFault rows) (rowCount rows) in
+    let h₁ : orElse b (orElse d e) ≡ none = or-none-right a (orElse b (orElse d e)) h in
+    let h₂ : orElse d e ≡ none = or-none-right b (orElse d e) h₁ in
+    record {
+      shape = if-none (misshapen (length rows)) _ (or-none-left a (orElse b (orElse d e)) h);
+      columns = first-none (columnFault rows) (rowCount rows) (or-none-left b (orElse d e) h₁);
+      owners = first-none (ownerFault rows) (rowCount rows) (or-none-left d e h₂);
+      repeats = first-none (repeatFault rows) (rowCount rows) (or-none-right d e h₂);
+    }
+
+-- past the last row all is 0
+blank-zero : (c : ℕ) → inClass (classOf 0 c) (pos 0) ≡ true
+unfolding inClass inRange within
+blank-zero zero = refl
+blank-zero (suc c) = refl
+
+blank-wide : inClass blank-c (pos 0) ≡ true
+unfolding inClass inRange within
+blank-wide = refl
+
+module _ (rows : List ℤ) (p : Passed rows) where
+  whole : (length rows % 10 ≡ 0) × (length rows ≤ 8000)
+  unfolding misshapen
+  whole = (
+    eqb-true _ 0 (not-false _ (or-false-left (not (eqb (length rows % 10) 0)) (ltb 8000 (length rows)) (p .shape))),
+    ltb-false 8000 _ (or-false-right (not (eqb (length rows % 10) 0)) (ltb 8000 (length rows)) (p .shape)),
+  )
+
+  past : (k c : ℕ) → rowCount rows ≤ k → length rows ≤ k * 10 + c
+  past k c h = omega (arith, whole .0)
+
+  known : (k : ℕ) → k < rowCount rows → knownKind rows k ≡ true
+  unfolding columnFault
+  known k h = not-false _ (if-none (not (knownKind rows k)) _ (or-none-left (refuse (not (knownKind rows k)) 2 k) (refuse (outOfRange rows k) 3 k) (p .columns k h)))
+
+  in-order : (k : ℕ) → k < rowCount rows → outOfRange rows k ≡ false
+  unfolding columnFault
+  in-order k h = if-none (outOfRange rows k) _ (or-none-right (refuse (not (knownKind rows k)) 2 k) (refuse (outOfRange rows k) 3 k) (p .columns k h))
+
+  cells-in : (k c : ℕ) → k < rowCount rows → c < 10 → inClass (classOf (num rows k 0) c) (cell rows k c) ≡ true
+  unfolding outOfRange badCell
+  cells-in k c h l = not-false _ (any-none (badCell rows k) 10 c (or-false-left (anyBelow (badCell rows k) 10) (halfPart rows k) (in-order k h)) l)
+
+  cells : (k c : ℕ) → inClass (classOf (num rows k 0) c) (cell rows k c) ≡ true
+  cells k c = go (decLt k (rowCount rows)) (decLt c 10)
+    where
+      go : Dec (k < rowCount rows) → Dec (c < 10) → inClass (classOf (num rows k 0) c) (cell rows k c) ≡ true
+      go (yes h) (yes l) = cells-in k c h l
+      go (no h) (yes l) = rw (← cell-past rows k 0 (past k 0 (omega arith)), ← cell-past rows k c (past k c (omega arith))) (blank-zero c)
+      go d (no l) = rw (← cell-wide rows k c (omega arith), class-wide (num rows k 0) c (omega arith)) blank-wide
+
+  whole-parts : (k : ℕ) → k < rowCount rows → halfPart rows k ≡ false
+  unfolding outOfRange
+  whole-parts k h = or-false-right (anyBelow (badCell rows k) 10) (halfPart rows k) (in-order k h)
+
+  owned-in : (k c : ℕ) → k < rowCount rows → c < 10 → absentAt rows k c ≡ false
+  unfolding ownerFault unowned
+  owned-in k c h l = any-none (absentAt rows k) 10 c (if-none (anyBelow (absentAt rows k) 10) _ (p .owners k h)) l
+
+  owned : (k c : ℕ) → k < rowCount rows → absentAt rows k c ≡ false
+  owned k c h = go (decLt c 10)
+    where
+      wide : (x : Class) → x ≡ blank-c → lacks x rows k c ≡ false
+      wide x e = rw e (unfold lacks in refl)
+
+      go : Dec (c < 10) → absentAt rows k c ≡ false
+      go (yes l) = owned-in k c h l
+      go (no l) = unfold absentAt in wide (classOf (num rows k 0) c) (class-wide (num rows k 0) c (omega arith))
+
+  never-again : (k j : ℕ) → k < rowCount rows → j < k → (group (num rows k 0) ≡ 0 → ⊥) → again rows k j ≡ false
+  unfolding repeatFault repeated
+  never-again k j h l g = any-none (again rows k) k j (rw (ne-eqb _ 0 g) at (if-none (repeated rows k) _ (p .repeats k h))) l
+
+pub accepted : (rows : List ℤ) → refusalOf rows ≡ none → Accepted rows
+accepted rows e =
+    let p = passed rows e in
+    record {
+      short = whole rows p .1;
+      kinds = known rows p;
+      columns = cells rows p;
+      parts = whole-parts rows p;
+      owners = owned rows p;
+      once = never-again rows p;
+    }
+
+-- a row past the last is of no kind
+pub past-kind : (rows : List ℤ) → refusalOf rows ≡ none → (k x : ℕ) → is rows k 0 x ≡ true → 0 < x → k < rowCount rows
+past-kind rows e k x h l = go (decLt k (rowCount rows))
+  where
+    go : Dec (k < rowCount rows) → k < rowCount rows
+    go (yes m) = m
+    go (no m) =
+        let z : pos 0 ≡ cell rows k 0 = cell-past rows k 0 (past rows (passed rows e) k 0 (omega arith)) in
+        let n : num rows k 0 ≡ x = is-num rows k 0 x h in
+        let w : 0 ≡ num rows k 0 = ap toNat z in
+        absurd (omega arith)
+
+-- ---- how large a column is
+
+below-high : (x h : ℤ) → leZ x h ≡ true → toNat x ≤ toNat h
+below-high (pos n) (pos m) e = leb-true n m e
+below-high (pos n) (negsuc m) e = absurd (true≢false (sym e))
+below-high (negsuc n) (pos m) e = omega arith
+below-high (negsuc n) (negsuc m) e = omega arith
+
+none-nat : (x : ℤ) → isNone x ≡ true → toNat x ≡ 0
+unfolding isNone within
+none-nat (pos n) e = absurd (true≢false (sym e))
+none-nat (negsuc n) e = refl
+
+top-of : (cl : Class) (x : ℤ) → inClass cl x ≡ true → toNat x ≤ toNat (high cl)
+unfolding inClass inRange within
+top-of cl x e = go (inRange cl x) refl
+  where
+    go : (b : Bool) → inRange cl x ≡ b → toNat x ≤ toNat (high cl)
+    go true q = below-high x (high cl) (and-right (leZ (low cl) x) (leZ x (high cl)) q)
+    go false q = omega (arith, none-nat x (and-right (orNone cl) (isNone x) (rw q at e)))
+
+module _ (rows : List ℤ) (a : Accepted rows) where
+  -- at a literal kind and column the class computes
+  pub in-class : (k kind c : ℕ) → is rows k 0 kind ≡ true → inClass (classOf kind c) (cell rows k c) ≡ true
+  in-class k kind c e = rw (is-num rows k 0 kind e) at (a .columns k c)
+
+  -- and so does the bound: none counts as 0
+  pub at-most : (k kind c : ℕ) → is rows k 0 kind ≡ true → num rows k c ≤ toNat (high (classOf kind c))
+  at-most k kind c e = top-of (classOf kind c) (cell rows k c) (in-class k kind c e)
+
+  -- the owner that a column names is there
+  pub has-owner : (k kind c : ℕ) → k < rowCount rows → is rows k 0 kind ≡ true → lacks (classOf kind c) rows k c ≡ false
+  unfolding absentAt
+  has-owner k kind c h e = rw (is-num rows k 0 kind e) at (a .owners k c h)
+
+  -- an id stands once: rows of one kind, that may not repeat, with the same first column are one row
+  later : (k j kind : ℕ) → k < rowCount rows → j < k → (group kind ≡ 0 → ⊥) → paired (group kind) ≡ false → is rows k 0 kind ≡ true → is rows j 0 kind ≡ true
+      → is rows j 1 (num rows k 1) ≡ true → ⊥
+  unfolding again sameAt
+  later k j kind h l g p ek ej s =
+      true≢false
+      (rw (is-num rows k 0 kind ek, is-num rows j 0 kind ej, eq-eqb (group kind) (group kind) refl, s, p) at
+      (a .once k j h l (λ z. g (ap group (sym (is-num rows k 0 kind ek)) ∙ z))))
+
+  pub one-row : (k j kind : ℕ) → k < rowCount rows → j < rowCount rows → (group kind ≡ 0 → ⊥) → paired (group kind) ≡ false → is rows k 0 kind ≡ true
+      → is rows j 0 kind ≡ true → num rows k 1 ≡ num rows j 1 → k ≡ j
+  unfolding is
+  one-row k j kind h l g p ek ej s = go (decLt j k) (decLt k j)
+    where
+      go : Dec (j < k) → Dec (k < j) → k ≡ j
+      go (yes m) y = absurd (later k j kind h m g p ek ej (eq-eqb (num rows j 1) (num rows k 1) (sym s)))
+      go (no m) (yes n) = absurd (later j k kind l n g p ej ek (eq-eqb (num rows k 1) (num rows j 1) s))
+      go (no m) (no n) = omega arith
+
+  -- so the lookup of a row's id finds the row
+  pub found-again : (k kind : ℕ) → k < rowCount rows → (group kind ≡ 0 → ⊥) → paired (group kind) ≡ false → is rows k 0 kind ≡ true
+      → placeOf rows kind (num rows k 1) ≡ some k
+  unfolding placeOf named is
+  found-again k kind h g p e =
+      place-only (named rows kind (num rows k 1)) (rowCount rows) k h (rw (e, eq-eqb (num rows k 1) (num rows k 1) refl))
+      (λ j l m. sym
+      (one-row k j kind h l g p e (and-left (is rows j 0 kind) (is rows j 1 (num rows k 1)) m)
+      (sym (eqb-true (num rows j 1) (num rows k 1) (and-right (is rows j 0 kind) (is rows j 1 (num rows k 1)) m)))))

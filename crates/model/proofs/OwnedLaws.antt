@@ -1,0 +1,74 @@
+-- The rows that belong to a row are those that name its id: to walk the owner's chain is to scan by id. Assumes nothing.
+use Prim.Native.Nat.{ℕ, suc, _<_, _≤_}
+use mathlib.Core.Path.{_≡_, refl, ap, sym, _∙_}
+use mathlib.Core.Bool.{Bool, true, false, _&&_, true≢false}
+use mathlib.Core.List.{List}
+use mathlib.Core.Option.{Option, none, some}
+use native.Mathlib.Omega.{arith}
+use native.Mathlib.Decide.{ℕ-discrete}
+use borrow.Author.Tests.{eqb-true, eq-eqb, ne-eqb}
+use lib.Dec.{eqb}
+use lib.IntN.{ℤ}
+use lib.ListN.{getD}
+use Rattle.rows.specs.Cells.{rowCount, num, is}
+use Rattle.sheet.specs.Places.{placeOf}
+use Rattle.sheet.specs.Index.{ownerKind, ownerOf, ownerPlace, orEnd, ownPlace, ownedBy, resPlace}
+use Rattle.sheet.proofs.Lookups.{and-left, and-right, is-num, num-is, Named, placed}
+
+module _ (rows : List ℤ) where
+  some-is : {j k : ℕ} → _≡_ {A = Option ℕ} (some j) (some k) → j ≡ k
+  some-is e = cc
+
+  -- the place that a number stands for is that of the id's row
+  same-place : (y id v a : ℕ) → placeOf rows y id ≡ some a → eqb (orEnd rows (placeOf rows y v)) a ≡ eqb v id
+  same-place y id v a q = go (ℕ-discrete v id)
+    where
+      n : Named rows y id a
+      n = placed rows y id a q
+
+      apart : (x : Option ℕ) → placeOf rows y v ≡ x → (v ≡ id → ⊥) → eqb (orEnd rows x) a ≡ false
+      apart none e d = unfold orEnd in ne-eqb (rowCount rows) a (λ z. omega (arith, n .within))
+      apart (some j) e d =
+          unfold orEnd in ne-eqb j a (λ z. d (sym (placed rows y v j e .id-is) ∙ ap (λ i. num rows i 1) z ∙ n .id-is))
+
+      go : Dec (v ≡ id) → eqb (orEnd rows (placeOf rows y v)) a ≡ eqb v id
+      go (yes e) = rw (e, q, eq-eqb id id refl) (unfold orEnd in eq-eqb a a refl)
+      go (no d) = apart (placeOf rows y v) refl d ∙ sym (ne-eqb v id d)
+
+  -- rows of kind x belong to the row of kind y that their column c names
+  module _ (x y c : ℕ) (owns : (k : ℕ) → is rows k 0 x ≡ true → ownPlace rows k ≡ orEnd rows (placeOf rows y (num rows k c))) where
+    owned-by : (a id : ℕ) → placeOf rows y id ≡ some a → (k : ℕ) → ownedBy rows a x k ≡ (is rows k 0 x && is rows k c id)
+    unfolding ownedBy
+    owned-by a id q k = go (is rows k 0 x) refl
+      where
+        go : (b : Bool) → is rows k 0 x ≡ b → (is rows k 0 x && eqb (ownPlace rows k) a) ≡ (is rows k 0 x && is rows k c id)
+        go true e = rw (e, owns k e) (unfold is in same-place y id (num rows k c) a q)
+        go false e = rw e
+
+  owns-at : (x y k : ℕ) → ownerKind x ≡ y → is rows k 0 x ≡ true → ownPlace rows k ≡ orEnd rows (ownerOf rows y k)
+  unfolding ownPlace ownerPlace
+  owns-at x y k o e = rw (is-num rows k 0 x e, o)
+
+  -- rows of an activity: overlap 3, split 4, requirement 5, predecessor 8, speed 9, fixed timing 10, window 16, booking 23, span 24
+  pub of-activity : (x a id : ℕ) → ownerKind x ≡ 2 → placeOf rows 2 id ≡ some a → (k : ℕ) → ownedBy rows a x k ≡ (is rows k 0 x && is rows k 1 id)
+  unfolding ownerOf
+  of-activity x a id o q k = owned-by x 2 1 (λ j e. owns-at x 2 j o e) a id q k
+
+  -- rows of a resource: skill 12, companion 13, transport 14, window 15
+  pub of-resource : (x a id : ℕ) → ownerKind x ≡ 11 → placeOf rows 11 id ≡ some a → (k : ℕ) → ownedBy rows a x k ≡ (is rows k 0 x && is rows k 1 id)
+  unfolding ownerOf
+  of-resource x a id o q k = owned-by x 11 1 (λ j e. owns-at x 11 j o e) a id q k
+
+  -- activities of a task
+  pub of-task : (x a id : ℕ) → ownerKind x ≡ 1 → placeOf rows 1 id ≡ some a → (k : ℕ) → ownedBy rows a x k ≡ (is rows k 0 x && is rows k 2 id)
+  unfolding ownerOf
+  of-task x a id o q k = owned-by x 1 2 (λ j e. owns-at x 1 j o e) a id q k
+
+  -- the owner of a booking or span, and the resource of a booking: what the lookup by id finds
+  pub own-activity : (x k : ℕ) → ownerKind x ≡ 2 → is rows k 0 x ≡ true → ownPlace rows k ≡ orEnd rows (placeOf rows 2 (num rows k 1))
+  unfolding ownerOf
+  own-activity x k o e = owns-at x 2 k o e
+
+  pub own-resource : (k : ℕ) → is rows k 0 23 ≡ true → resPlace rows k ≡ orEnd rows (placeOf rows 11 (num rows k 3))
+  unfolding resPlace
+  own-resource k e = rw e
