@@ -16,8 +16,11 @@ ghost use Rattle.pieces.specs.Held.{heldAt, Held};
 pub fn index_key(x: i64) -> u64
     ensures { λ r. ⌜ r ≡ indexKey x ⌝ }
 {
+    if x < -1000000 {
+        return 0;
+    }
     if x < 0 {
-        return rows::nat(x + 1000001);
+        return (x + 1000001) as u64;
     }
     x as u64 + 1000001
 }
