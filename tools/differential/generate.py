@@ -850,7 +850,7 @@ def damage(rng, numbers):
         return flat(rows)
     else:
         return numbers[rng.randrange(len(numbers)) :] + numbers[: rng.randrange(10)]
-    rows[at] = r
+    rows[at] = [max(-(2**63), min(2**63 - 1, x)) for x in r]  # what a row can hold
     return flat(rows)
 
 
