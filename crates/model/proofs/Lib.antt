@@ -1,3 +1,4 @@
 pub mod Accepting
 pub mod OwnedLaws
 pub mod RowLaws
+pub mod Standing
