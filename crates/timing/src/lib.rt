@@ -85,7 +85,7 @@ impl ActivityDuration {
     }
 
     // The duration where its total is below 2^53.
-    pub fn derived(self) -> Derived
+    fn derived(self) -> Derived
         ensures { λ r. ⌜ r ≡ within (some self) ⌝ }
     {
         let total = self.total_ms();
@@ -96,7 +96,7 @@ impl ActivityDuration {
     }
 
     // The duration with its processing divided by a product of speeds; a product of 1.0 changes nothing.
-    pub fn at_speed(self, speed: f64) -> Derived
+    fn at_speed(self, speed: f64) -> Derived
         ensures { λ r. ⌜ r ≡ within (atSpeed self speed) ⌝ }
     {
         if speed == 1.0 {
@@ -122,7 +122,7 @@ impl ActivityDuration {
 
 impl Derived {
     // The total, of a duration that is known only so far as it is below 2^53.
-    pub fn total_ms(self) -> Time
+    fn total_ms(self) -> Time
         ensures { λ r. ⌜ ((d : ActivityDuration) → self ≡ within (some d) → r ≡ limited (some (totalMs d))) ⌝ }
     {
         match self {
@@ -132,7 +132,7 @@ impl Derived {
     }
 
     // The duration of greater total, the first of two equal ones.
-    pub fn longer(self, next: Derived) -> Derived
+    fn longer(self, next: Derived) -> Derived
         ensures { λ r. ⌜ ((f d : ActivityDuration) → self ≡ within (some f) → next ≡ within (some d) → r ≡ within (some (longest (some f) d))) ⌝ }
     {
         let Time::Ms(standing) = self.total_ms() else {
@@ -200,7 +200,7 @@ impl Piece {
     }
 
     // A resource's own duration for the activity, as the piece has it.
-    pub fn fixed(self, d: ActivityDuration) -> Derived
+    fn fixed(self, d: ActivityDuration) -> Derived
         requires { ⌜ PieceAmounts self × Amounts d ⌝ }
         ensures { λ r. ⌜ r ≡ within (some (pieceFixed self d)) ⌝ }
     {
@@ -213,7 +213,7 @@ impl Piece {
 
 impl Fixed {
     // One fixed duration more.
-    pub fn with(self, d: Derived) -> Fixed
+    fn with(self, d: Derived) -> Fixed
         ensures { λ r. ⌜ ((f : Option ActivityDuration) (e : ActivityDuration) → self ≡ standing f → d ≡ within (some e) → r ≡ standing (some (longest f e))) ⌝ }
     {
         match self {

@@ -26,10 +26,10 @@ enum-told : tie.Need-enum-told
 enum-told c = search needs
 
 returns : tie.Need-returns
-returns c = (c .derived .ensures) ∙ ap (λ x. within (some x)) ((c .before .in-part .ensures) ∙ ap (λ n. inPart ((c .before .before .before .before .before .before .args .d)) n ((c .before .before .before .before .before .before .args .p))) (limited-below _ _ (sym ((c .before .before .before .process .given .1)) ∙ (c .before .before .before .before .before .share .ensures)) .0))
+returns c = (c .derived .ensures) ∙ ap (λ x. within (some x)) ((c .before .in-part .ensures) ∙ ap (λ n. inPart ((c .before .before .before .before .before .before .args .d)) n ((c .before .before .before .before .before .before .args .p))) (limited-below _ _ (sym (c .before .before .before .process .given .1) ∙ (c .before .before .before .before .before .share .ensures)) .0))
 
 returns-2 : tie.Need-returns-2
-returns-2 c = let l = limited-large _ (sym ((c .enum-told .given .1)) ∙ (c .before .before .share .ensures)) in within-beyond _ (omega arith)
+returns-2 c = let l = limited-large _ (sym (c .enum-told .given .1) ∙ (c .before .before .share .ensures)) in within-beyond _ (omega arith)
 
 pub fixed-in-part-spec : {M : Type 1} → statement M
 fixed-in-part-spec =

@@ -27,11 +27,11 @@ enum-told c = search needs
 
 returns-2 : tie.Need-returns-2
 unfolding ofBits
-returns-2 c = (c .derived2 .ensures) ∙ at-other _ _ _ (c .before .before .before .before .before .if1 .left) (sym ((c .before .before .divided2 .given .1)) ∙ (c .before .before .before .before .divided .ensures))
+returns-2 c = (c .derived2 .ensures) ∙ at-other _ _ _ (c .before .before .before .before .before .if1 .left) (sym (c .before .before .divided2 .given .1) ∙ (c .before .before .before .before .divided .ensures))
 
 returns-3 : tie.Need-returns-3
 unfolding ofBits
-returns-3 c = at-large _ _ (c .before .before .before .if1 .left) (sym ((c .enum-told .given .1)) ∙ (c .before .before .divided .ensures))
+returns-3 c = at-large _ _ (c .before .before .before .if1 .left) (sym (c .enum-told .given .1) ∙ (c .before .before .divided .ensures))
 
 pub at-speed-spec : {M : Type 1} → statement M
 at-speed-spec =

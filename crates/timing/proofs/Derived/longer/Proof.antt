@@ -16,7 +16,7 @@ enum-told : tie.Need-enum-told
 enum-told c = search needs
 
 returns : tie.Need-returns
-returns c = λ f d h k. longer-first f d (limited-large _ (sym ((c .enum-told .given .1)) ∙ (c .before .before .total-ms .ensures) f h))
+returns c = λ f d h k. longer-first f d (limited-large _ (sym (c .enum-told .given .1) ∙ (c .before .before .total-ms .ensures) f h))
 
 total-ms-requires-2 : tie.Need-total-ms-requires-2
 total-ms-requires-2 c κs = search needs
@@ -28,13 +28,13 @@ enum-told-2 : tie.Need-enum-told-2
 enum-told-2 c = search needs
 
 returns-2 : tie.Need-returns-2
-returns-2 c = λ f d h k. longer-next f d (limited-below _ _ (sym ((c .before .before .before .before .standing .given .1)) ∙ (c .before .before .before .before .before .before .total-ms .ensures) f h) .1) (limited-large _ (sym ((c .enum-told2 .given .1)) ∙ (c .before .before .total-ms2 .ensures) d k))
+returns-2 c = λ f d h k. longer-next f d (limited-below _ _ (sym (c .before .before .before .before .standing .given .1) ∙ (c .before .before .before .before .before .before .total-ms .ensures) f h) .1) (limited-large _ (sym (c .enum-told2 .given .1) ∙ (c .before .before .total-ms2 .ensures) d k))
 
 returns-3 : tie.Need-returns-3
-returns-3 c = λ f d h k. k ∙ longer-is-next f d (both (limited-below _ _ (sym ((c .before .before .before .before .before .before .standing .given .1)) ∙ (c .before .before .before .before .before .before .before .before .total-ms .ensures) f h) .0) (limited-below _ _ (sym ((c .before .before .total .given .1)) ∙ (c .before .before .before .before .total-ms2 .ensures) d k) .0) (c .if1 .taken))
+returns-3 c = λ f d h k. k ∙ longer-is-next f d (both (limited-below _ _ (sym (c .before .before .before .before .before .before .standing .given .1) ∙ (c .before .before .before .before .before .before .before .before .total-ms .ensures) f h) .0) (limited-below _ _ (sym (c .before .before .total .given .1) ∙ (c .before .before .before .before .total-ms2 .ensures) d k) .0) (c .if1 .taken))
 
 returns-4 : tie.Need-returns-4
-returns-4 c = λ f d h k. h ∙ longer-is-first f d (both-le (limited-below _ _ (sym ((c .before .before .before .before .before .before .standing .given .1)) ∙ (c .before .before .before .before .before .before .before .before .total-ms .ensures) f h) .0) (limited-below _ _ (sym ((c .before .before .total .given .1)) ∙ (c .before .before .before .before .total-ms2 .ensures) d k) .0) (c .if1 .left))
+returns-4 c = λ f d h k. h ∙ longer-is-first f d (both-le (limited-below _ _ (sym (c .before .before .before .before .before .before .standing .given .1) ∙ (c .before .before .before .before .before .before .before .before .total-ms .ensures) f h) .0) (limited-below _ _ (sym (c .before .before .total .given .1) ∙ (c .before .before .before .before .total-ms2 .ensures) d k) .0) (c .if1 .left))
 
 pub longer-spec : {M : Type 1} → statement M
 longer-spec =

@@ -19,10 +19,10 @@ enum-told : tie.Need-enum-told
 enum-told c = search needs
 
 returns : tie.Need-returns
-returns c = λ d h. (c .total-ms .ensures) ∙ ap (λ x. limited (some (totalMs x))) (known-within d _ (sym ((c .before .before .self .given .1)) ∙ h))
+returns c = λ d h. (c .total-ms .ensures) ∙ ap (λ x. limited (some (totalMs x))) (known-within d _ (sym (c .before .before .self .given .1) ∙ h))
 
 returns-2 : tie.Need-returns-2
-returns-2 c = λ d h. limit-beyond _ (known-large d (sym ((c .enum-told .given .1)) ∙ h))
+returns-2 c = λ d h. limit-beyond _ (known-large d (sym (c .enum-told .given .1) ∙ h))
 
 pub total-ms-spec : {M : Type 1} → statement M
 total-ms-spec = tie.close (tie.spec enum-known-self total-ms-requires enum-told returns returns-2)

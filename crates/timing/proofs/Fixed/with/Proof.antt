@@ -16,10 +16,10 @@ longer-requires : tie.Need-longer-requires
 longer-requires c κs = search needs
 
 returns : tie.Need-returns
-returns c = λ f e h k. ap Standing (k ∙ with-nothing f e (sym ((c .enum-told .given .1)) ∙ h))
+returns c = λ f e h k. ap Standing (k ∙ with-nothing f e (sym (c .enum-told .given .1) ∙ h))
 
 returns-2 : tie.Need-returns-2
-returns-2 c = λ f e h k. ap Standing (with-standing f e _ _ (sym ((c .before .before .self .given .1)) ∙ h) (λ g q. (c .longer .ensures) g e q k))
+returns-2 c = λ f e h k. ap Standing (with-standing f e _ _ (sym (c .before .before .self .given .1) ∙ h) (λ g q. (c .longer .ensures) g e q k))
 
 pub with-spec : {M : Type 1} → statement M
 with-spec = tie.close (tie.spec enum-told enum-known-self longer-requires returns returns-2)

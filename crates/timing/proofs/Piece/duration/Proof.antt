@@ -19,7 +19,7 @@ returns : tie.Need-returns
 returns c = search needs
 
 returns-2 : tie.Need-returns-2
-returns-2 c = (c .in-part .ensures) ∙ ap (λ p. pieceDuration p (c .before .before .before .before .args .base)) (sym ((c .before .before .self .given .1)))
+returns-2 c = (c .in-part .ensures) ∙ ap (λ p. pieceDuration p (c .before .before .before .before .args .base)) (sym (c .before .before .self .given .1))
 
 pub duration-spec : {M : Type 1} → statement M
 duration-spec = tie.close (tie.spec enum-told enum-known-self in-part-requires returns returns-2)

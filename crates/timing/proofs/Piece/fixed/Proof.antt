@@ -20,10 +20,10 @@ fixed-in-part-requires : tie.Need-fixed-in-part-requires
 fixed-in-part-requires c κs = ((c .before .before .before .pre .1), subst PieceAmounts ((c .before .self .given .1)) ((c .before .before .before .pre .0)))
 
 returns : tie.Need-returns
-returns c = (c .derived .ensures) ∙ ap (λ p. within (some (pieceFixed p (c .before .before .before .args .d)))) (sym ((c .before .enum-told .given .1)))
+returns c = (c .derived .ensures) ∙ ap (λ p. within (some (pieceFixed p (c .before .before .before .args .d)))) (sym (c .before .enum-told .given .1))
 
 returns-2 : tie.Need-returns-2
-returns-2 c = (c .fixed-in-part .ensures) ∙ ap (λ p. within (some (pieceFixed p (c .before .before .before .before .args .d)))) (sym ((c .before .before .self .given .1)))
+returns-2 c = (c .fixed-in-part .ensures) ∙ ap (λ p. within (some (pieceFixed p (c .before .before .before .before .args .d)))) (sym (c .before .before .self .given .1))
 
 pub fixed-spec : {M : Type 1} → statement M
 fixed-spec =

@@ -20,10 +20,10 @@ with-requires : tie.Need-with-requires
 with-requires c κs = search needs
 
 returns : tie.Need-returns
-returns c = λ f h. rw ((c .before .timing .given .1)) (on-speed _ f _ h)
+returns c = λ f h. rw (c .before .timing .given .1) (on-speed _ f _ h)
 
 returns-2 : tie.Need-returns-2
-returns-2 c = λ f h. rw ((c .before .before .before .timing2 .given .1)) (on-fixed _ f _ _ h (c .with .ensures (f .fixed) _ (ap (λ (t : Timed). t .fixed) h) (c .before .fixed .ensures)))
+returns-2 c = λ f h. rw (c .before .before .before .timing2 .given .1) (on-fixed _ f _ _ h (c .with .ensures (f .fixed) _ (ap (λ (t : Timed). t .fixed) h) (c .before .fixed .ensures)))
 
 pub on-spec : {M : Type 1} → statement M
 on-spec =
