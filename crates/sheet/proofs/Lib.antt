@@ -1,4 +1,5 @@
 pub mod Absent
 pub mod Lookups
+pub mod Numbers
 pub mod Owning
 pub mod Tables

@@ -20,7 +20,6 @@ use Rattle.loops.proofs.SearchLaws.{count-le}
 use Rattle.rows.specs.Cells.{rowCount, num, is}
 use Rattle.sheet.specs.Places.{named, placeOf, isNth, nthPlace, isConstraint, requirementPlace, constraintPlace}
 use Rattle.sheet.specs.Index.{ownerKind, ownerOf, ownerPlace, orEnd, ownPlace, resPlace, ownedKey, Numbered, Linked}
-use Rattle.sheet.specs.Steps.{numberAt, Filling}
 use Rattle.sheet.proofs.Lookups.{is-nth, nth-at, nth-step, too-few, placed}
 
 -- ---- places are at most the number of rows
@@ -105,7 +104,7 @@ module _ (rows : List ℤ) (k seen : ℕ) (t : List ℕ) (h : Numbering rows k s
   or-none none = refl
   or-none (some y) = refl
 
-  turn : (b : Bool) (seen′ : ℕ) (t′ : List ℕ) → b ≡ p k → k < 800 → seen ≤ k → t′ ≡ numberAt t seen k b → seen′ ≡ seen + cond b 1 0
+  turn : (b : Bool) (seen′ : ℕ) (t′ : List ℕ) → b ≡ p k → k < 800 → seen ≤ k → t′ ≡ cond b (set t seen k) t → seen′ ≡ seen + cond b 1 0
       → Numbering rows (suc k) seen′ t′
   unfolding orEnd
   turn true seen′ t′ e l s q r = record {
@@ -127,7 +126,7 @@ module _ (rows : List ℤ) (k seen : ℕ) (t : List ℕ) (h : Numbering rows k s
     number = λ m z. rw (q, nth-step p m k, is-nth p m k {y = false} {b = false} (h .count) e refl) (h .number m z ∙ ap (orEnd rows) (or-none (nthPlace p m k)));
   }
 
-  pub numbering-turn : (b : Bool) (seen′ : ℕ) (t′ : List ℕ) → b ≡ p k → k < 800 → seen ≤ k → t′ ≡ numberAt t seen k b → seen′ ≡ seen + cond b 1 0
+  pub numbering-turn : (b : Bool) (seen′ : ℕ) (t′ : List ℕ) → b ≡ p k → k < 800 → seen ≤ k → t′ ≡ cond b (set t seen k) t → seen′ ≡ seen + cond b 1 0
       → Numbering rows (k + 1) seen′ t′
   numbering-turn b seen′ t′ e l s q r = rw add-one (turn b seen′ t′ e l s q r)
 
@@ -143,6 +142,12 @@ unfolding orEnd
 past-end rows m n e s l = rw (too-few (isConstraint rows) m (rowCount rows) (omega (arith, count-le (isConstraint rows) (rowCount rows)))) e
 
 -- ---- the links
+
+-- the links of the rows below k
+pub record Filling (rows : List ℤ) (k : ℕ) (t : List ℕ) : Type 0 where
+  pub size : length t ≡ 1600
+  pub own : (j : ℕ) → j < k → getD t j 0 ≡ ownPlace rows j
+  pub res : (j : ℕ) → j < k → getD t (800 + j) 0 ≡ resPlace rows j
 
 pub filling-start : (rows : List ℤ) (n : ℕ) → Filling rows 0 (replicate 1600 n)
 filling-start rows n = record { size = length-replicate {A = ℕ} 1600 n; own = λ j l. absurd (omega arith); res = λ j l. absurd (omega arith) }

@@ -10,7 +10,6 @@ ghost use Rattle.loops.specs.Chain.{First, Stands, same};
 ghost use Rattle.rows.specs.Cells.{rowCount, num, is};
 ghost use Rattle.sheet.specs.Places.{foundOf, ofKind, named, placeOf, taskPlace, activityPlace, resourcePlace, requirementPlace, isConstraint, constraintPlace};
 ghost use Rattle.sheet.specs.Index.{ownerKind, orEnd, ownPlace, resPlace, ownedBy, ownedKey, Shaped, Kinds, Numbered, Linked, Owned};
-ghost use Rattle.sheet.specs.Steps.{numberAt};
 
 // What a lookup answers.
 pub enum Found {
@@ -151,7 +150,7 @@ fn is_constraint(rows: &[i64], k: usize) -> bool
 // Row k at the next number, if it is a constraint.
 fn number_row(t: &mut [u16; 800], seen: usize, k: usize, yes: bool)
     requires { ⌜ (k < 800) × (seen ≤ k) ⌝ }
-    ensures { λ _. ⌜ now (t .exit) ≡ numberAt (now (t .entry)) seen k yes ⌝ }
+    ensures { λ _. ⌜ now (t .exit) ≡ cond yes (set (now (t .entry)) seen k) (now (t .entry)) ⌝ }
 {
     if yes {
         t[seen] = k as u16;

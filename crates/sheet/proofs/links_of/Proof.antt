@@ -1,8 +1,7 @@
 use borrow.Author.Needs.{needs}
 use Prim.Native.Nat.{ℕ, _≤_, _-_}
 use native.Mathlib.Omega.{arith}
-use Rattle.sheet.specs.Steps.{Filling}
-use Rattle.sheet.proofs.Tables.{filling-start, filling-turn, own-read, res-read}
+use Rattle.sheet.proofs.Tables.{Filling, filling-start, filling-turn, own-read, res-read}
 use Rattle.sheet.proofs.links_of.Statement.{statement}
 use Rattle.sheet.proofs.links_of.Tie as tie
 use Rattle.sheet.proofs.links_of.Reads as reads
