@@ -2,3 +2,5 @@ pub mod Accepting
 pub mod OwnedLaws
 pub mod RowLaws
 pub mod Standing
+pub mod Finds
+pub mod Requiring
