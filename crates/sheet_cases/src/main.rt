@@ -1,8 +1,9 @@
-// Replays the stored cases of texts. Each case that differs is printed by its number, and at the end how
+// Replays the stored cases of rows and texts. Each case that differs is printed by its number, and at the end how
 // many there were and how many came out as expected.
 ghost use mathlib.Core.Path.{_≡_};
 ghost use lib.ListN.{length};
 use libc::STDOUT_FILENO;
+use sheet::Verdict;
 use text::Answer;
 use text::Number;
 
@@ -212,6 +213,25 @@ fn text_case(line: &[u8], bytes: &[u8], n: usize, rows: &[i64], numbers: usize) 
     )
 }
 
+// Judges the numbers as rows, and says whether it came out as expected.
+fn rows_pass(rows: &[i64], number: u64, place: u64) -> bool {
+    let found = refusals::validate(rows);
+    match found {
+        Verdict::Fine => number == 0 && place == 0,
+        Verdict::Refused(k, p) => number == k && place == p as u64,
+    }
+}
+
+// A line `NUMBER,PLACE`: whether the first n numbers, judged as rows, come out so.
+fn rows_case(line: &[u8], rows: &[i64], n: usize) -> bool {
+    let number = text::first_part(line, b',');
+    let place = after(line, number.len());
+    if rows.len() < n {
+        return false;
+    }
+    rows_pass(&rows[..n], rows::nat(number_of(number)), rows::nat(number_of(place)))
+}
+
 // A case is done: it is counted, and printed where it differs.
 fn done(run: Run, passes: bool) -> Run {
     if passes {
@@ -273,6 +293,9 @@ fn step(line: &[u8], bytes: &mut [u8], rows: &mut [i64], run: Run) -> Run {
     }
     if tag == b'T' {
         return done(run, text_case(rest, bytes, run.bytes, rows, run.numbers));
+    }
+    if tag == b'R' {
+        return done(run, rows_case(rest, rows, run.numbers));
     }
     gather(tag, rest, bytes, rows, run)
 }
