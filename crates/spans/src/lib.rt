@@ -1,5 +1,7 @@
 // When a task completes and when an activity runs, of models/schedule.rs and `activity_span` of scheduler/feasibility.rs.
 ghost use mathlib.Core.Path.{_≡_};
+ghost use mathlib.Core.Bool.{cond};
+ghost use mathlib.Core.Option.{Option, none, some};
 ghost use Prim.Native.Nat.{ℕ, _<_};
 ghost use lib.IntN.{pos};
 ghost use Rattle.calendar.specs.Clock.{clock};
@@ -10,7 +12,10 @@ ghost use Rattle.sheet.specs.Places.{ofKind};
 ghost use Rattle.sheet.specs.Index.{Kinds};
 ghost use Rattle.model.specs.Sheet.{sheet};
 ghost use Rattle.model.specs.Schedule.{later, earlier, taskCompletionTime};
+ghost use Rattle.checks.specs.ActivitySpan.{activitySpan};
 ghost use Rattle.spans.specs.Instants.{meant, endIf};
+ghost use Rattle.spans.specs.Activities.{spanMeant, widened, widenIf};
+use sheet::Found;
 
 // An instant, or none.
 pub enum Instant {
@@ -83,4 +88,80 @@ pub fn task_completion_time(rows: &[i64], kinds: &[u16; 832], task: u64) -> Inst
 {
     let booked = latest_end(rows, kinds, Instant::Nothing, 23, 5, task);
     latest_end(rows, kinds, booked, 24, 4, task)
+}
+
+// ---- when an activity runs
+
+// From a start to an end, or none.
+pub enum Span {
+    Between(u64, u64),
+    Nowhere,
+}
+
+// The earlier of two instants, and the later.
+fn least(a: u64, x: u64) -> u64
+    ensures { λ r. ⌜ pos r ≡ cond (clock .before (pos x) (pos a)) (pos x) (pos a) ⌝ }
+{
+    if x < a {
+        return x;
+    }
+    a
+}
+
+fn most(a: u64, x: u64) -> u64
+    ensures { λ r. ⌜ pos r ≡ cond (clock .before (pos a) (pos x)) (pos x) (pos a) ⌝ }
+{
+    if a < x {
+        return x;
+    }
+    a
+}
+
+// What there is, widened to hold the time from start to end.
+fn widen(x: Span, start: u64, end: u64) -> Span
+    ensures { λ r. ⌜ spanMeant r ≡ widened (spanMeant x) (pos start) (pos end) ⌝ }
+{
+    let Span::Between(a, e) = x else {
+        return Span::Between(start, end);
+    };
+    Span::Between(least(a, start), most(e, end))
+}
+
+// What there is, widened by the booking of row k where it is of the activity.
+fn widen_if(rows: &[i64], x: Span, k: usize, id: u64) -> Span
+    ensures { λ r. ⌜ spanMeant r ≡ widenIf (now (rows .entry)) id (spanMeant x) k ⌝ }
+{
+    if rows::is_at(rows, k, 1, id) {
+        let start = rows::num_at(rows, k, 4);
+        let end = rows::num_at(rows, k, 5);
+        return widen(x, start, end);
+    }
+    x
+}
+
+// From the earliest start to the latest end of an activity's bookings.
+fn booked_span(rows: &[i64], kinds: &[u16; 832], id: u64) -> Span
+    requires { ⌜ Kinds (now rows) (now kinds) ⌝ }
+    ensures { λ r. ⌜ spanMeant r ≡ fold (onlyAt (ofKind (now (rows .entry)) 23) (widenIf (now (rows .entry)) id)) none (rowCount (now (rows .entry))) ⌝ }
+{
+    let n = rows::row_count(rows);
+    let mut x = Span::Nowhere;
+    let mut i = sheet::first_of(rows, kinds, 23);
+    while i < n {
+        x = widen_if(rows, x, i, id);
+        i = sheet::next_of(rows, kinds, 23, i);
+    }
+    x
+}
+
+// The first time-only span of an activity, or else from the earliest start to the latest end of its bookings.
+pub fn activity_span(rows: &[i64], kinds: &[u16; 832], id: u64) -> Span
+    requires { ⌜ Kinds (now rows) (now kinds) ⌝ }
+    ensures { λ r. ⌜ spanMeant r ≡ activitySpan clock (sheet (now (rows .entry))) id ⌝ }
+{
+    let timed = sheet::find_named(rows, kinds, 24, id);
+    let Found::At(k) = timed else {
+        return booked_span(rows, kinds, id);
+    };
+    Span::Between(rows::num_at(rows, k, 3), rows::num_at(rows, k, 4))
 }
