@@ -1,0 +1,3 @@
+pub mod ConstraintRows
+pub mod Pairs
+pub mod Together
