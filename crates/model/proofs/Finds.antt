@@ -13,8 +13,8 @@ use Rattle.loops.specs.Search.{orElse, someIf, first, firstPlace}
 use Rattle.loops.proofs.ListLaws.{keep-collect, head-collect}
 use Rattle.rows.specs.Cells.{rowCount, num, is}
 use Rattle.sheet.specs.Places.{named, placeOf}
-use Rattle.sheet.specs.Index.{orEnd}
-use Rattle.sheet.proofs.Lookups.{Named, placed}
+use Rattle.sheet.specs.Index.{ownerKind, ownerOf, ownerPlace, orEnd, ownPlace}
+use Rattle.sheet.proofs.Lookups.{Named, placed, is-num}
 use Rattle.model.specs.Sheet.{sheet}
 use Rattle.model.specs.Task.{Task, taskAt, tasks, findTask}
 use Rattle.model.specs.Activity.{Activity, activityAt, activities, findActivity}
@@ -104,3 +104,8 @@ module _ (rows : List ℤ) (x id : ℕ) {a : ℕ} (e : a ≡ orEnd rows (placeOf
 -- a row that was found is found by its own id
 pub found-self : (rows : List ℤ) (x id a : ℕ) → placeOf rows x id ≡ some a → placeOf rows x (num rows a 1) ≡ some a
 found-self rows x id a q = ap (placeOf rows x) (placed rows x id a q .id-is) ∙ q
+
+-- the owner of an activity: what the lookup of its task finds
+pub own-task : (rows : List ℤ) (k : ℕ) → is rows k 0 2 ≡ true → ownPlace rows k ≡ orEnd rows (placeOf rows 1 (num rows k 2))
+unfolding ownPlace ownerPlace ownerKind ownerOf
+own-task rows k e = rw (is-num rows k 0 2 e)

@@ -18,14 +18,15 @@ use Rattle.loops.proofs.ListLaws.{count-append, any-collect}
 use Rattle.loops.proofs.RangeLaws.{collect-ext}
 use Rattle.loops.proofs.PlaceLaws.{place-only, any-same}
 use Rattle.rows.specs.Cells.{rowCount, cell, num, is}
-use Rattle.sheet.specs.Places.{named, isNth, nthPlace, requirementPlace}
+use Rattle.sheet.specs.Places.{placeOf, named, isNth, nthPlace, requirementPlace}
 use Rattle.sheet.specs.Index.{ownerKind, ownerOf, ownerPlace, orEnd, ownPlace, ownedBy}
 use Rattle.sheet.proofs.Lookups.{and-left, and-right, is-num, num-is, nth-at}
 use Rattle.model.specs.Sheet.{sheet, numAt, rowAt}
 use Rattle.model.specs.Activity.{ResourceRequirement, requirementAt, namedFor, candidates, isCandidate}
 use Rattle.model.specs.Resource.{Resource}
 use Rattle.model.specs.Records.{requirementOf}
-use Rattle.model.proofs.RowLaws.{kind-is, row-none}
+use Rattle.model.proofs.RowLaws.{kind-is}
+use Rattle.model.proofs.OwnedLaws.{of-activity}
 
 pub eqb-swap : (a b : ℕ) → eqb a b ≡ eqb b a
 eqb-swap a b = go (ℕ-discrete a b)
@@ -37,7 +38,7 @@ eqb-swap a b = go (ℕ-discrete a b)
 -- ---- number m of the places that pass
 
 module _ (p : ℕ → Bool) where
-  count-less : (j k : ℕ) → j < k → p j ≡ true → countBelow p j < countBelow p k
+  pub count-less : (j k : ℕ) → j < k → p j ≡ true → countBelow p j < countBelow p k
   unfolding countBelow
   count-less j zero l e = absurd (not-suc-le-zero l)
   count-less j (suc k) l e =
@@ -111,6 +112,16 @@ module _ (rows : List ℤ) where
   unfolding requirementAt is
   requirement-none a k h = rw h
 
+  -- the requirements of the activity of row a
+  pub requirement-by : (a : ℕ) → placeOf rows 2 (num rows a 1) ≡ some a → (k : ℕ)
+      → requirementAt (sheet rows) (num rows a 1) k ≡ given (ownedBy rows a 5 k) (requirementOf rows k)
+  requirement-by a q k = rw (of-activity rows 5 a (num rows a 1) (unfold ownerKind in refl) q k) (go (is rows k 0 5) refl)
+    where
+      go : (b : Bool) → is rows k 0 5 ≡ b
+          → requirementAt (sheet rows) (num rows a 1) k ≡ given (is rows k 0 5 && is rows k 1 (num rows a 1)) (requirementOf rows k)
+      go true h = rw (h, requirement-row (num rows a 1) k h)
+      go false h = rw (h, requirement-none (num rows a 1) k h)
+
   -- ---- what belongs to a requirement: candidates 6, wanted skills 7
 
   same-requirement : (q i m : ℕ) → q < rowCount rows → is rows q 0 5 ≡ true
@@ -173,13 +184,13 @@ module _ (rows : List ℤ) where
 
 -- ---- a list of what passes a test, place by place
 
-module _ (p : ℕ → Bool) (y : ℕ → ℕ) where
+module _ {A : Type 0} (p : ℕ → Bool) (y : ℕ → A) where
   pub none-given : (n : ℕ) → isEmpty (collect (λ k. given (p k) (y k)) n) ≡ not (anyBelow p n)
   unfolding collect anyBelow
   none-given zero = refl
   none-given (suc n) = go (collect (λ k. given (p k) (y k)) n) (p n) (none-given n)
     where
-      go : (l : List ℕ) (b : Bool) → isEmpty l ≡ not (anyBelow p n) → isEmpty (l ++ given b (y n)) ≡ not (anyBelow p n || b)
+      go : (l : List A) (b : Bool) → isEmpty l ≡ not (anyBelow p n) → isEmpty (l ++ given b (y n)) ≡ not (anyBelow p n || b)
       go [] true e = sym (or-one (anyBelow p n))
         where
           or-one : (a : Bool) → not (a || true) ≡ false
@@ -196,6 +207,7 @@ module _ (p : ℕ → Bool) (y : ℕ → ℕ) where
           go-some true z = refl
           go-some false z = absurd (true≢false (sym z))
 
+module _ (p : ℕ → Bool) (y : ℕ → ℕ) where
   pub among-given : (x n : ℕ) → among x (collect (λ k. given (p k) (y k)) n) ≡ anyBelow (λ k. p k && eqb (y k) x) n
   unfolding anyOf
   among-given x n = any-collect (eqb x) (λ k. given (p k) (y k)) n ∙ any-same _ _ n (λ k l. go k (p k) (eqb-swap x (y k)))
