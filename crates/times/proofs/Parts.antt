@@ -138,6 +138,10 @@ module _ (rows : List ℤ) where
 
   -- ---- amounts
 
+  pub columns-are : (o : ℕ) {s p t : ℕ} → s ≡ num rows o 4 → p ≡ num rows o 5 → t ≡ num rows o 6
+      → _≡_ {A = ActivityDuration} (record { «setup_ms» = s; «process_ms» = p; «teardown_ms» = t }) (columnsOf rows o 4)
+  columns-are o e f g = rw (e, f, g)
+
   pub base-amounts : Accepted rows → (x o : ℕ) → placeOf rows 2 x ≡ some o → Amounts (columnsOf rows o 4)
   base-amounts acc x o e = record {
     setup = at-most rows acc o 2 4 (activity-kind x o e);
