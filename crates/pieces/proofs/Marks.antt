@@ -10,6 +10,7 @@ use lib.Seq.{getD-set-same, getD-set-other}
 use lib.Dec.{eqb}
 use lib.IntN.{ℤ}
 use Rattle.rows.specs.Cells.{rowCount}
+use Rattle.pieces.specs.Bookings.{firstOn, Firsts}
 use Rattle.pieces.specs.Held.{heldAt, Held}
 
 -- what stands in the rows below k
@@ -30,6 +31,13 @@ filled-turn f k v t t′ l e q h = rw q (record { size = length-set t k v ∙ h 
 bit : (b : Bool) → eqb (cond b 1 0) 1 ≡ b
 bit true = refl
 bit false = refl
+
+pub firsts-end : (rows : List ℤ) (k n : ℕ) (t : List ℕ) → n ≤ k → n ≡ rowCount rows → rowCount rows ≤ 800
+    → Filled (λ j. cond (firstOn rows j) 1 0) k t → Firsts rows t
+firsts-end rows k n t l q s h = record {
+  short = s;
+  at = λ j b. ap (λ x. eqb x 1) (h .at j (omega arith)) ∙ bit (firstOn rows j);
+}
 
 pub held-end : (rows : List ℤ) (k n : ℕ) (t : List ℕ) → n ≤ k → n ≡ rowCount rows → rowCount rows ≤ 800
     → Filled (λ j. cond (heldAt rows j) 1 0) k t → Held rows t

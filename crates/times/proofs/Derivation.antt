@@ -5,9 +5,7 @@ use mathlib.Core.Bool.{Bool, true, false, cond, not, _&&_, true≢false}
 use mathlib.Core.List.{List, [], _∷_, _++_, map, foldl}
 use mathlib.Core.Option.{Option, none, some}
 use native.Mathlib.Omega.{arith}
-use lib.Dec.{eqb}
 use lib.IntN.{ℤ}
-use borrow.Author.Tests.{eqb-true}
 use Rattle.loops.specs.Lists.{given, keep, each, option}
 use Rattle.loops.specs.Range.{fold, collect}
 use Rattle.loops.specs.Search.{anyBelow, firstPlace}
@@ -31,9 +29,9 @@ use Rattle.model.specs.Activity.{Activity, pieceOf, timing, durationOn}
 use Rattle.model.specs.Schedule.{Assignment, assignmentAt, assignmentsBelow, assignments}
 use Rattle.model.proofs.RowLaws.{assignment-row, assignment-none}
 use Rattle.checks.specs.Pieces.{ofPiece, heldAmong, notHeld, assignedWith, runsOn}
-use Rattle.pieces.specs.Bookings.{inPiece, names, holdsFor, keyAt}
+use Rattle.pieces.specs.Bookings.{inPiece, names, holdsFor}
 use Rattle.pieces.specs.Held.{heldAt}
-use Rattle.pieces.proofs.Chains.{piece-activity, piece-key, piece-kind, piece-owned}
+use Rattle.pieces.proofs.Chains.{piece-activity, piece-kind, piece-owned, pieces-same}
 use Rattle.pieces.proofs.Companions.{of-piece, held-among, held-booking}
 use Rattle.times.specs.Rows.{columnsOf, activityOf, partAt, bookingOf, timedBy, timingOf, timedAt}
 use Rattle.times.specs.Times.{derived}
@@ -52,15 +50,11 @@ foldl-map s g c (x ∷ l) = foldl-map s g (s c (g x)) l
 module _ (rows : List ℤ) where
   -- ---- bookings of one piece
 
-  same-piece : (k j : ℕ) → inPiece rows k j ≡ true → (i : ℕ) → inPiece rows j i ≡ inPiece rows k i
-  unfolding inPiece
-  same-piece k j h i = rw (piece-activity rows k j (unfold inPiece in h), eqb-true (keyAt rows j) (keyAt rows k) (piece-key rows k j (unfold inPiece in h)))
-
   holds-same : (k j i : ℕ) → inPiece rows k j ≡ true
       → (inPiece rows k i && (not (is rows i 3 (num rows j 3)) && anyBelow (names rows 13 (num rows i 3) (num rows j 3)) (rowCount rows))) ≡ holdsFor rows j i
   unfolding holdsFor
   holds-same k j i p =
-      ap (λ b. b && (not (is rows i 3 (num rows j 3)) && anyBelow (names rows 13 (num rows i 3) (num rows j 3)) (rowCount rows))) (sym (same-piece k j p i))
+      ap (λ b. b && (not (is rows i 3 (num rows j 3)) && anyBelow (names rows 13 (num rows i 3) (num rows j 3)) (rowCount rows))) (sym (pieces-same rows k j p i))
 
   -- who is held among them does not hang on which of them is asked
   held-in-piece : Accepted rows → (k j : ℕ) → k < rowCount rows → j < rowCount rows → is rows k 0 23 ≡ true → inPiece rows k j ≡ true

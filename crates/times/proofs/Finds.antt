@@ -1,12 +1,11 @@
 -- What a lookup of the typed sheet finds, by the place of its row. Assumes nothing.
-use Prim.Native.Nat.{ℕ, zero, suc, _+_, _-_, _<_, _≤_}
+use Prim.Native.Nat.{ℕ, zero, suc, _+_, _<_, _≤_}
 use mathlib.Core.Path.{_≡_, refl, sym, ap, ap₂, _∙_}
 use mathlib.Core.Bool.{Bool, true, false, cond, _&&_, _||_, true≢false}
 use mathlib.Core.List.{List, [], _∷_, _++_}
 use mathlib.Core.Option.{Option, none, some}
 use native.Mathlib.Omega.{arith}
 use native.Mathlib.Decide.{decLt}
-use native.Mathlib.Nat.{add-zero, add-suc}
 use lib.Dec.{eqb}
 use lib.IntN.{ℤ}
 use lib.Ieee.{binary64, ofBits}
@@ -25,6 +24,7 @@ use Rattle.model.specs.Sheet.{Sheet, sheet, rowAt, numAt, intAt, isKind}
 use Rattle.model.specs.Activity.{Activity, Split, activityAt, activities, findActivity, split, timingAt, timing}
 use Rattle.model.proofs.RowLaws.{kind-is, row-none, row-here, activity-row, activity-none}
 use Rattle.pieces.specs.Bookings.{names}
+use Rattle.pieces.proofs.Chains.{first-below}
 use Rattle.times.specs.Rows.{columnsOf, activityOf, timedBy, timingOf}
 
 -- ---- what the first place gives
@@ -56,32 +56,6 @@ one false x = refl
 here : {A : Type 0} (b : Bool) (x : A) → head (given b x) ≡ cond b (some x) none
 here true x = refl
 here false x = refl
-
--- a search that goes on finds what it found
-found-on : (q : ℕ → Bool) (j m d : ℕ) → firstPlace q j ≡ some m → firstPlace q (j + d) ≡ some m
-unfolding firstPlace
-found-on q j m zero f = rw (add-zero j) f
-found-on q j m (suc d) f = rw (add-suc j d, found-on q j m d f)
-
-found-once : (q : ℕ → Bool) (n j m : ℕ) → firstPlace q n ≡ some j → firstPlace q j ≡ some m → m < j → j ≡ m
-found-once q n j m e f l =
-    let h = found-at q n j e in
-    let s : j + (n - j) ≡ n = omega (arith, h .0) in
-    some-is (sym e ∙ sym (ap (firstPlace q) s) ∙ found-on q j m (n - j) f)
-  where
-    some-is : {j k : ℕ} → _≡_ {A = Option ℕ} (some j) (some k) → j ≡ k
-    some-is e = cc
-
--- nothing passes below the first
-earlier : (q : ℕ → Bool) (n j : ℕ) → firstPlace q n ≡ some j → (i : ℕ) → i < j → q i ≡ true → ⊥
-earlier q n j e i l t = true≢false (sym t ∙ before q n j e i l)
-  where
-    before : (q : ℕ → Bool) (n j : ℕ) → firstPlace q n ≡ some j → (i : ℕ) → i < j → q i ≡ false
-    before q n j e i l = go (firstPlace q j) refl
-      where
-        go : (x : Option ℕ) → firstPlace q j ≡ x → q i ≡ false
-        go none f = place-none q j f i l
-        go (some m) f = absurd (let g = found-at q j m f in let z : j ≡ m = found-once q n j m e f (g .0) in omega (arith, g .0))
 
 module _ (rows : List ℤ) where
   pub find-activity : (x : ℕ) → findActivity (sheet rows) x ≡ option (placeOf rows 2 x) none (λ i. some (activityOf rows i))
@@ -140,13 +114,6 @@ module _ (rows : List ℤ) where
   place-is none o e l = absurd (omega arith)
   place-is (some k) o e l = ap some (sym e)
 
-  pub no-place : (q : ℕ → Bool) (o : ℕ) → o ≡ orEnd rows (firstPlace q (rowCount rows)) → rowCount rows ≤ o → firstPlace q (rowCount rows) ≡ none
-  no-place q o e l = go (firstPlace q (rowCount rows)) refl e
-    where
-      go : (x : Option ℕ) → firstPlace q (rowCount rows) ≡ x → o ≡ orEnd rows x → x ≡ none
-      go none f e = refl
-      go (some i) f e = unfold orEnd in absurd (let g = found-at q (rowCount rows) i f in omega (arith, g .0))
-
   -- the first place is the one that a search finds
   pub first-place : (q : ℕ → Bool) (i : ℕ) → First q 0 (rowCount rows) i → i ≡ orEnd rows (firstPlace q (rowCount rows))
   first-place q i s = go (firstPlace q (rowCount rows)) refl
@@ -166,7 +133,7 @@ module _ (rows : List ℤ) where
           at (yes l) = absurd (sooner l)
             where
               sooner : i < j → ⊥
-              sooner l = earlier q (rowCount rows) j e i l (s .here (omega (arith, f .0)))
+              sooner l = true≢false (sym (s .here (omega (arith, f .0))) ∙ first-below q (rowCount rows) j e i l)
           at (no l) = later (decLt j i)
             where
               later : Dec (j < i) → i ≡ j

@@ -38,12 +38,12 @@ use Rattle.model.proofs.RowLaws.{kind-is}
 use Rattle.model.proofs.Accepting.{at-most}
 use Rattle.model.proofs.OwnedLaws.{of-activity, own-activity}
 use Rattle.pieces.specs.Bookings.{names}
-use Rattle.pieces.proofs.Chains.{names-kind, timings-blind}
+use Rattle.pieces.proofs.Chains.{names-kind, timings-blind, no-place}
 use Rattle.pieces.proofs.Marks.{Filled}
 use Rattle.pieces.proofs.Companions.{both-parts}
 use Rattle.times.specs.Rows.{columnsOf, activityOf, partAt, timedBy, timingOf, timingPlace, Timings}
 use Rattle.times.specs.Times.{restAt, Times}
-use Rattle.times.proofs.Finds.{splitOf, split-is, place-is, no-place, first-place, first-least, first-swap, place-below}
+use Rattle.times.proofs.Finds.{splitOf, split-is, place-is, first-place, first-least, first-swap, place-below}
 
 module _ (rows : List ℤ) where
   -- ---- the activity's row
@@ -137,6 +137,10 @@ module _ (rows : List ℤ) where
           over false = omega arith
 
   -- ---- amounts
+
+  pub columns-are : (o : ℕ) {s p t : ℕ} → s ≡ num rows o 4 → p ≡ num rows o 5 → t ≡ num rows o 6
+      → _≡_ {A = ActivityDuration} (record { «setup_ms» = s; «process_ms» = p; «teardown_ms» = t }) (columnsOf rows o 4)
+  columns-are o e f g = rw (e, f, g)
 
   pub base-amounts : Accepted rows → (x o : ℕ) → placeOf rows 2 x ≡ some o → Amounts (columnsOf rows o 4)
   base-amounts acc x o e = record {

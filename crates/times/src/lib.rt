@@ -181,7 +181,14 @@ pub fn duration_on(
 {
     let piece = piece_at(rows, owned, o, k);
     let f = timed_of(rows, owned, held, t, o, k, piece);
-    let base = duration_at(rows, o, 4);
+    let setup = rows::num_at(rows, o, 4);
+    let process = rows::num_at(rows, o, 5);
+    let teardown = rows::num_at(rows, o, 6);
+    let base = ActivityDuration {
+        setup_ms: setup,
+        process_ms: process,
+        teardown_ms: teardown,
+    };
     f.duration(piece.duration(base))
 }
 
