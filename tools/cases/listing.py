@@ -13,9 +13,9 @@ SPELLED = {b"\n": b"|", b"\r": b"$", b"\x00": b"^", b"\xff": b"~"}  # bytes of a
 
 
 def folder_of(crate):
-    """Where the list of a program is: in its crate once there is one."""
-    home = os.path.join(ROOT, "crates", crate)
-    return os.path.join(home, "data") if os.path.isdir(home) else os.path.join(HERE, crate)
+    """Where the list of a program is: in its crate, if that has it whole (README.md), else here."""
+    home, here = os.path.join(ROOT, "crates", crate, "data"), os.path.join(HERE, crate)
+    return home if os.path.isdir(home) and not os.path.isdir(here) else here
 
 
 # ---- writing ----------------------------------------------------------------------------------------------

@@ -216,3 +216,33 @@ module _ {T : Type 0} (K : Clock T) (cs : List (Calendar T)) (t : T) (work : ℕ
   says-unique never (endsAt e) h h′ = tells-unique never (endsAt e) (h .1) (h′ .1)
   says-unique never pauses h h′ = absurd (true≢false (sym (h .0) ∙ h′))
   says-unique never never h h′ = refl
+
+-- ---- the laws of the work end, one for each answer
+
+module _ (cs : List (Calendar ℤ)) (t work : ℤ) where
+  -- pause exactly if the start is no working millisecond
+  pub pause-exactly :
+      (jointWorkEnd clock cs t work ≡ pauses → jointWorking clock cs t ≡ false)
+      × (jointWorking clock cs t ≡ false → jointWorkEnd clock cs t work ≡ pauses)
+  pause-exactly = (
+    λ e. subst (Says clock cs t (amountOf work)) e (workEnd-says cs t work),
+    λ h. says-unique clock cs t (amountOf work) (jointWorkEnd clock cs t work) pauses (workEnd-says cs t work) h,
+  )
+
+  -- never exactly if the start is one and, however far one looks, too little working time follows
+  pub never-exactly :
+      (jointWorkEnd clock cs t work ≡ never → (jointWorking clock cs t ≡ true) × ((n : ℕ) → count (since clock cs t) 0 n < amountOf work))
+      × ((jointWorking clock cs t ≡ true) × ((n : ℕ) → count (since clock cs t) 0 n < amountOf work) → jointWorkEnd clock cs t work ≡ never)
+  never-exactly = (
+    λ e. subst (Says clock cs t (amountOf work)) e (workEnd-says cs t work),
+    λ h. says-unique clock cs t (amountOf work) (jointWorkEnd clock cs t work) never (workEnd-says cs t work) h,
+  )
+
+  -- an end n milliseconds after the start exactly if the start is one and by then, and not before, that much working time has passed
+  pub end-exactly : (e : ℤ)
+      → (jointWorkEnd clock cs t work ≡ endsAt e → (jointWorking clock cs t ≡ true) × ((n : ℕ) × ((e ≡ t +ℤ pos n) × EndsAfter (since clock cs t) (amountOf work) n)))
+      × ((jointWorking clock cs t ≡ true) × ((n : ℕ) × ((e ≡ t +ℤ pos n) × EndsAfter (since clock cs t) (amountOf work) n)) → jointWorkEnd clock cs t work ≡ endsAt e)
+  end-exactly e = (
+    λ q. subst (Says clock cs t (amountOf work)) q (workEnd-says cs t work),
+    λ h. says-unique clock cs t (amountOf work) (jointWorkEnd clock cs t work) (endsAt e) (workEnd-says cs t work) h,
+  )

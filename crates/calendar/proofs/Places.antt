@@ -20,12 +20,12 @@ unfoldable pub below : List ℕ → ℕ → ℕ → List TimeWindow
 below w from n = collect (λ k. given (leb from k) (windowAt w k)) n
 
 module _ (w : List ℕ) (from : ℕ) where
-  below-none : (n : ℕ) → n ≤ from → below w from n ≡ []
+  pub below-none : (n : ℕ) → n ≤ from → below w from n ≡ []
   unfolding below collect
   below-none zero l = refl
   below-none (suc n) l = rw (below-none n (omega arith), lt-leb from n (omega arith))
 
-  below-more : (i : ℕ) → from ≤ i → below w from (i + 1) ≡ below w from i ++ (windowAt w i ∷ [])
+  pub below-more : (i : ℕ) → from ≤ i → below w from (i + 1) ≡ below w from i ++ (windowAt w i ∷ [])
   unfolding below collect
   below-more i l = rw (add-one i, le-leb from i l)
 

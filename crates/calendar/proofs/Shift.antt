@@ -11,6 +11,7 @@ use Rattle.calendar.specs.declared.TimeWindow.{TimeWindow}
 use Rattle.calendar.specs.Clock.{Clock, clock}
 use Rattle.loops.specs.Lists.{given}
 use Rattle.loops.specs.Range.{collect}
+use Rattle.loops.proofs.ListLaws.{map-append}
 use Rattle.calendar.specs.Calendar.{Window, Calendar, isWorkingTime, intervalFits, jointWorking}
 use Rattle.calendar.specs.Amount.{jointAvailableMs}
 use Rattle.calendar.specs.WorkEnd.{Ending, endsAt, pauses, never, mapEnding, endFrom, jointWorkEnd}
@@ -44,10 +45,6 @@ module _ (d : ℤ) where
 pub record Moved (d : ℤ) (w v : List ℕ) : Type 0 where
   pub as-many : windowsIn v ≡ windowsIn w
   pub each : (i : ℕ) → i < windowsIn w → windowOf (windowAt v i) ≡ mapWindow (by d) (windowOf (windowAt w i))
-
-map-append : {A B : Type 0} (f : A → B) (l k : List A) → map f (l ++ k) ≡ map f l ++ map f k
-map-append f [] k = refl
-map-append f (x ∷ l) k = ap (λ z. f x ∷ z) (map-append f l k)
 
 module _ {d : ℤ} {w v : List ℕ} (m : Moved d w v) where
   one-moved : (b : Bool) (x y : TimeWindow) → windowOf y ≡ mapWindow (by d) (windowOf x) → map windowOf (given b y) ≡ later d (map windowOf (given b x))

@@ -20,7 +20,19 @@ shut = 1 ∷ 5 ∷ 5 ∷ []
 abbrev pub two : List ℕ
 two = 0 ∷ 0 ∷ 10 ∷ 0 ∷ 20 ∷ 30 ∷ []
 
--- the calendars at the places 0 and 1
+-- windows 0..10 and 10..20
+abbrev pub next : List ℕ
+next = 0 ∷ 0 ∷ 10 ∷ 0 ∷ 10 ∷ 20 ∷ []
+
+-- one window, 5..5
+abbrev pub empty : List ℕ
+empty = 0 ∷ 5 ∷ 5 ∷ []
+
+-- a window 2..9 and a closure 4..6
+abbrev pub lunch : List ℕ
+lunch = 0 ∷ 2 ∷ 9 ∷ 1 ∷ 4 ∷ 6 ∷ []
+
+-- the calendar at the places 0 and 1
 abbrev pub both : List ℕ
 both = 0 ∷ 2 ∷ []
 
@@ -34,6 +46,18 @@ pub examples-g-to-l :
 unfolding anyOf allOf collect contains holds hits isWorkingTime intervalFits jointWorking endIn reach reaches endAfter endFrom jointWorkEnd windowsOf calendarOf listsOf calendarsOf
 examples-g-to-l = (refl, refl, refl, refl, refl, refl)
 
-pub example-available : jointAvailableMs clock (calendarsOf two both) (pos 5) (pos 25) ≡ 10
-unfolding anyOf allOf collect contains isWorkingTime jointWorking count jointAvailableMs windowsOf calendarOf listsOf calendarsOf
-example-available = refl
+-- Edges that the examples leave out: adjacent windows are not joined by `interval_fits`, though work runs through them; an open window
+-- of length 0 is listed all the same; a window holds its start and not its end, a closure the same.
+pub edges :
+    (intervalFits clock (calendarOf next 0 2) (pos 5) (pos 15) ≡ false)
+    × (jointWorkEnd clock (calendarsOf next both) (pos 5) (pos 15) ≡ endsAt (pos 20))
+    × (isWorkingTime clock (calendarOf empty 0 1) (pos 5) ≡ false)
+    × (isWorkingTime clock (calendarOf empty 0 0) (pos 5) ≡ true)
+    × (isWorkingTime clock (calendarOf lunch 0 1) (pos 2) ≡ true)
+    × (isWorkingTime clock (calendarOf lunch 0 1) (pos 9) ≡ false)
+    × (isWorkingTime clock (calendarOf lunch 1 2) (pos 4) ≡ false)
+    × (isWorkingTime clock (calendarOf lunch 1 2) (pos 6) ≡ true)
+    × (jointAvailableMs clock (calendarsOf lunch both) (pos 0) (pos 20) ≡ 5)
+    × (jointAvailableMs clock (calendarsOf two both) (pos 5) (pos 25) ≡ 10)
+unfolding anyOf allOf collect contains holds hits isWorkingTime intervalFits jointWorking count jointAvailableMs endIn reach reaches endAfter endFrom jointWorkEnd windowsOf calendarOf listsOf calendarsOf
+edges = (refl, refl, refl, refl, refl, refl, refl, refl, refl, refl)

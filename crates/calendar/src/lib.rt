@@ -227,6 +227,13 @@ pub fn joint_working(cs: &[usize], w: &[u64], t: u64) -> bool
     s.working
 }
 
+// What b leaves of a.
+fn less(a: u64, b: u64) -> u64
+    ensures { λ r. ⌜ r ≡ a - b ⌝ }
+{
+    if a <= b { 0 } else { a - b }
+}
+
 // The working milliseconds from t up to the next stop.
 fn gained(s: Joint, t: u64) -> u64
     ensures { λ r. ⌜ r ≡ cond (s .working) (s .stop - t) 0 ⌝ }
@@ -234,10 +241,7 @@ fn gained(s: Joint, t: u64) -> u64
     if !s.working {
         return 0;
     }
-    if s.stop <= t {
-        return 0;
-    }
-    s.stop - t
+    less(s.stop, t)
 }
 
 // Joint working time within [a, e), in milliseconds.
@@ -272,7 +276,7 @@ pub fn end_from(cs: &[usize], w: &[u64], start: u64, work: u64) -> Answer
         if left <= d {
             return Answer::End(t + left);
         }
-        left -= d;
+        left = less(left, d);
         t = s.stop;
     }
     if joint_working(cs, w, t) {

@@ -4,4 +4,5 @@ pub mod PartLaws
 pub mod PlaceLaws
 pub mod RangeLaws
 pub mod SearchLaws
+pub mod StoreLaws
 pub mod Walks

@@ -1,3 +1,4 @@
+pub mod Absent
 pub mod Lookups
 pub mod Owning
 pub mod Tables

@@ -36,23 +36,24 @@ named-below rows x id = below rows (placeOf rows x id) (λ k e. placed rows x id
 pub nth-below : (rows : List ℤ) (q : ℕ → Bool) (m : ℕ) → orEnd rows (nthPlace q m (rowCount rows)) ≤ rowCount rows
 nth-below rows q m = below rows (nthPlace q m (rowCount rows)) (λ k e. nth-at q m (rowCount rows) k e .0)
 
-pub owner-below : (rows : List ℤ) (x k : ℕ) → orEnd rows (ownerOf rows x k) ≤ rowCount rows
-unfolding ownerOf orEnd
-owner-below rows x k = go (eqb x 1) (eqb x 2) (eqb x 5) (eqb x 11) (eqb x 17)
+-- an owner that is found is a row
+pub owner-within : (rows : List ℤ) (x k j : ℕ) → ownerOf rows x k ≡ some j → j < rowCount rows
+unfolding ownerOf
+owner-within rows x k j = go (eqb x 1) (eqb x 2) (eqb x 5) (eqb x 11) (eqb x 17)
   where
-    go : (b₁ b₂ b₃ b₄ b₅ : Bool) → orEnd rows (cond b₁ (placeOf rows 1 (num rows k 2)) (cond b₂ (placeOf rows 2 (num rows k 1))
+    go : (b₁ b₂ b₃ b₄ b₅ : Bool) → cond b₁ (placeOf rows 1 (num rows k 2)) (cond b₂ (placeOf rows 2 (num rows k 1))
         (cond b₃ (nthPlace (named rows 5 (num rows k 1)) (num rows k 2) (rowCount rows)) (cond b₄ (placeOf rows 11 (num rows k 1))
-        (cond b₅ (nthPlace (isConstraint rows) (num rows k 1) (rowCount rows)) none))))) ≤ rowCount rows
-    go true b₂ b₃ b₄ b₅ = named-below rows 1 (num rows k 2)
-    go false true b₃ b₄ b₅ = named-below rows 2 (num rows k 1)
-    go false false true b₄ b₅ = nth-below rows (named rows 5 (num rows k 1)) (num rows k 2)
-    go false false false true b₅ = named-below rows 11 (num rows k 1)
-    go false false false false true = nth-below rows (isConstraint rows) (num rows k 1)
-    go false false false false false = omega arith
+        (cond b₅ (nthPlace (isConstraint rows) (num rows k 1) (rowCount rows)) none)))) ≡ some j → j < rowCount rows
+    go true b₂ b₃ b₄ b₅ e = placed rows 1 (num rows k 2) j e .within
+    go false true b₃ b₄ b₅ e = placed rows 2 (num rows k 1) j e .within
+    go false false true b₄ b₅ e = nth-at (named rows 5 (num rows k 1)) (num rows k 2) (rowCount rows) j e .0
+    go false false false true b₅ e = placed rows 11 (num rows k 1) j e .within
+    go false false false false true e = nth-at (isConstraint rows) (num rows k 1) (rowCount rows) j e .0
+    go false false false false false e = let z : _≡_ {A = ℕ} 0 1 = cc in absurd (omega arith)
 
 pub own-below : (rows : List ℤ) (k : ℕ) → ownPlace rows k ≤ rowCount rows
 unfolding ownPlace ownerPlace
-own-below rows k = owner-below rows (ownerKind (num rows k 0)) k
+own-below rows k = below rows (ownerPlace rows k) (owner-within rows (ownerKind (num rows k 0)) k)
 
 pub res-below : (rows : List ℤ) (k : ℕ) → resPlace rows k ≤ rowCount rows
 unfolding resPlace

@@ -4,11 +4,11 @@ use mathlib.Core.Bool.{Bool, true, false, cond, _&&_, not, and-false, false≢tr
 use mathlib.Core.List.{List, [], _∷_, _++_, map}
 use mathlib.Core.Path.{_≡_, refl, sym, ap, subst, _∙_}
 use native.Mathlib.Omega.{arith}
-use native.Mathlib.Nat.{add-zero}
 use native.Mathlib.Numerals.{add-one}
 use lib.Dec.{ltb, leb, eqb}
 use lib.ListN.{length, getD, set, replicate, length-map}
 use lib.Seq.{sets}
+use Rattle.loops.proofs.StoreLaws.{sets-append}
 use lib.IntN.{ℤ, pos, negsuc}
 use mir.Syntax.{w64}
 use mir.Val.{SFits, toZ, ofZ}
@@ -63,11 +63,6 @@ zero-more rows i to h = let e : to - i ≡ suc (to - (i + 1)) = omega arith in r
 
 pub zero-end : (rows : List ℤ) (i to : ℕ) → to ≤ i → sets rows i (replicate (to - i) (pos 0)) ≡ rows
 zero-end rows i to h = let e : to - i ≡ 0 = omega arith in rw e
-
--- two runs of stores are one
-pub sets-append : (l : List ℤ) (i : ℕ) (a b : List ℤ) → sets (sets l i a) (i + length a) b ≡ sets l i (a ++ b)
-sets-append l i [] b = rw (add-zero i)
-sets-append l i (x ∷ a) b = let e : i + suc (length a) ≡ suc i + length a = omega arith in rw e (sets-append (set l i x) (suc i) a b)
 
 -- a line by its first field
 pub line-judged : (l f : List ℕ) (good : Bool) (n : ℕ) → good ≡ spelled (fieldsOf l) → f ≡ upTo 44 l → n ≡ length (fieldsOf l) → byFields good f n ≡ lineOf l

@@ -22,7 +22,8 @@ use Rattle.text.specs.declared.Line.the-variants.{Row, Wrong}
 use Rattle.text.specs.declared.Answer.{Answer}
 use Rattle.text.specs.declared.Answer.the-variants.{Accepted, Refused}
 use Rattle.rows.proofs.Tables.{width-most}
-use Rattle.text.proofs.LineLaws.{no-row, sets-append}
+use Rattle.text.proofs.LineLaws.{no-row}
+use Rattle.loops.proofs.StoreLaws.{sets-append}
 use Rattle.text.proofs.PartLaws.{up-within, parts-last, parts-more, parts-first, tail-is}
 
 -- ---- a row has ten numbers

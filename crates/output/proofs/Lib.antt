@@ -1,0 +1,5 @@
+pub mod DecimalLaws
+pub mod Examples
+pub mod FitLaws
+pub mod PutLaws
+pub mod SignLaws

@@ -1,0 +1,42 @@
+use mathlib.Core.Path.{ap}
+use lib.IntN.{natAbs}
+use mir.Facts.{toZ-ofZ}
+use Rattle.output.proofs.SignLaws.{up-fits, back-fits, back-cast, back-more, back-magnitude, plain-cast}
+use borrow.Author.Needs.{needs}
+use Rattle.output.proofs.magnitude.Statement.{statement}
+use Rattle.output.proofs.magnitude.Tie as tie
+use Rattle.output.proofs.magnitude.Reads as reads
+use Rattle.output.proofs.magnitude.Lts as lts
+
+-- src/lib.rt:63:22
+add-result : tie.Need-add-result
+add-result c = up-fits _ (c .before .fits .z) (c .if1 .taken)
+
+-- src/lib.rt:63:17
+sub-result : tie.Need-sub-result
+sub-result c = back-fits _ (c .before .fits .z) (c .if1 .taken)
+
+-- src/lib.rt:63:16
+cast-result : tie.Need-cast-result
+cast-result c = back-cast _ (c .before .fits .z) (c .if1 .taken)
+
+-- src/lib.rt:63:16
+add-result-2 : tie.Need-add-result-2
+add-result-2 c = back-more _ (c .before .fits .z) (c .if1 .taken)
+
+-- src/lib.rt:63:9
+returns : tie.Need-returns
+returns c = back-magnitude _ (c .before .fits .z) (c .if1 .taken)
+
+-- src/lib.rt:65:5
+cast-result-2 : tie.Need-cast-result-2
+cast-result-2 c = plain-cast _ (c .before .fits .z) (c .if1 .left)
+
+-- src/lib.rt:59:1
+returns-2 : tie.Need-returns-2
+returns-2 c = search needs
+
+pub magnitude-spec : {M : Type 1} → statement M
+magnitude-spec =
+    tie.close
+    (tie.spec add-result sub-result cast-result add-result-2 returns cast-result-2 returns-2)

@@ -1,0 +1,65 @@
+use borrow.Author.Needs.{needs}
+use mathlib.Core.Path.{_≡_, refl, ap, _∙_}
+use Prim.Native.Nat.{_-_, _≤_}
+use lib.ListN.{length, take}
+use native.Mathlib.Omega.{arith}
+use Rattle.output.specs.Wrote.{Wrote}
+use Rattle.output.proofs.PutLaws.{wrote-none, wrote-within, wrote-next, wrote-all, wrote-long}
+use Rattle.output.proofs.put_bytes.Statement.{statement}
+use Rattle.output.proofs.put_bytes.Tie as tie
+use Rattle.output.proofs.put_bytes.Reads as reads
+use Rattle.output.proofs.put_bytes.Lts as lts
+use Rattle.output.proofs.put.Reads as put-reads
+
+abbrev Inv-loop : tie.InvT-loop
+Inv-loop out₀ from s at₀ i₀ out at i = Wrote out₀ from out at (take i s)
+
+abbrev μ-loop : tie.MeasureT-loop
+μ-loop out₀ from s at₀ i₀ out at i = length s - i
+
+-- src/lib.rt:32:5
+loop-holds : tie.Need-loop-holds Inv-loop μ-loop
+loop-holds c = wrote-none _ _ (c .before .before .pre)
+
+-- src/lib.rt:33:27
+shared-slice-read-put : tie.Need-shared-slice-read-put Inv-loop μ-loop
+shared-slice-read-put c = search needs
+
+-- src/lib.rt:33:9
+put-requires : tie.Need-put-requires Inv-loop μ-loop
+put-requires c κs = wrote-within _ (c .before .before .before .loop .inv)
+
+-- src/lib.rt:34:9
+add-i : tie.Need-add-i Inv-loop μ-loop
+add-i c = search needs
+
+-- src/lib.rt:32:5
+loop-less : tie.Need-loop-less Inv-loop μ-loop
+loop-less c = search needs
+
+-- src/lib.rt:32:5
+loop-again : tie.Need-loop-again Inv-loop μ-loop
+loop-again c = wrote-next _ _ (c .before .before .before .before .before .loop-test .taken) (c .before .before .before .before .before .before .loop .inv) (c .before .before .put .ensures)
+
+-- src/lib.rt:26:1
+same-length : tie.Need-same-length Inv-loop μ-loop
+same-length c = wrote-long (c .before .loop .inv)
+
+-- src/lib.rt:26:1
+returns : tie.Need-returns Inv-loop μ-loop
+returns c = wrote-all _ _ (c .loop-test .left) (c .before .loop .inv)
+
+pub put-bytes-spec : {M : Type 1} → statement M
+put-bytes-spec =
+    tie.close
+    (tie.spec
+    Inv-loop
+    μ-loop
+    loop-holds
+    shared-slice-read-put
+    put-requires
+    add-i
+    loop-less
+    loop-again
+    same-length
+    returns)

@@ -1,0 +1,283 @@
+-- The rows that name two things stand in the chain of their owner; a walk along it finds the first. Assumes nothing.
+use Prim.Native.Nat.{ℕ, zero, suc, _+_, _-_, _<_, _≤_}
+use mathlib.Core.Path.{_≡_, refl, sym, ap, ap₂, _∙_}
+use mathlib.Core.Bool.{Bool, true, false, cond, not, _&&_, true≢false}
+use mathlib.Core.Option.{Option, none, some}
+use native.Mathlib.Nat.{add-zero, add-suc}
+use mathlib.Core.List.{List}
+use native.Mathlib.Omega.{arith}
+use lib.Dec.{eqb, ltb}
+use lib.IntN.{ℤ}
+use borrow.Author.Tests.{eq-eqb, eqb-true, ltb-true, ltb-false}
+use Rattle.loops.specs.Chain.{First, Stands, Blind}
+use Rattle.loops.specs.Search.{anyBelow, firstPlace}
+use Rattle.loops.proofs.SearchLaws.{any-none, any-hit, any-done}
+use Rattle.loops.proofs.PlaceLaws.{found-at, place-none, any-less}
+use Rattle.rows.specs.Cells.{rowCount, num, is}
+use Rattle.sheet.specs.Places.{named, placeOf, activityPlace, resourcePlace}
+use Rattle.sheet.specs.Refusals.{isAbsent, lacks}
+use Rattle.sheet.specs.Accepted.{Accepted}
+use Rattle.sheet.specs.Index.{ownerKind, ownerOf, ownerPlace, orEnd, ownPlace, resPlace, ownedBy}
+use Rattle.sheet.proofs.Lookups.{and-left, and-right, is-num}
+use Rattle.model.proofs.Accepting.{has-owner}
+use Rattle.pieces.specs.Bookings.{inPiece, sameBooking, firstOn, names, holdsFor, keyAt}
+
+-- a test that holds of rows of an owner only
+pub blind-if : (p q : ℕ → Bool) → ((k : ℕ) → q k ≡ true → p k ≡ true) → Blind p q
+blind-if p q h = record { still = λ k e. go k e (q k) refl }
+  where
+    go : (k : ℕ) → p k ≡ false → (b : Bool) → q k ≡ b → q k ≡ false
+    go k e true f = absurd (true≢false (sym (h k f) ∙ e))
+    go k e false f = f
+
+module _ (rows : List ℤ) where
+  -- the owner of a row that belongs to an activity (kinds 9, 10, 23, ..), and to a resource (13)
+  pub own-activity : (x k : ℕ) → ownerKind x ≡ 2 → is rows k 0 x ≡ true → ownPlace rows k ≡ orEnd rows (activityPlace rows (num rows k 1))
+  unfolding ownPlace ownerPlace ownerOf
+  own-activity x k e h = rw (is-num rows k 0 x h, e)
+
+  pub own-resource : (x k : ℕ) → ownerKind x ≡ 11 → is rows k 0 x ≡ true → ownPlace rows k ≡ orEnd rows (resourcePlace rows (num rows k 1))
+  unfolding ownPlace ownerPlace ownerOf
+  own-resource x k e h = rw (is-num rows k 0 x h, e)
+
+  pub owned-at : (o x k : ℕ) → is rows k 0 x ≡ true → ownPlace rows k ≡ o → ownedBy rows o x k ≡ true
+  unfolding ownedBy
+  owned-at o x k h e = rw (h) (eq-eqb (ownPlace rows k) o e)
+
+  module _ (x a b i : ℕ) (h : names rows x a b i ≡ true) where
+    pub names-kind : is rows i 0 x ≡ true
+    unfolding names
+    names-kind = and-left (is rows i 0 x) (is rows i 1 a && is rows i 2 b) h
+
+    names-rest : (is rows i 1 a && is rows i 2 b) ≡ true
+    unfolding names
+    names-rest = and-right (is rows i 0 x) (is rows i 1 a && is rows i 2 b) h
+
+    pub names-first : num rows i 1 ≡ a
+    names-first = is-num rows i 1 a (and-left (is rows i 1 a) (is rows i 2 b) names-rest)
+
+  -- the timings of an activity on a resource, the companions of a booking's resource
+  pub timings-blind : (x k o a b : ℕ) → ownerKind x ≡ 2 → is rows k 0 23 ≡ true → o ≡ ownPlace rows k → a ≡ num rows k 1 → Blind (ownedBy rows o x) (names rows x a b)
+  timings-blind x k o a b e h p q = blind-if _ _ λ i f.
+      owned-at o x i (names-kind x a b i f)
+      (own-activity x i e (names-kind x a b i f)
+      ∙ ap (λ z. orEnd rows (activityPlace rows z)) (names-first x a b i f ∙ q)
+      ∙ sym (own-activity 23 k (unfold ownerKind in refl) h)
+      ∙ sym p)
+
+  res-at : (j : ℕ) → is rows j 0 23 ≡ true → resPlace rows j ≡ orEnd rows (resourcePlace rows (num rows j 3))
+  unfolding resPlace
+  res-at j h = rw h
+
+  pub companions-blind : (j o a b : ℕ) → is rows j 0 23 ≡ true → o ≡ resPlace rows j → a ≡ num rows j 3 → Blind (ownedBy rows o 13) (names rows 13 a b)
+  companions-blind j o a b h p q = blind-if _ _ λ i f.
+      owned-at o 13 i (names-kind 13 a b i f)
+      (own-resource 13 i (unfold ownerKind in refl) (names-kind 13 a b i f)
+      ∙ ap (λ z. orEnd rows (resourcePlace rows z)) (names-first 13 a b i f ∙ q)
+      ∙ sym (res-at j h)
+      ∙ sym p)
+
+  -- ---- the bookings of a piece
+  module _ (k j : ℕ) (h : inPiece rows k j ≡ true) where
+    pub piece-kind : is rows j 0 23 ≡ true
+    unfolding inPiece
+    piece-kind = and-left (is rows j 0 23) (is rows j 1 (num rows k 1) && eqb (keyAt rows j) (keyAt rows k)) h
+
+    piece-rest : (is rows j 1 (num rows k 1) && eqb (keyAt rows j) (keyAt rows k)) ≡ true
+    unfolding inPiece
+    piece-rest = and-right (is rows j 0 23) (is rows j 1 (num rows k 1) && eqb (keyAt rows j) (keyAt rows k)) h
+
+    pub piece-activity : num rows j 1 ≡ num rows k 1
+    piece-activity = is-num rows j 1 (num rows k 1) (and-left (is rows j 1 (num rows k 1)) (eqb (keyAt rows j) (keyAt rows k)) piece-rest)
+
+    pub piece-key : eqb (keyAt rows j) (keyAt rows k) ≡ true
+    piece-key = and-right (is rows j 1 (num rows k 1)) (eqb (keyAt rows j) (keyAt rows k)) piece-rest
+
+  pub piece-owned : (k o : ℕ) → is rows k 0 23 ≡ true → o ≡ ownPlace rows k → (j : ℕ) → inPiece rows k j ≡ true → ownedBy rows o 23 j ≡ true
+  piece-owned k o h p j f =
+      owned-at o 23 j (piece-kind k j f)
+      (own-activity 23 j (unfold ownerKind in refl) (piece-kind k j f)
+      ∙ ap (λ z. orEnd rows (activityPlace rows z)) (piece-activity k j f)
+      ∙ sym (own-activity 23 k (unfold ownerKind in refl) h)
+      ∙ sym p)
+
+  pub owned-kind : (o x k : ℕ) → ownedBy rows o x k ≡ true → is rows k 0 x ≡ true
+  unfolding ownedBy
+  owned-kind o x k e = and-left (is rows k 0 x) (eqb (ownPlace rows k) o) e
+
+-- ---- a search along a chain
+
+module _ (q : ℕ → Bool) where
+  pub found-here : (n i N : ℕ) → i < N → N ≡ n → anyBelow q i ≡ false → q i ≡ true → First q 0 n i
+  found-here n i N l z e h = record {
+    low = omega arith;
+    high = omega arith;
+    none = λ k a b. any-none q i k e b;
+    here = λ a. h;
+  }
+
+  pub found-none : {p : ℕ → Bool} (n i N : ℕ) → N ≤ i → N ≡ n → Stands p n i → anyBelow q i ≡ false → First q 0 n i
+  found-none n i N l z s e = record {
+    low = omega arith;
+    high = s .high;
+    none = λ k a b. any-none q i k e b;
+    here = λ a. absurd (omega arith);
+  }
+
+  pub none-below : (n : ℕ) → ((k : ℕ) → k < n → q k ≡ false) → anyBelow q n ≡ false
+  unfolding anyBelow
+  none-below zero h = refl
+  none-below (suc n) h = rw (none-below n (λ k l. h k (omega arith)), h n (omega arith))
+
+  -- whether there is any, by the first
+  pub any-first-is : (n i N : ℕ) → First q 0 n i → N ≡ n → ltb i N ≡ anyBelow q n
+  any-first-is n i N f z = go (ltb i N) refl
+    where
+      go : (b : Bool) → ltb i N ≡ b → b ≡ anyBelow q n
+      go true e = any-hit q i n n (let l = ltb-is e in omega arith) refl (f .here (let l = ltb-is e in omega arith))
+        where
+          ltb-is : ltb i N ≡ true → i < N
+          ltb-is e = ltb-true i N e
+      go false e = sym (none-below n λ k l. f .none k (omega arith) (let m = ltb-false i N e in omega (arith, f .high)))
+
+-- ---- the first place of a search
+
+found-on : (q : ℕ → Bool) (j m d : ℕ) → firstPlace q j ≡ some m → firstPlace q (j + d) ≡ some m
+unfolding firstPlace
+found-on q j m zero f = rw (add-zero j) f
+found-on q j m (suc d) f = rw (add-suc j d, found-on q j m d f)
+
+-- nothing passes below it
+pub first-below : (q : ℕ → Bool) (n j : ℕ) → firstPlace q n ≡ some j → (i : ℕ) → i < j → q i ≡ false
+first-below q n j e i l = go (firstPlace q j) refl
+  where
+    some-is : {j k : ℕ} → _≡_ {A = Option ℕ} (some j) (some k) → j ≡ k
+    some-is e = cc
+
+    go : (x : Option ℕ) → firstPlace q j ≡ x → q i ≡ false
+    go none f = place-none q j f i l
+    go (some m) f =
+        let h = found-at q n j e in
+        let g = found-at q j m f in
+        let s : j + (n - j) ≡ n = omega (arith, h .0) in
+        let z : j ≡ m = some-is (sym e ∙ sym (ap (firstPlace q) s) ∙ found-on q j m (n - j) f) in
+        absurd (omega (arith, g .0))
+
+pub no-place : (rows : List ℤ) (q : ℕ → Bool) (o : ℕ) → o ≡ orEnd rows (firstPlace q (rowCount rows)) → rowCount rows ≤ o → firstPlace q (rowCount rows) ≡ none
+no-place rows q o e l = go (firstPlace q (rowCount rows)) refl e
+  where
+    go : (x : Option ℕ) → firstPlace q (rowCount rows) ≡ x → o ≡ orEnd rows x → x ≡ none
+    go none f e = refl
+    go (some i) f e = unfold orEnd in absurd (let g = found-at q (rowCount rows) i f in omega (arith, g .0))
+
+-- ---- companions of a resource that is not in the sheet: there are none
+
+module _ (rows : List ℤ) where
+  absent : (x : Option ℕ) → x ≡ none → isAbsent x ≡ true
+  absent x e = rw e
+
+  pub no-companions : Accepted rows → (j r o n : ℕ) → is rows j 0 23 ≡ true → o ≡ resPlace rows j → n ≤ o → n ≡ rowCount rows
+      → false ≡ anyBelow (names rows 13 (num rows j 3) r) (rowCount rows)
+  no-companions acc j r o n h e l z = sym (none-below (names rows 13 (num rows j 3) r) (rowCount rows) λ i m. go i m (names rows 13 (num rows j 3) r i) refl)
+    where
+      none-there : resourcePlace rows (num rows j 3) ≡ none
+      none-there = unfold placeOf in no-place rows (named rows 11 (num rows j 3)) o (unfold placeOf in (e ∙ res-at rows j h)) (omega arith)
+
+      go : (i : ℕ) → i < rowCount rows → (b : Bool) → names rows 13 (num rows j 3) r i ≡ b → names rows 13 (num rows j 3) r i ≡ false
+      go i m true f =
+          absurd
+          (true≢false
+          (sym (absent (resourcePlace rows (num rows i 1)) (ap (resourcePlace rows) (names-first rows 13 (num rows j 3) r i f) ∙ none-there))
+          ∙ lacking i m (names-kind rows 13 (num rows j 3) r i f)))
+        where
+          lacking : (i : ℕ) → i < rowCount rows → is rows i 0 13 ≡ true → isAbsent (resourcePlace rows (num rows i 1)) ≡ false
+          lacking i m g = unfold lacks in (has-owner rows acc i 13 1 m g)
+      go i m false f = f
+
+-- ---- the first booking of its piece on its resource holds what the others hold
+
+module _ (rows : List ℤ) where
+  module _ (k j : ℕ) (h : sameBooking rows k j ≡ true) where
+    pub same-in-piece : inPiece rows k j ≡ true
+    unfolding sameBooking
+    same-in-piece = and-right (is rows j 3 (num rows k 3)) (inPiece rows k j) h
+
+    pub same-resource : num rows j 3 ≡ num rows k 3
+    unfolding sameBooking
+    same-resource = is-num rows j 3 (num rows k 3) (and-left (is rows j 3 (num rows k 3)) (inPiece rows k j) h)
+
+  pub pieces-same : (k j : ℕ) → inPiece rows k j ≡ true → (i : ℕ) → inPiece rows j i ≡ inPiece rows k i
+  unfolding inPiece
+  pieces-same k j h i = rw (piece-activity rows k j (unfold inPiece in h), eqb-true (keyAt rows j) (keyAt rows k) (piece-key rows k j (unfold inPiece in h)))
+
+  self : (j : ℕ) → is rows j 0 23 ≡ true → sameBooking rows j j ≡ true
+  unfolding sameBooking inPiece is
+  self j h = rw (h, eq-eqb (num rows j 3) (num rows j 3) refl, eq-eqb (num rows j 1) (num rows j 1) refl, eq-eqb (keyAt rows j) (keyAt rows j) refl)
+
+  sames : (j i : ℕ) → sameBooking rows j i ≡ true → (m : ℕ) → sameBooking rows i m ≡ sameBooking rows j m
+  unfolding sameBooking
+  sames j i h m = ap₂ _&&_ (ap (λ r. is rows m 3 r) (same-resource j i (unfold sameBooking in h))) (pieces-same j i (same-in-piece j i (unfold sameBooking in h)) m)
+
+  leads : (j i n : ℕ) → firstPlace (sameBooking rows j) n ≡ some i → firstOn rows i ≡ true
+  unfolding firstOn
+  leads j i n e =
+      let f = found-at (sameBooking rows j) n i e in
+      rw (piece-kind rows j i (same-in-piece j i (f .1)), none-below (sameBooking rows i) i (λ m l. sames j i (f .1) m ∙ first-below (sameBooking rows j) n i e m l))
+
+  holds-too : (k j i : ℕ) → sameBooking rows j i ≡ true → holdsFor rows k j ≡ true → holdsFor rows k i ≡ true
+  unfolding holdsFor
+  holds-too k j i h e =
+      let p : inPiece rows k j ≡ true = and-left (inPiece rows k j) (not (is rows j 3 (num rows k 3)) && anyBelow (names rows 13 (num rows j 3) (num rows k 3)) (rowCount rows)) e in
+      let g : inPiece rows k i ≡ true = sym (pieces-same k j p i) ∙ same-in-piece j i h in
+      let r : (not (is rows j 3 (num rows k 3)) && anyBelow (names rows 13 (num rows j 3) (num rows k 3)) (rowCount rows)) ≡ true = and-right (inPiece rows k j) _ e in
+      rw g (other (same-resource j i h) r)
+    where
+      other : num rows i 3 ≡ num rows j 3 → (not (is rows j 3 (num rows k 3)) && anyBelow (names rows 13 (num rows j 3) (num rows k 3)) (rowCount rows)) ≡ true
+          → (not (is rows i 3 (num rows k 3)) && anyBelow (names rows 13 (num rows i 3) (num rows k 3)) (rowCount rows)) ≡ true
+      other q r = unfold is in (rw q (unfold is in r))
+
+  holds-piece : (k j : ℕ) → holdsFor rows k j ≡ true → inPiece rows k j ≡ true
+  unfolding holdsFor
+  holds-piece k j e = and-left (inPiece rows k j) _ e
+
+  abbrev pub firstHolds : ℕ → ℕ → Bool
+  firstHolds k j = firstOn rows j && holdsFor rows k j
+
+  pub firsts-enough : (k : ℕ) → anyBelow (firstHolds k) (rowCount rows) ≡ anyBelow (holdsFor rows k) (rowCount rows)
+  firsts-enough k = go (firstPlace (holdsFor rows k) (rowCount rows)) refl
+    where
+      last-false : (b : Bool) → (b && false) ≡ false
+      last-false true = refl
+      last-false false = refl
+
+      go : (x : Option ℕ) → firstPlace (holdsFor rows k) (rowCount rows) ≡ x → anyBelow (firstHolds k) (rowCount rows) ≡ anyBelow (holdsFor rows k) (rowCount rows)
+      go none e =
+          none-below (firstHolds k) (rowCount rows) (λ j l. ap (λ b. firstOn rows j && b) (place-none (holdsFor rows k) (rowCount rows) e j l) ∙ last-false (firstOn rows j))
+          ∙ sym (none-below (holdsFor rows k) (rowCount rows) (λ j l. place-none (holdsFor rows k) (rowCount rows) e j l))
+      go (some j) e = at (firstPlace (sameBooking rows j) (rowCount rows)) refl
+        where
+          f : (j < rowCount rows) × (holdsFor rows k j ≡ true)
+          f = found-at (holdsFor rows k) (rowCount rows) j e
+
+          booked : is rows j 0 23 ≡ true
+          booked = piece-kind rows k j (holds-piece k j (f .1))
+
+          at : (x : Option ℕ) → firstPlace (sameBooking rows j) (rowCount rows) ≡ x → anyBelow (firstHolds k) (rowCount rows) ≡ anyBelow (holdsFor rows k) (rowCount rows)
+          at none q = absurd (true≢false (sym (self j booked) ∙ place-none (sameBooking rows j) (rowCount rows) q j (f .0)))
+          at (some i) q =
+              let g = found-at (sameBooking rows j) (rowCount rows) i q in
+              sym (any-hit (firstHolds k) i (rowCount rows) (rowCount rows) (g .0) refl (ap₂ _&&_ (leads j i (rowCount rows) q) (holds-too k j i (g .1) (f .1))))
+              ∙ any-hit (holdsFor rows k) j (rowCount rows) (rowCount rows) (f .0) refl (f .1)
+
+  pub first-blind : (k o : ℕ) → is rows k 0 23 ≡ true → o ≡ ownPlace rows k → Blind (ownedBy rows o 23) (firstHolds k)
+  first-blind k o h p = blind-if _ _ λ j f. piece-owned rows k o h p j (holds-piece k j (and-right (firstOn rows j) (holdsFor rows k j) f))
+
+  pub same-blind : (k o : ℕ) → is rows k 0 23 ≡ true → o ≡ ownPlace rows k → Blind (ownedBy rows o 23) (sameBooking rows k)
+  same-blind k o h p = blind-if _ _ λ j f. piece-owned rows k o h p j (same-in-piece k j f)
+
+  -- ---- what the code's loop over the bookings before k says
+  pub not-first : (k j : ℕ) → j < k → sameBooking rows k j ≡ true → false ≡ not (anyBelow (sameBooking rows k) k)
+  not-first k j l e = ap not (any-hit (sameBooking rows k) j k k l refl e)
+
+  pub is-first : (k j : ℕ) → k ≤ j → anyBelow (sameBooking rows k) j ≡ false → true ≡ not (anyBelow (sameBooking rows k) k)
+  is-first k j l e = sym (ap not (any-less (sameBooking rows k) j k e l))

@@ -1,0 +1,149 @@
+-- Who is held, as a search over rows. Assumes nothing.
+use Prim.Native.Nat.{ℕ, _<_, _≤_}
+use mathlib.Core.Path.{_≡_, refl, sym, ap, ap₂, _∙_}
+use mathlib.Core.Bool.{Bool, Bool·beq, true, false, cond, not, _&&_, _||_, true≢false}
+use mathlib.Core.List.{List, [], _∷_, _++_, map}
+use mathlib.Core.Option.{Option, none, some}
+use native.Mathlib.Omega.{arith}
+use native.Mathlib.Decide.{ℕ-discrete}
+use lib.Dec.{eqb}
+use lib.IntN.{ℤ, pos}
+use borrow.Author.Tests.{eq-eqb, ne-eqb, eqb-true}
+use Rattle.loops.specs.Lists.{given, keep, anyOf, among}
+use Rattle.loops.specs.Range.{collect}
+use Rattle.loops.specs.Search.{anyBelow}
+use Rattle.loops.proofs.ListLaws.{any-map, any-keep, any-collect}
+use Rattle.loops.proofs.PlaceLaws.{any-same}
+use Rattle.rows.specs.Cells.{rowCount, cell, num, is}
+use Rattle.rows.specs.Table.{classOf}
+use Rattle.rows.specs.Class.{n?-c}
+use Rattle.rows.specs.Ranges.{isNone, inClass}
+use Rattle.sheet.specs.Refusals.{halfPart}
+use Rattle.sheet.specs.Accepted.{Accepted}
+use Rattle.model.specs.Sheet.{Sheet, sheet, rowAt, numAt}
+use Rattle.model.specs.Resource.{listed, companions}
+use Rattle.model.specs.Schedule.{Part, Assignment, asPart, assignmentAt, assignmentsBelow, assignments}
+use Rattle.model.proofs.RowLaws.{kind-is, row-none, row-here, assignment-row, assignment-none}
+use Rattle.checks.specs.Pieces.{indexOf, sameIndex, ofPiece, resourcesOf, heldAmong, assignedWith, isHeld}
+use Rattle.pieces.specs.Bookings.{indexKey, keyAt, inPiece, names, holdsFor}
+use Rattle.pieces.specs.Held.{heldAt}
+use Rattle.pieces.proofs.Indices.{indexIn, same-key, index-in}
+
+eqb-sym : (a b : ℕ) → eqb a b ≡ eqb b a
+eqb-sym a b = go (ℕ-discrete a b)
+  where
+    go : Dec (a ≡ b) → eqb a b ≡ eqb b a
+    go (yes q) = rw (eq-eqb a b q, eq-eqb b a (sym q))
+    go (no q) = rw (ne-eqb a b q, ne-eqb b a (λ z. q (sym z)))
+
+module _ (rows : List ℤ) where
+  -- ---- a booking's row
+
+  abbrev pub booking : ℕ → Assignment ℤ
+  booking k = record {
+    activity = num rows k 1;
+    task = num rows k 2;
+    resource = num rows k 3;
+    start = pos (num rows k 4);
+    end = pos (num rows k 5);
+    setup = num rows k 6;
+    part = asPart (sheet rows .cell k 7) (sheet rows .cell k 8);
+  }
+
+  beq-of : (a b : Bool) → (true && not (Bool·beq a b)) ≡ false → Bool·beq a b ≡ true
+  beq-of true true e = refl
+  beq-of true false e = absurd (true≢false e)
+  beq-of false true e = absurd (true≢false e)
+  beq-of false false e = refl
+
+  module _ (acc : Accepted rows) where
+    pub index-class : (k : ℕ) → is rows k 0 23 ≡ true → inClass n?-c (cell rows k 7) ≡ true
+    index-class k h = rw (kind-is rows k 23 h) at (acc .columns k 7)
+
+    pub both-parts : (k : ℕ) → k < rowCount rows → is rows k 0 23 ≡ true → Bool·beq (isNone (cell rows k 7)) (isNone (cell rows k 8)) ≡ true
+    unfolding halfPart
+    both-parts k l h = beq-of (isNone (cell rows k 7)) (isNone (cell rows k 8)) (rw h at (acc .parts k l))
+
+    -- the index of a booking's part is that of column 7
+    pub booked-index : (k : ℕ) → k < rowCount rows → is rows k 0 23 ≡ true → indexOf (booking k .part) ≡ indexIn (cell rows k 7)
+    booked-index k l h = rw (kind-is rows k 23 h) (index-in (cell rows k 7) (cell rows k 8) (both-parts k l h))
+
+    pub same-index : (j k : ℕ) → j < rowCount rows → k < rowCount rows → is rows j 0 23 ≡ true → is rows k 0 23 ≡ true
+        → sameIndex (indexOf (booking j .part)) (indexOf (booking k .part)) ≡ eqb (keyAt rows j) (keyAt rows k)
+    unfolding keyAt
+    same-index j k l m h g =
+        ap₂ sameIndex (booked-index j l h) (booked-index k m g)
+        ∙ same-key (cell rows j 7) (cell rows k 7) (index-class j h) (index-class k g)
+
+    pub of-piece : (j k : ℕ) → j < rowCount rows → k < rowCount rows → is rows j 0 23 ≡ true → is rows k 0 23 ≡ true
+        → ofPiece (booking k) (booking j) ≡ inPiece rows k j
+    unfolding inPiece is
+    of-piece j k l m h g = rw (h) (ap (λ z. eqb (num rows j 1) (num rows k 1) && z) (same-index j k l m h g))
+
+  -- ---- companions
+
+  pub companion-is : (p r : ℕ) → among r (companions (sheet rows) p) ≡ anyBelow (names rows 13 p r) (rowCount rows)
+  unfolding listed
+  companion-is p r =
+      any-collect (eqb r) (rowAt (sheet rows) 13 λ k. given (eqb (numAt (sheet rows) k 1) p) (numAt (sheet rows) k 2)) (rowCount rows)
+      ∙ any-same _ _ (rowCount rows) (λ i l. at i (is rows i 0 13) refl)
+    where
+      pick : (b : Bool) (v : ℕ) → anyOf (eqb r) (given b v) ≡ (b && eqb v r)
+      pick true v = unfold anyOf in (or-false (eqb r v) ∙ eqb-sym r v)
+        where
+          or-false : (b : Bool) → (b || false) ≡ b
+          or-false true = refl
+          or-false false = refl
+      pick false v = unfold anyOf in refl
+
+      at : (i : ℕ) (b : Bool) → is rows i 0 13 ≡ b
+          → anyOf (eqb r) (rowAt (sheet rows) 13 (λ k. given (eqb (numAt (sheet rows) k 1) p) (numAt (sheet rows) k 2)) i) ≡ names rows 13 p r i
+      at i true h = unfold names is in (rw (row-here rows i 13 (λ k. given (eqb (numAt (sheet rows) k 1) p) (numAt (sheet rows) k 2)) h, h, kind-is rows i 13 h) (pick (eqb (num rows i 1) p) (num rows i 2)))
+      at i false h = unfold names anyOf in (rw (row-none rows i 13 (λ k. given (eqb (numAt (sheet rows) k 1) p) (numAt (sheet rows) k 2)) h, h))
+
+  test-is : (k c v : ℕ) → eqb (num rows k c) v ≡ is rows k c v
+  unfolding is
+  test-is k c v = refl
+
+  -- ---- who is held
+
+  module _ (acc : Accepted rows) where
+    -- r is held among what the piece of booking k is assigned
+    pub held-among : (k r : ℕ) → k < rowCount rows → is rows k 0 23 ≡ true
+        → heldAmong (sheet rows) (assignedWith (sheet rows) (booking k)) r
+        ≡ anyBelow (λ j. inPiece rows k j && (not (is rows j 3 r) && anyBelow (names rows 13 (num rows j 3) r) (rowCount rows))) (rowCount rows)
+    unfolding heldAmong assignedWith assignments assignmentsBelow
+    held-among k r l h =
+        any-map (λ p. not (eqb p r) && among r (companions (sheet rows) p)) (λ a. a .resource) (keep (ofPiece (booking k)) (collect (assignmentAt (sheet rows)) (rowCount rows)))
+        ∙ any-keep (λ x. not (eqb (x .resource) r) && among r (companions (sheet rows) (x .resource))) (ofPiece (booking k)) (collect (assignmentAt (sheet rows)) (rowCount rows))
+        ∙ any-collect (λ x. ofPiece (booking k) x && (not (eqb (x .resource) r) && among r (companions (sheet rows) (x .resource)))) (assignmentAt (sheet rows)) (rowCount rows)
+        ∙ any-same _ _ (rowCount rows) (λ j m. at j m (is rows j 0 23) refl)
+      where
+        or-false : (b : Bool) → (b || false) ≡ b
+        or-false true = refl
+        or-false false = refl
+
+        at : (j : ℕ) → j < rowCount rows → (b : Bool) → is rows j 0 23 ≡ b
+            → anyOf (λ x. ofPiece (booking k) x && (not (eqb (x .resource) r) && among r (companions (sheet rows) (x .resource)))) (assignmentAt (sheet rows) j)
+            ≡ (inPiece rows k j && (not (is rows j 3 r) && anyBelow (names rows 13 (num rows j 3) r) (rowCount rows)))
+        at j m true g =
+            rw (assignment-row rows j g)
+            (unfold anyOf in (or-false (ofPiece (booking k) (booking j) && (not (eqb (num rows j 3) r) && among r (companions (sheet rows) (num rows j 3))))
+            ∙ ap₂ _&&_ (of-piece acc j k m l g h) (ap₂ (λ a b. not a && b) (test-is j 3 r) (companion-is (num rows j 3) r))))
+        at j m false g = rw (assignment-none rows j g) (unfold anyOf inPiece in rw g)
+
+    pub held-is : (k : ℕ) → k < rowCount rows → is rows k 0 23 ≡ true → isHeld (sheet rows) (booking k) ≡ anyBelow (holdsFor rows k) (rowCount rows)
+    unfolding isHeld holdsFor
+    held-is k l h = held-among k (num rows k 3) l h
+
+    pub held-booking : (k : ℕ) → k < rowCount rows → is rows k 0 23 ≡ true → heldAt rows k ≡ anyBelow (holdsFor rows k) (rowCount rows)
+    unfolding heldAt anyOf
+    held-booking k l h = rw (assignment-row rows k h) (or-false (isHeld (sheet rows) (booking k)) ∙ held-is k l h)
+      where
+        or-false : (b : Bool) → (b || false) ≡ b
+        or-false true = refl
+        or-false false = refl
+
+  pub held-none : (k : ℕ) → is rows k 0 23 ≡ false → heldAt rows k ≡ false
+  unfolding heldAt anyOf
+  held-none k h = rw (assignment-none rows k h)

@@ -1,0 +1,4 @@
+pub mod Chains
+pub mod Companions
+pub mod Indices
+pub mod Marks

@@ -1,0 +1,251 @@
+// The pieces of the bookings, an activity or one of its parts, and who is held only as a companion: `piece_key` and `companions_among` of
+// scheduler/feasibility.rs. Each is found along chains of rows; who is held is found once for a sheet.
+ghost use mathlib.Core.Path.{_≡_};
+ghost use Prim.Native.Nat.{ℕ, _<_, _≤_};
+ghost use mathlib.Core.Bool.{Bool, true, cond, not, _&&_};
+ghost use lib.ListN.{set};
+ghost use Rattle.loops.specs.Chain.{First, Blind};
+ghost use Rattle.loops.specs.Search.{anyBelow};
+ghost use Rattle.rows.specs.Cells.{rowCount, num, is};
+ghost use Rattle.sheet.specs.Index.{ownedBy, Linked, Owned};
+ghost use Rattle.sheet.specs.Accepted.{Accepted};
+ghost use Rattle.pieces.specs.Bookings.{indexKey, keyAt, inPiece, sameBooking, firstOn, Firsts, names, holdsFor};
+ghost use Rattle.pieces.specs.Held.{heldAt, Held};
+
+// A part index as a number: index + 1000001, and 0 for none.
+pub fn index_key(x: i64) -> u64
+    ensures { λ r. ⌜ r ≡ indexKey x ⌝ }
+{
+    if x < -1000000 {
+        return 0;
+    }
+    if x < 0 {
+        return (x + 1000001) as u64;
+    }
+    x as u64 + 1000001
+}
+
+// The part index of booking k.
+pub fn key_at(rows: &[i64], k: usize) -> u64
+    ensures { λ r. ⌜ r ≡ keyAt (now (rows .entry)) k ⌝ }
+{
+    index_key(rows::cell_at(rows, k, 7))
+}
+
+// Whether row j is a booking of the piece of booking k.
+pub fn in_piece(rows: &[i64], k: usize, j: usize) -> bool
+    ensures { λ r. ⌜ r ≡ inPiece (now (rows .entry)) k j ⌝ }
+{
+    if rows::is_at(rows, j, 0, 23) {
+        if rows::is_at(rows, j, 1, rows::num_at(rows, k, 1)) {
+            return key_at(rows, j) == key_at(rows, k);
+        }
+    }
+    false
+}
+
+// ---- rows that name two
+
+fn names_at(rows: &[i64], x: usize, a: u64, b: u64, i: usize) -> bool
+    ensures { λ r. ⌜ r ≡ names (now (rows .entry)) x a b i ⌝ }
+{
+    if rows::is_at(rows, i, 0, x as u64) {
+        if rows::is_at(rows, i, 1, a) {
+            return rows::is_at(rows, i, 2, b);
+        }
+    }
+    false
+}
+
+// The first row of kind x that names a and b, along the chain of the rows that belong to row o.
+pub fn find_naming(rows: &[i64], owned: &[u16; 8810], o: usize, x: usize, a: u64, b: u64) -> usize
+    requires { ⌜ Owned (now rows) (now owned) × (o ≤ rowCount (now rows)) × Blind (ownedBy (now rows) o x) (names (now rows) x a b) ⌝ }
+    ensures { λ r. ⌜ First (names (now (rows .entry)) x a b) 0 (rowCount (now (rows .entry))) r ⌝ }
+{
+    let n = rows::row_count(rows);
+    let mut i = sheet::first_owned(rows, owned, o, x);
+    while i < n {
+        if names_at(rows, x, a, b, i) {
+            return i;
+        }
+        i = sheet::next_owned(rows, owned, o, x, i);
+    }
+    i
+}
+
+// ---- the first bookings
+
+// Whether row j is a booking of booking k's piece, on the same resource.
+fn is_same(rows: &[i64], k: usize, j: usize) -> bool
+    ensures { λ r. ⌜ r ≡ sameBooking (now (rows .entry)) k j ⌝ }
+{
+    if rows::is_at(rows, j, 3, rows::num_at(rows, k, 3)) {
+        return in_piece(rows, k, j);
+    }
+    false
+}
+
+// Whether no booking before booking k is of its piece and on its resource.
+fn is_first(rows: &[i64], links: &[u16; 1600], owned: &[u16; 8810], k: usize) -> bool
+    requires { ⌜ Linked (now rows) (now links) × Owned (now rows) (now owned) × (k < rowCount (now rows)) × (is (now rows) k 0 23 ≡ true) ⌝ }
+    ensures { λ r. ⌜ r ≡ not (anyBelow (sameBooking (now (rows .entry)) k) k) ⌝ }
+{
+    let o = sheet::owner_of(rows, links, k);
+    let mut j = sheet::first_owned(rows, owned, o, 23);
+    while j < k {
+        if is_same(rows, k, j) {
+            return false;
+        }
+        j = sheet::next_owned(rows, owned, o, 23, j);
+    }
+    true
+}
+
+fn first_at(rows: &[i64], links: &[u16; 1600], owned: &[u16; 8810], k: usize) -> bool
+    requires { ⌜ Linked (now rows) (now links) × Owned (now rows) (now owned) × (k < rowCount (now rows)) ⌝ }
+    ensures { λ r. ⌜ r ≡ firstOn (now (rows .entry)) k ⌝ }
+{
+    if rows::is_at(rows, k, 0, 23) {
+        return is_first(rows, links, owned, k);
+    }
+    false
+}
+
+fn mark(marks: &mut [u8; 800], k: usize, yes: bool)
+    requires { ⌜ k < 800 ⌝ }
+    ensures { λ _. ⌜ now (marks .exit) ≡ set (now (marks .entry)) k (cond yes 1 0) ⌝ }
+{
+    if yes {
+        marks[k] = 1;
+    } else {
+        marks[k] = 0;
+    }
+}
+
+// 1 at each booking that is the first of its piece on its resource.
+fn firsts_of(rows: &[i64], links: &[u16; 1600], owned: &[u16; 8810]) -> [u8; 800]
+    requires { ⌜ Linked (now rows) (now links) × Owned (now rows) (now owned) ⌝ }
+    ensures { λ r. ⌜ Firsts (now (rows .entry)) r ⌝ }
+{
+    let n = rows::row_count(rows);
+    let mut firsts = [0u8; 800];
+    let mut k = 0;
+    while k < n {
+        mark(&mut firsts, k, first_at(rows, links, owned, k));
+        k += 1;
+    }
+    firsts
+}
+
+// ---- who is held
+
+// Whether r is a companion of the resource of booking j.
+fn is_companion(rows: &[i64], links: &[u16; 1600], owned: &[u16; 8810], j: usize, r: u64) -> bool
+    requires { ⌜ Accepted (now rows) × Linked (now rows) (now links) × Owned (now rows) (now owned) × (j < rowCount (now rows)) × (is (now rows) j 0 23 ≡ true) ⌝ }
+    ensures { λ b. ⌜ b ≡ anyBelow (names (now (rows .entry)) 13 (num (now (rows .entry)) j 3) r) (rowCount (now (rows .entry))) ⌝ }
+{
+    let n = rows::row_count(rows);
+    let o = sheet::resource_of(rows, links, j);
+    if o < n {
+        let i = find_naming(rows, owned, o, 13, rows::num_at(rows, j, 3), r);
+        return i < n;
+    }
+    false
+}
+
+// Whether booking j is of booking k's piece, on a resource that k's resource is a companion of.
+fn holds_for(rows: &[i64], links: &[u16; 1600], owned: &[u16; 8810], k: usize, j: usize) -> bool
+    requires { ⌜ Accepted (now rows) × Linked (now rows) (now links) × Owned (now rows) (now owned) × (j < rowCount (now rows)) ⌝ }
+    ensures { λ r. ⌜ r ≡ holdsFor (now (rows .entry)) k j ⌝ }
+{
+    if in_piece(rows, k, j) {
+        let r = rows::num_at(rows, k, 3);
+        if rows::is_at(rows, j, 3, r) {
+            return false;
+        }
+        return is_companion(rows, links, owned, j, r);
+    }
+    false
+}
+
+// The same, where booking j is the first of its resource: the others hold what it holds.
+fn first_holds(
+    rows: &[i64],
+    links: &[u16; 1600],
+    owned: &[u16; 8810],
+    firsts: &[u8; 800],
+    k: usize,
+    j: usize,
+) -> bool
+    requires { ⌜ Accepted (now rows) × Linked (now rows) (now links) × Owned (now rows) (now owned) × Firsts (now rows) (now firsts) × (j < rowCount (now rows)) ⌝ }
+    ensures { λ r. ⌜ r ≡ (firstOn (now (rows .entry)) j && holdsFor (now (rows .entry)) k j) ⌝ }
+{
+    if firsts[j] == 1 {
+        return holds_for(rows, links, owned, k, j);
+    }
+    false
+}
+
+// Whether a booking of booking k's piece holds k's resource as a companion.
+fn is_held(
+    rows: &[i64],
+    links: &[u16; 1600],
+    owned: &[u16; 8810],
+    firsts: &[u8; 800],
+    k: usize,
+) -> bool
+    requires { ⌜ Accepted (now rows) × Linked (now rows) (now links) × Owned (now rows) (now owned) × Firsts (now rows) (now firsts) × (k < rowCount (now rows)) × (is (now rows) k 0 23 ≡ true) ⌝ }
+    ensures { λ r. ⌜ r ≡ anyBelow (holdsFor (now (rows .entry)) k) (rowCount (now (rows .entry))) ⌝ }
+{
+    let n = rows::row_count(rows);
+    let o = sheet::owner_of(rows, links, k);
+    let mut j = sheet::first_owned(rows, owned, o, 23);
+    while j < n {
+        if first_holds(rows, links, owned, firsts, k, j) {
+            return true;
+        }
+        j = sheet::next_owned(rows, owned, o, 23, j);
+    }
+    false
+}
+
+// Whether row k is a booking that is held.
+fn held_at(
+    rows: &[i64],
+    links: &[u16; 1600],
+    owned: &[u16; 8810],
+    firsts: &[u8; 800],
+    k: usize,
+) -> bool
+    requires { ⌜ Accepted (now rows) × Linked (now rows) (now links) × Owned (now rows) (now owned) × Firsts (now rows) (now firsts) × (k < rowCount (now rows)) ⌝ }
+    ensures { λ r. ⌜ r ≡ heldAt (now (rows .entry)) k ⌝ }
+{
+    if rows::is_at(rows, k, 0, 23) {
+        return is_held(rows, links, owned, firsts, k);
+    }
+    false
+}
+
+// 1 at each booking that is held.
+pub fn held_of(rows: &[i64], links: &[u16; 1600], owned: &[u16; 8810]) -> [u8; 800]
+    requires { ⌜ Accepted (now rows) × Linked (now rows) (now links) × Owned (now rows) (now owned) ⌝ }
+    ensures { λ r. ⌜ Held (now (rows .entry)) r ⌝ }
+{
+    let n = rows::row_count(rows);
+    let firsts = firsts_of(rows, links, owned);
+    let mut held = [0u8; 800];
+    let mut k = 0;
+    while k < n {
+        mark(&mut held, k, held_at(rows, links, owned, &firsts, k));
+        k += 1;
+    }
+    held
+}
+
+// Whether booking k is held, by the marks.
+pub fn is_marked(rows: &[i64], held: &[u8; 800], k: usize) -> bool
+    requires { ⌜ Held (now rows) (now held) × (k < rowCount (now rows)) ⌝ }
+    ensures { λ r. ⌜ r ≡ heldAt (now (rows .entry)) k ⌝ }
+{
+    held[k] == 1
+}

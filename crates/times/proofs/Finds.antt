@@ -1,0 +1,163 @@
+-- What a lookup of the typed sheet finds, by the place of its row. Assumes nothing.
+use Prim.Native.Nat.{ℕ, zero, suc, _+_, _<_, _≤_}
+use mathlib.Core.Path.{_≡_, refl, sym, ap, ap₂, _∙_}
+use mathlib.Core.Bool.{Bool, true, false, cond, _&&_, _||_, true≢false}
+use mathlib.Core.List.{List, [], _∷_, _++_}
+use mathlib.Core.Option.{Option, none, some}
+use native.Mathlib.Omega.{arith}
+use native.Mathlib.Decide.{decLt}
+use lib.Dec.{eqb}
+use lib.IntN.{ℤ}
+use lib.Ieee.{binary64, ofBits}
+use Rattle.loops.specs.Lists.{given, keep, head, option}
+use Rattle.loops.specs.Range.{collect}
+use Rattle.loops.specs.Search.{orElse, someIf, first, firstPlace}
+use Rattle.loops.specs.Chain.{First}
+use Rattle.loops.proofs.ListLaws.{keep-collect, head-collect}
+use Rattle.loops.proofs.PlaceLaws.{found-at, place-none}
+use Rattle.rows.specs.Cells.{rowCount, cell, num, is}
+use Rattle.sheet.specs.Places.{named, placeOf}
+use Rattle.sheet.specs.Index.{orEnd}
+use Rattle.timing.specs.declared.ResourceTiming.{ResourceTiming}
+use Rattle.timing.specs.declared.ResourceTiming.the-variants.{Speed, Duration}
+use Rattle.model.specs.Sheet.{Sheet, sheet, rowAt, numAt, intAt, isKind}
+use Rattle.model.specs.Activity.{Activity, Split, activityAt, activities, findActivity, split, timingAt, timing}
+use Rattle.model.proofs.RowLaws.{kind-is, row-none, row-here, activity-row, activity-none}
+use Rattle.pieces.specs.Bookings.{names}
+use Rattle.pieces.proofs.Chains.{first-below}
+use Rattle.times.specs.Rows.{columnsOf, activityOf, timedBy, timingOf}
+
+-- ---- what the first place gives
+
+first-ext : {A : Type 0} (f g : ℕ → Option A) (n : ℕ) → ((k : ℕ) → f k ≡ g k) → first f n ≡ first g n
+unfolding first
+first-ext f g zero h = refl
+first-ext f g (suc n) h = ap₂ orElse (first-ext f g n h) (h n)
+
+first-of : {A : Type 0} (q : ℕ → Bool) (g : ℕ → A) (n : ℕ) → first (λ k. cond (q k) (some (g k)) none) n ≡ option (firstPlace q n) none (λ i. some (g i))
+unfolding first firstPlace
+first-of q g zero = refl
+first-of {A} q g (suc n) = ap (λ x. orElse x (cond (q n) (some (g n)) none)) (first-of q g n) ∙ go (firstPlace q n) (q n)
+  where
+    go : (x : Option ℕ) (b : Bool) → orElse {A = A} (option x none (λ i. some (g i))) (cond b (some (g n)) none) ≡ option (orElse x (someIf b n)) none (λ i. some (g i))
+    go none true = refl
+    go none false = refl
+    go (some i) b = refl
+
+-- a list put together by place, whose rows give one element or none
+pub head-of : {A : Type 0} (q : ℕ → Bool) (g : ℕ → A) (f : ℕ → List A) (n : ℕ) → ((k : ℕ) → head (f k) ≡ cond (q k) (some (g k)) none)
+    → head (collect f n) ≡ option (firstPlace q n) none (λ i. some (g i))
+head-of q g f n h = head-collect f n ∙ first-ext _ _ n h ∙ first-of q g n
+
+one : {A : Type 0} (b : Bool) (x : A) → head (given b x ++ []) ≡ cond b (some x) none
+one true x = refl
+one false x = refl
+
+here : {A : Type 0} (b : Bool) (x : A) → head (given b x) ≡ cond b (some x) none
+here true x = refl
+here false x = refl
+
+module _ (rows : List ℤ) where
+  pub find-activity : (x : ℕ) → findActivity (sheet rows) x ≡ option (placeOf rows 2 x) none (λ i. some (activityOf rows i))
+  unfolding findActivity activities placeOf
+  find-activity x =
+      ap head (keep-collect (λ a. eqb (a .id) x) (activityAt (sheet rows)) (rowCount rows))
+      ∙ head-of (named rows 2 x) (activityOf rows) _ (rowCount rows) (λ k. at k (is rows k 0 2) refl)
+    where
+      at : (k : ℕ) (b : Bool) → is rows k 0 2 ≡ b → head (keep (λ a. eqb (a .id) x) (activityAt (sheet rows) k)) ≡ cond (named rows 2 x k) (some (activityOf rows k)) none
+      at k true h = rw (activity-row rows k h) (unfold keep named is in (rw h (one (eqb (num rows k 1) x) (activityOf rows k))))
+      at k false h = rw (activity-none rows k h) (unfold keep named in (rw h))
+
+  abbrev pub splitOf : ℕ → Split
+  splitOf k = record { maxParts = cell rows k 2; minPart = num rows k 3; overhead = num rows k 4 }
+
+  abbrev split-row : ℕ → ℕ → List Split
+  split-row x k = given (eqb (numAt (sheet rows) k 1) x) (record { maxParts = intAt (sheet rows) k 2; minPart = numAt (sheet rows) k 3; overhead = numAt (sheet rows) k 4 })
+
+  pub split-is : (x : ℕ) → split (sheet rows) x ≡ option (placeOf rows 4 x) none (λ i. some (splitOf i))
+  unfolding split placeOf
+  split-is x = head-of (named rows 4 x) splitOf _ (rowCount rows) (λ k. at k (is rows k 0 4) refl)
+    where
+      at : (k : ℕ) (b : Bool) → is rows k 0 4 ≡ b → head (rowAt (sheet rows) 4 (split-row x) k) ≡ cond (named rows 4 x k) (some (splitOf k)) none
+      at k true h = rw (row-here rows k 4 (split-row x) h, kind-is rows k 4 h) (unfold named is in (rw h (here (eqb (num rows k 1) x) (splitOf k))))
+      at k false h = rw (row-none rows k 4 (split-row x) h) (unfold named in (rw h))
+
+  -- ---- timings
+
+  nine : (b : Bool) (x y : ResourceTiming) → head (given b x ++ []) ≡ cond (b || false) (some x) none
+  nine true x y = refl
+  nine false x y = refl
+
+  timing-row : (a r k : ℕ) → head (timingAt (sheet rows) a r k) ≡ cond (timedBy rows a r k) (some (timingOf rows k)) none
+  timing-row a r k = go (is rows k 0 9) (is rows k 0 10) refl refl
+    where
+      go : (b c : Bool) → is rows k 0 9 ≡ b → is rows k 0 10 ≡ c → head (timingAt (sheet rows) a r k) ≡ cond (timedBy rows a r k) (some (timingOf rows k)) none
+      go true c h g = unfold timingAt timedBy timingOf names is in (rw (kind-is rows k 9 h) (nine (eqb (num rows k 1) a && eqb (num rows k 2) r) (Speed (ofBits binary64 (num rows k 3))) (Duration (columnsOf rows k 3))))
+      go false true h g = unfold timingAt timedBy timingOf names is in (rw (kind-is rows k 10 g) (here (eqb (num rows k 1) a && eqb (num rows k 2) r) (Duration (columnsOf rows k 3))))
+      go false false h g = unfold timingAt timedBy timingOf names is in (rw (h, g))
+
+  pub timing-is : (a r : ℕ) → timing (sheet rows) a r ≡ option (firstPlace (timedBy rows a r) (rowCount rows)) none (λ i. some (timingOf rows i))
+  unfolding timing
+  timing-is a r = head-of (timedBy rows a r) (timingOf rows) (timingAt (sheet rows) a r) (rowCount rows) (timing-row a r)
+
+  -- ---- places as numbers
+
+  pub place-below : (q : ℕ → Bool) → orEnd rows (firstPlace q (rowCount rows)) ≤ rowCount rows
+  place-below q = go (firstPlace q (rowCount rows)) refl
+    where
+      go : (x : Option ℕ) → firstPlace q (rowCount rows) ≡ x → orEnd rows x ≤ rowCount rows
+      go none e = unfold orEnd in omega arith
+      go (some i) e = let f = found-at q (rowCount rows) i e in unfold orEnd in omega (arith, f .0)
+
+  pub place-is : (x : Option ℕ) (o : ℕ) → o ≡ orEnd rows x → o < rowCount rows → x ≡ some o
+  unfolding orEnd
+  place-is none o e l = absurd (omega arith)
+  place-is (some k) o e l = ap some (sym e)
+
+  -- the first place is the one that a search finds
+  pub first-place : (q : ℕ → Bool) (i : ℕ) → First q 0 (rowCount rows) i → i ≡ orEnd rows (firstPlace q (rowCount rows))
+  first-place q i s = go (firstPlace q (rowCount rows)) refl
+    where
+      go : (x : Option ℕ) → firstPlace q (rowCount rows) ≡ x → i ≡ orEnd rows x
+      go none e = unfold orEnd in end (decLt i (rowCount rows))
+        where
+          end : Dec (i < rowCount rows) → i ≡ rowCount rows
+          end (yes l) = absurd (true≢false (sym (s .here l) ∙ place-none q (rowCount rows) e i l))
+          end (no l) = omega (arith, s .high)
+      go (some j) e = unfold orEnd in at (decLt i j)
+        where
+          f : (j < rowCount rows) × (q j ≡ true)
+          f = found-at q (rowCount rows) j e
+
+          at : Dec (i < j) → i ≡ j
+          at (yes l) = absurd (sooner l)
+            where
+              sooner : i < j → ⊥
+              sooner l = true≢false (sym (s .here (omega (arith, f .0))) ∙ first-below q (rowCount rows) j e i l)
+          at (no l) = later (decLt j i)
+            where
+              later : Dec (j < i) → i ≡ j
+              later (yes m) = absurd (true≢false (sym (f .1) ∙ s .none j (omega arith) m))
+              later (no m) = omega arith
+
+-- ---- the first of two kinds
+
+pub first-least : (p q : ℕ → Bool) (n i j : ℕ) → First p 0 n i → First q 0 n j → i ≤ j → First (λ k. p k || q k) 0 n i
+first-least p q n i j f g l = record {
+  low = omega arith;
+  high = f .high;
+  none = λ k a b. rw (f .none k a b) (g .none k a (omega arith));
+  here = λ a. rw (f .here a);
+}
+
+pub first-swap : (p q : ℕ → Bool) (n i j : ℕ) → First p 0 n i → First q 0 n j → j ≤ i → First (λ k. p k || q k) 0 n j
+first-swap p q n i j f g l = record {
+  low = omega arith;
+  high = g .high;
+  none = λ k a b. rw (f .none k a (omega arith)) (g .none k a b);
+  here = λ a. rw (g .here a) (or-true (p j));
+}
+  where
+    or-true : (b : Bool) → (b || true) ≡ true
+    or-true true = refl
+    or-true false = refl

@@ -1,0 +1,4 @@
+pub mod Derivation
+pub mod Finds
+pub mod Parts
+pub mod Refusing

@@ -1,0 +1,68 @@
+use borrow.Author.Needs.{needs}
+use Rattle.times.specs.Times.{timeFault}
+use Rattle.loops.proofs.SearchLaws.{first-zero, first-miss}
+use Rattle.loops.specs.Search.{first}
+use mathlib.Core.Option.{none}
+use Prim.Native.Nat.{_-_, _≤_}
+use Rattle.times.proofs.Refusing.{refused-at, fault-some, fault-none, not-refused}
+use native.Mathlib.Omega.{arith}
+use mathlib.Core.Path.{_≡_, sym, ap, _∙_}
+use Rattle.times.proofs.refused.Statement.{statement}
+use Rattle.times.proofs.refused.Tie as tie
+use Rattle.times.proofs.refused.Reads as reads
+use Rattle.times.proofs.refused.Lts as lts
+use Rattle.rows.proofs.row_count.Reads as row-count-reads
+use Rattle.times.proofs.is_too_large.Reads as is-too-large-reads
+
+abbrev Inv-loop : tie.InvT-loop
+Inv-loop rows need n k₀ k = (k ≤ n) × (first (timeFault rows) k ≡ none)
+
+abbrev μ-loop : tie.MeasureT-loop
+μ-loop rows need n k₀ k = n - k
+
+-- src/lib.rt:264:9
+row-count-requires : tie.Need-row-count-requires Inv-loop μ-loop
+row-count-requires c κs = search needs
+
+-- src/lib.rt:266:5
+loop-holds : tie.Need-loop-holds Inv-loop μ-loop
+loop-holds c = (search needs, first-zero _)
+
+-- src/lib.rt:267:12
+is-too-large-requires : tie.Need-is-too-large-requires Inv-loop μ-loop
+is-too-large-requires c κs = ((c .before .before .before .pre), omega (arith, (c .loop-test .taken), (c .before .before .row-count .ensures)))
+
+-- src/lib.rt:268:13
+returns : tie.Need-returns Inv-loop μ-loop
+returns c = refused-at _ _ _ (c .before .before .loop-test .taken) (c .before .before .before .before .row-count .ensures) ((c .before .before .before .loop .inv .1)) (fault-some _ _ (c .before .is-too-large .ensures) (c .if1 .taken))
+
+-- src/lib.rt:270:9
+add-k : tie.Need-add-k Inv-loop μ-loop
+add-k c = search needs
+
+-- src/lib.rt:266:5
+loop-less : tie.Need-loop-less Inv-loop μ-loop
+loop-less c = search needs
+
+-- src/lib.rt:266:5
+loop-again : tie.Need-loop-again Inv-loop μ-loop
+loop-again c = (search needs, first-miss _ _ ((c .before .before .before .loop .inv .1)) (fault-none _ _ (c .before .is-too-large .ensures) (c .if1 .left)))
+
+-- src/lib.rt:260:1
+returns-2 : tie.Need-returns-2 Inv-loop μ-loop
+returns-2 c = not-refused _ _ _ ((c .before .loop .inv .0)) (c .loop-test .left) (c .before .before .row-count .ensures) ((c .before .loop .inv .1))
+
+pub refused-spec : {M : Type 1} → statement M
+refused-spec =
+    tie.close
+    (tie.spec
+    Inv-loop
+    μ-loop
+    row-count-requires
+    loop-holds
+    is-too-large-requires
+    returns
+    add-k
+    loop-less
+    loop-again
+    returns-2)

@@ -1,0 +1,75 @@
+-- Activities, bookings, splits and timings as rows, and one booking's step of a derived time. Assumes nothing.
+use Prim.Native.Nat.{ℕ, _+_, _<_, _≤_}
+use mathlib.Core.Path.{_≡_}
+use mathlib.Core.Bool.{Bool, cond, not, _&&_, _||_}
+use mathlib.Core.List.{List}
+use mathlib.Core.Option.{Option}
+use lib.Dec.{eqb}
+use lib.IntN.{ℤ, pos}
+use lib.Ieee.{binary64, ofBits}
+use lib.ListN.{getD}
+use Rattle.loops.specs.Lists.{option}
+use Rattle.loops.specs.Search.{firstPlace}
+use Rattle.rows.specs.Cells.{rowCount, cell, num, is}
+use Rattle.sheet.specs.Index.{orEnd}
+use Rattle.timing.specs.declared.ActivityDuration.{ActivityDuration}
+use Rattle.timing.specs.declared.ResourceTiming.{ResourceTiming}
+use Rattle.timing.specs.declared.ResourceTiming.the-variants.{Speed, Duration}
+use Rattle.timing.specs.declared.Piece.{Piece}
+use Rattle.timing.specs.Durations.{Found, timedOn, pieceTiming}
+use Rattle.model.specs.Sheet.{sheet, maybeAt}
+use Rattle.model.specs.Activity.{Activity, Split, timing}
+use Rattle.model.specs.Schedule.{Part, Assignment, asPart}
+use Rattle.pieces.specs.Bookings.{inPiece, names}
+use Rattle.pieces.specs.Held.{heldAt}
+
+module _ (rows : List ℤ) where
+  abbrev pub columnsOf : ℕ → ℕ → ActivityDuration
+  columnsOf k c = record { «setup_ms» = num rows k c; «process_ms» = num rows k (c + 1); «teardown_ms» = num rows k (c + 2) }
+
+  abbrev pub activityOf : ℕ → Activity ℤ
+  activityOf k = record {
+    id = num rows k 1;
+    task = num rows k 2;
+    sequence = cell rows k 3;
+    duration = columnsOf k 4;
+    resumable = eqb (num rows k 7) 1;
+    release = maybeAt rows k 8;
+  }
+
+  abbrev pub partAt : ℕ → Option Part
+  partAt k = asPart (sheet rows .cell k 7) (sheet rows .cell k 8)
+
+  abbrev pub bookingOf : ℕ → Assignment ℤ
+  bookingOf k = record {
+    activity = num rows k 1;
+    task = num rows k 2;
+    resource = num rows k 3;
+    start = pos (num rows k 4);
+    end = pos (num rows k 5);
+    setup = num rows k 6;
+    part = partAt k;
+  }
+
+  -- row i is a timing of activity a on resource r
+  unfoldable pub timedBy : ℕ → ℕ → ℕ → Bool
+  timedBy a r i = names rows 9 a r i || names rows 10 a r i
+
+  unfoldable pub timingOf : ℕ → ResourceTiming
+  timingOf i = cond (is rows i 0 9) (Speed (ofBits binary64 (num rows i 3))) (Duration (columnsOf i 3))
+
+  -- the row of the timing on booking k's resource
+  unfoldable pub timingPlace : ℕ → ℕ
+  timingPlace k =
+      cond (is rows k 0 23) (orEnd rows (firstPlace (timedBy (num rows k 1) (num rows k 3)) (rowCount rows))) (rowCount rows)
+
+  -- one booking j more, where booking k's piece runs on it
+  unfoldable pub timedAt : ℕ → Piece → Found → ℕ → Found
+  timedAt k piece f j =
+      cond (inPiece rows k j && not (heldAt rows j))
+      (option (timing (sheet rows) (num rows k 1) (num rows j 3)) f (λ t. timedOn f (pieceTiming piece t)))
+      f
+
+pub record Timings (rows : List ℤ) (t : List ℕ) : Type 0 where
+  pub short : rowCount rows ≤ 800
+  pub at : (k : ℕ) → k < rowCount rows → getD t k 0 ≡ timingPlace rows k
