@@ -27,7 +27,8 @@ use Rattle.pieces.specs.Bookings.{inPiece, keyAt}
 use Rattle.pieces.specs.Held.{heldAt}
 use Rattle.pieces.proofs.Chains.{blind-if, piece-owned, piece-kind}
 use Rattle.pieces.proofs.Companions.{of-piece}
-use Rattle.assignments.specs.Bookings.{bookingOf, activityOf, Booked, takesUnit}
+use Rattle.times.specs.Rows.{bookingOf, activityOf}
+use Rattle.assignments.specs.Bookings.{Booked, takesUnit}
 use Rattle.assignments.proofs.Placing.{own-row}
 
 module _ {A : Type 0} (p : A → Bool) (g : ℕ → List A) (q : ℕ → Bool) (h : (k : ℕ) → countOf p (g k) ≡ cond (q k) 1 0) where

@@ -23,7 +23,7 @@ use Rattle.model.specs.Task.{Task, taskAt, tasks, findTask}
 use Rattle.model.specs.Activity.{Activity, Split, activityAt, activities, findActivity, split}
 use Rattle.model.proofs.RowLaws.{kind-is, row-none, row-here, task-row, task-none, activity-row, activity-none}
 use Rattle.model.proofs.OwnedLaws.{of-activity}
-use Rattle.assignments.specs.Bookings.{activityOf}
+use Rattle.times.specs.Rows.{activityOf}
 
 -- ---- the first of a list that passes, by places
 

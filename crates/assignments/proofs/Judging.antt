@@ -35,7 +35,9 @@ use Rattle.model.proofs.Accepting.{has-owner}
 use Rattle.checks.specs.Pieces.{isHeld, runsOn}
 use Rattle.checks.specs.CheckAssignments.{misplaced, units, uses, earlyAssignment, checkKnown, checkAssignment, checkAssignmentAt, checkAssignments}
 use Rattle.pieces.specs.Held.{heldAt}
-use Rattle.assignments.specs.Bookings.{bookingOf, activityOf, Booked, Needs}
+use Rattle.times.specs.Rows.{bookingOf, activityOf}
+use Rattle.times.specs.Times.{Needs}
+use Rattle.assignments.specs.Bookings.{Booked}
 use Rattle.assignments.proofs.Finding.{taskOf, find-task, find-activity}
 use Rattle.assignments.proofs.Placing.{activity-named, activity-kind}
 
@@ -77,6 +79,9 @@ module _ (rows : List ℤ) where
           early-is k j 3 ∙ ap (λ i. given (ltb (num rows k 4) (num rows i 3)) (earlyStart 1 (num rows k 1))) (sym w)
 
   -- ---- a booking of an activity
+
+  found : (a k : ℕ) → Booked rows a k → findActivity (sheet rows) (num rows k 1) ≡ some (activityOf rows a)
+  found a k b = find-activity rows (num rows k 1) ∙ ap (λ x. option x none (λ j. some (activityOf rows j))) (b .place)
 
   cond-yes : {A : Type 0} {b : Bool} (x y : A) → b ≡ true → cond b x y ≡ x
   cond-yes x y e = rw e
@@ -148,7 +153,7 @@ module _ (rows : List ℤ) where
         (ap₂ _++_
         (ap₂ _++_
         (ap₂ (λ x y. given x (unknownActivity 1 y)) (o ∙ ap (λ x. ltZ (units (sheet rows) (num rows a 1)) (pos x)) (add-one used ∙ ap suc u)) i)
-        (ap₂ (λ x y. given x (durationTooShort 1 y)) (w ∙ ap (λ x. ltb (num rows k 5) (num rows k 4 + x)) (sym (nd .at a k b))) i))
+        (ap₂ (λ x y. given x (durationTooShort 1 y)) (w ∙ ap (λ x. ltb (num rows k 5) (num rows k 4 + x)) (sym (nd .at k (bookingOf rows k) (activityOf rows a) (b .within) (assignment-row rows k (b .kind)) (found a k b)))) i))
         (ap₂ (λ x y. given x (earlyStart 1 y)) e i ∙ sym (early-is k a 8)))
         (ap₂ (λ x y. given x (earlyStart 1 y)) l i ∙ sym (early-task acc a k t b z))
         ∙ sym (judged-is h g))

@@ -27,7 +27,8 @@ use Rattle.checks.specs.CheckAssignments.{misplaced}
 use Rattle.pieces.specs.Bookings.{indexKey, keyAt}
 use Rattle.pieces.proofs.Indices.{indexIn, before-key}
 use Rattle.pieces.proofs.Companions.{index-class, booked-index}
-use Rattle.assignments.specs.Bookings.{bookingOf, activityOf, Booked}
+use Rattle.times.specs.Rows.{bookingOf, activityOf}
+use Rattle.assignments.specs.Bookings.{Booked}
 
 -- ---- whether a booking names a part
 

@@ -24,7 +24,9 @@ ghost use Rattle.checks.specs.Pieces.{isHeld};
 ghost use Rattle.checks.specs.CheckAssignments.{misplaced, units, uses, checkKnown, checkAssignmentAt, checkAssignments};
 ghost use Rattle.pieces.specs.Bookings.{indexKey};
 ghost use Rattle.pieces.specs.Held.{Held};
-ghost use Rattle.assignments.specs.Bookings.{bookingOf, activityOf, Booked, Needs, quantities, takesUnit};
+ghost use Rattle.times.specs.Rows.{bookingOf, activityOf};
+ghost use Rattle.times.specs.Times.{Needs};
+ghost use Rattle.assignments.specs.Bookings.{Booked, quantities, takesUnit};
 use findings::Violation;
 use sheet::Found;
 
@@ -126,7 +128,14 @@ fn more(n: u64, yes: bool) -> u64
 }
 
 // How many bookings before booking k take a unit of its piece.
-fn uses_before(rows: &[i64], owned: &[u16; 8810], held: &[u8; 800], a: usize, parts: bool, k: usize) -> u64
+fn uses_before(
+    rows: &[i64],
+    owned: &[u16; 8810],
+    held: &[u8; 800],
+    a: usize,
+    parts: bool,
+    k: usize,
+) -> u64
     requires { ⌜ Accepted (now rows) × Owned (now rows) (now owned) × Held (now rows) (now held) × Booked (now rows) a k × (parts ≡ isSome (split (sheet (now rows)) (num (now rows) a 1))) ⌝ }
     ensures count { λ r. ⌜ r ≡ uses (sheet (now (rows .entry))) (activityOf (now (rows .entry)) a) (bookingOf (now (rows .entry)) k) (assignmentsBelow (sheet (now (rows .entry))) k) ⌝ }
     ensures bound { λ r. ⌜ r ≤ 800 ⌝ }

@@ -1,4 +1,4 @@
-use Prim.Native.Nat.{_+_, _≤_}
+use Prim.Native.Nat.{_+_, _<_, _≤_}
 use mathlib.Core.Path.{_≡_, refl, sym, ap, ap₂, _∙_}
 use native.Mathlib.Omega.{arith}
 use lib.Dec.{ltb}
@@ -34,11 +34,11 @@ element-copy-out-result c = search needs
 
 -- src/lib.rt:152:41
 add-result : tie.Need-add-result
-add-result c = let s : num (c .before .before .before .before .args .rows .now) ((c .before .before .before .before .args .k)) 4 ≤ 4000000000000 = at-most _ ((c .before .before .before .before .pre .0)) _ 23 4 ((c .before .before .before .before .pre .3)) in let t : num (c .before .before .before .before .args .rows .now) ((c .before .before .before .before .args .k)) 6 ≤ 4000000000000 = at-most _ ((c .before .before .before .before .pre .0)) _ 23 6 ((c .before .before .before .before .pre .3)) in let d = (c .before .before .before .before .pre .1) .small _ ((c .before .before .before .before .pre .2)) in record { fits = omega (arith, t, d, (c .before .before .num-at2 .ensures)) }
+add-result c = let s : num (c .before .before .before .before .args .rows .now) ((c .before .before .before .before .args .k)) 4 ≤ 4000000000000 = at-most _ ((c .before .before .before .before .pre .0)) _ 23 4 ((c .before .before .before .before .pre .3)) in let t : num (c .before .before .before .before .args .rows .now) ((c .before .before .before .before .args .k)) 6 ≤ 4000000000000 = at-most _ ((c .before .before .before .before .pre .0)) _ 23 6 ((c .before .before .before .before .pre .3)) in let d : getD (c .before .before .before .before .args .need .now) (c .before .before .before .before .args .k) 0 < 9007199254740992 = (c .before .before .before .before .pre .1) .small _ ((c .before .before .before .before .pre .2)) in record { fits = omega (arith, t, d, (c .before .before .num-at2 .ensures)) }
 
 -- src/lib.rt:152:32
 add-result-2 : tie.Need-add-result-2
-add-result-2 c = let s : num (c .before .before .before .before .args .rows .now) ((c .before .before .before .before .args .k)) 4 ≤ 4000000000000 = at-most _ ((c .before .before .before .before .pre .0)) _ 23 4 ((c .before .before .before .before .pre .3)) in let t : num (c .before .before .before .before .args .rows .now) ((c .before .before .before .before .args .k)) 6 ≤ 4000000000000 = at-most _ ((c .before .before .before .before .pre .0)) _ 23 6 ((c .before .before .before .before .pre .3)) in let d = (c .before .before .before .before .pre .1) .small _ ((c .before .before .before .before .pre .2)) in record { fits = omega (arith, s, t, d, (c .before .before .before .num-at .ensures), (c .before .before .num-at2 .ensures)) }
+add-result-2 c = let s : num (c .before .before .before .before .args .rows .now) ((c .before .before .before .before .args .k)) 4 ≤ 4000000000000 = at-most _ ((c .before .before .before .before .pre .0)) _ 23 4 ((c .before .before .before .before .pre .3)) in let t : num (c .before .before .before .before .args .rows .now) ((c .before .before .before .before .args .k)) 6 ≤ 4000000000000 = at-most _ ((c .before .before .before .before .pre .0)) _ 23 6 ((c .before .before .before .before .pre .3)) in let d : getD (c .before .before .before .before .args .need .now) (c .before .before .before .before .args .k) 0 < 9007199254740992 = (c .before .before .before .before .pre .1) .small _ ((c .before .before .before .before .pre .2)) in record { fits = omega (arith, s, t, d, (c .before .before .before .num-at .ensures), (c .before .before .num-at2 .ensures)) }
 
 -- src/lib.rt:146:1
 returns : tie.Need-returns

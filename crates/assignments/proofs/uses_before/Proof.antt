@@ -8,7 +8,7 @@ use Rattle.loops.proofs.SearchLaws.{counted-le}
 use Rattle.loops.proofs.PlaceLaws.{count-first, count-next}
 use Rattle.rows.specs.Cells.{rowCount}
 use Rattle.sheet.specs.Index.{ownedBy}
-use Rattle.assignments.specs.Bookings.{bookingOf, activityOf, Booked, Needs, quantities, takesUnit}
+use Rattle.assignments.specs.Bookings.{takesUnit}
 use Rattle.assignments.proofs.Placing.{activity-named, owned-booking, first-upto}
 use Rattle.assignments.proofs.Counting.{takes-blind, uses-end}
 use borrow.Author.Needs.{needs}
