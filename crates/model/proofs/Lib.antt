@@ -1,3 +1,6 @@
 pub mod Accepting
 pub mod OwnedLaws
 pub mod RowLaws
+pub mod Standing
+pub mod Finds
+pub mod Requiring

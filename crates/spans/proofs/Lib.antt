@@ -1,1 +1,2 @@
 pub mod Completion
+pub mod Instants

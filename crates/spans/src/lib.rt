@@ -8,7 +8,7 @@ ghost use Rattle.loops.specs.Chain.{onlyAt};
 ghost use Rattle.rows.specs.Cells.{rowCount, num};
 ghost use Rattle.sheet.specs.Places.{ofKind};
 ghost use Rattle.sheet.specs.Index.{Kinds};
-ghost use Rattle.model.specs.Sheet.{sheet};
+ghost use Rattle.model.specs.Sheet.{sheet, maybeAt};
 ghost use Rattle.model.specs.Schedule.{later, earlier, taskCompletionTime};
 ghost use Rattle.spans.specs.Instants.{meant, endIf};
 
@@ -16,6 +16,17 @@ ghost use Rattle.spans.specs.Instants.{meant, endIf};
 pub enum Instant {
     At(u64),
     Nothing,
+}
+
+// The instant in column c of row k, which may be none.
+pub fn instant_at(rows: &[i64], k: usize, c: usize) -> Instant
+    ensures { λ r. ⌜ meant r ≡ maybeAt (now (rows .entry)) k c ⌝ }
+{
+    let x = rows::cell_at(rows, k, c);
+    if x < 0 {
+        return Instant::Nothing;
+    }
+    Instant::At(x as u64)
 }
 
 // The later of what there is and x.

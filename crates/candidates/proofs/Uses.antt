@@ -1,0 +1,161 @@
+-- Candidates and usages by rows. Assumes nothing.
+use Prim.Native.Nat.{ℕ, _<_, _≤_}
+use mathlib.Core.Path.{_≡_, refl, ap, ap₂, sym, _∙_}
+use mathlib.Core.Bool.{Bool, true, false, cond, not, _&&_}
+use mathlib.Core.List.{List, [], _∷_, _++_}
+use mathlib.Core.Option.{Option, none, some}
+use native.Mathlib.Omega.{arith}
+use lib.Dec.{eqb}
+use lib.IntN.{ℤ}
+use Rattle.loops.specs.Lists.{given, keep, head, option, among, isEmpty}
+use Rattle.loops.specs.Range.{collect}
+use Rattle.loops.specs.Search.{someIf, first, firstPlace, anyBelow}
+use Rattle.loops.specs.Chain.{First, Stands, Blind}
+use Rattle.loops.proofs.ListLaws.{keep-collect, head-collect}
+use Rattle.loops.proofs.SearchLaws.{any-hit}
+use Rattle.loops.proofs.Walks.{any-first}
+use Rattle.rows.specs.Cells.{rowCount, num, is}
+use Rattle.sheet.specs.Places.{placeOf}
+use Rattle.sheet.specs.Index.{ownerKind, orEnd, ownPlace, resPlace, ownedBy}
+use Rattle.sheet.specs.Refusals.{refusalOf}
+use Rattle.sheet.proofs.Lookups.{and-left}
+use Rattle.model.specs.Sheet.{sheet}
+use Rattle.model.specs.Activity.{ResourceRequirement, requirementAt, requirements, candidates, isCandidate, usageOn, findActivity}
+use Rattle.model.specs.Resource.{Resource, findResource}
+use Rattle.model.specs.Records.{activityOf, requirementOf, resourceOf, assignmentOf}
+use Rattle.model.proofs.Accepting.{accepted, at-most}
+use Rattle.model.proofs.OwnedLaws.{of-activity, own-activity, own-resource}
+use Rattle.model.proofs.Finds.{first-same, first-placed, given-head, find-activity, find-resource, linked-none, linked-some, found-self}
+use Rattle.model.proofs.Requiring.{requirement-row, requirement-none, candidates-are, none-given, among-given}
+use Rattle.checks.specs.CheckCapacity.{usage}
+
+pub itself : (p : ℕ → Bool) → Blind p p
+itself p = record { still = λ k e. e }
+
+-- ---- candidates
+
+module _ (rows : List ℤ) (q : ℕ) where
+  -- row k lists the resource for the requirement of row q
+  unfoldable pub lists : ℕ → ℕ → Bool
+  lists id k = ownedBy rows q 6 k && is rows k 3 id
+
+  pub lists-blind : (id : ℕ) → Blind (ownedBy rows q 6) (lists id)
+  unfolding lists
+  lists-blind id = record { still = λ k e. rw e }
+
+  pub lists-test : (id : ℕ) {n N i : ℕ} {r b : Bool} → i < N → N ≡ n → Stands (ownedBy rows q 6) n i → r ≡ is rows i 3 id → r ≡ b → lists id i ≡ b
+  unfolding lists
+  lists-test id l z a e f = rw (a .here (omega arith), ← e) f
+
+  module _ (l : q < rowCount rows) (h : is rows q 0 5 ≡ true) where
+    pub listed-are : (id : ℕ) → among id (candidates (sheet rows) (requirementOf rows q)) ≡ anyBelow (lists id) (rowCount rows)
+    unfolding lists is
+    listed-are id =
+        ap (among id) (candidates-are rows q l h) ∙ among-given (ownedBy rows q 6) (λ k. num rows k 3) id (rowCount rows)
+
+    none-listed : isEmpty (candidates (sheet rows) (requirementOf rows q)) ≡ not (anyBelow (ownedBy rows q 6) (rowCount rows))
+    none-listed = ap isEmpty (candidates-are rows q l h) ∙ none-given (ownedBy rows q 6) (λ k. num rows k 3) (rowCount rows)
+
+    -- it lists some
+    pub by-list : (k : ℕ) {i N id : ℕ} {r : Bool} → First (ownedBy rows q 6) 0 (rowCount rows) i → N ≡ rowCount rows → i < N → id ≡ num rows k 1
+        → r ≡ among id (candidates (sheet rows) (requirementOf rows q)) → r ≡ isCandidate (sheet rows) (requirementOf rows q) (resourceOf rows k)
+    unfolding isCandidate
+    by-list k {i} f z m e g =
+        let t : isEmpty (candidates (sheet rows) (requirementOf rows q)) ≡ false =
+        none-listed ∙ ap not (sym (any-hit (ownedBy rows q 6) i (rowCount rows) (rowCount rows) (omega arith) refl (f .here (omega arith)))) in
+        rw (t, ← e) g
+
+    -- it lists none
+    pub by-type : (k : ℕ) {i N t : ℕ} {r : Bool} → First (ownedBy rows q 6) 0 (rowCount rows) i → N ≡ rowCount rows → N ≤ i → t ≡ num rows q 2
+        → r ≡ is rows k 2 t → r ≡ isCandidate (sheet rows) (requirementOf rows q) (resourceOf rows k)
+    unfolding isCandidate is
+    by-type k {i} f z m e g =
+        let w : i ≡ rowCount rows = omega (arith, f .high) in
+        let t : isEmpty (candidates (sheet rows) (requirementOf rows q)) ≡ true =
+        none-listed ∙ ap not (rw w at (any-first (ownedBy rows q 6) f (itself (ownedBy rows q 6)))) in
+        rw (t, ← e) g
+
+-- ---- usage
+
+module _ (rows : List ℤ) (a k : ℕ) where
+  -- row q is a requirement of the activity of row a that takes the resource of row k
+  unfoldable pub takes : ℕ → Bool
+  takes q = ownedBy rows a 5 q && isCandidate (sheet rows) (requirementOf rows q) (resourceOf rows k)
+
+  pub takes-blind : Blind (ownedBy rows a 5) takes
+  unfolding takes
+  takes-blind = record { still = λ q e. rw e }
+
+  pub takes-test : {n N i : ℕ} {r b : Bool} → i < N → N ≡ n → Stands (ownedBy rows a 5) n i
+      → r ≡ isCandidate (sheet rows) (requirementOf rows i) (resourceOf rows k) → r ≡ b → takes i ≡ b
+  unfolding takes
+  takes-test l z s e f = rw (s .here (omega arith), ← e) f
+
+  pub is-requirement : {n N i : ℕ} → i < N → N ≡ n → Stands (ownedBy rows a 5) n i → is rows i 0 5 ≡ true
+  unfolding ownedBy
+  is-requirement {i = i} l z s = and-left (is rows i 0 5) (eqb (ownPlace rows i) a) (s .here (omega arith))
+
+  requirement-at : placeOf rows 2 (num rows a 1) ≡ some a → (q : ℕ)
+      → head (keep (λ q. isCandidate (sheet rows) q (resourceOf rows k)) (requirementAt (sheet rows) (num rows a 1) q)) ≡ someIf (takes q) (requirementOf rows q)
+  unfolding takes keep
+  requirement-at p q = rw (of-activity rows 5 a (num rows a 1) (unfold ownerKind in refl) p q) (go (is rows q 0 5) refl (is rows q 1 (num rows a 1)) refl)
+    where
+      go : (b : Bool) → is rows q 0 5 ≡ b → (d : Bool) → is rows q 1 (num rows a 1) ≡ d
+          → head (keep (λ q. isCandidate (sheet rows) q (resourceOf rows k)) (requirementAt (sheet rows) (num rows a 1) q))
+          ≡ someIf ((is rows q 0 5 && is rows q 1 (num rows a 1)) && isCandidate (sheet rows) (requirementOf rows q) (resourceOf rows k)) (requirementOf rows q)
+      go true h true g = rw (requirement-row rows (num rows a 1) q h, h, g) (given-head (isCandidate (sheet rows) (requirementOf rows q) (resourceOf rows k)) (requirementOf rows q))
+      go true h false g = rw (requirement-row rows (num rows a 1) q h, h, g)
+      go false h d g = rw (requirement-none rows (num rows a 1) q h, h)
+
+  pub usage-found : {x : Option ℕ} → placeOf rows 2 (num rows a 1) ≡ some a → x ≡ firstPlace takes (rowCount rows)
+      → option x 1 (λ q. num rows q 4) ≡ usageOn (sheet rows) (activityOf rows a) (resourceOf rows k)
+  unfolding usageOn requirements
+  usage-found {x} p e =
+      sym
+      (ap (λ y. option y 1 (λ q. q .usage))
+      (ap head (keep-collect (λ q. isCandidate (sheet rows) q (resourceOf rows k)) (requirementAt (sheet rows) (num rows a 1)) (rowCount rows))
+      ∙ head-collect (λ j. keep (λ q. isCandidate (sheet rows) q (resourceOf rows k)) (requirementAt (sheet rows) (num rows a 1) j)) (rowCount rows)
+      ∙ first-same _ _ (rowCount rows) (requirement-at p)
+      ∙ first-placed takes (requirementOf rows) (rowCount rows)
+      ∙ ap (λ y. option y none (λ j. some (requirementOf rows j))) (sym e))
+      ∙ go x)
+    where
+      go : (x : Option ℕ) → option (option x none (λ j. some (requirementOf rows j))) 1 (λ q. q .usage) ≡ option x 1 (λ q. num rows q 4)
+      go none = refl
+      go (some j) = refl
+
+  pub usage-most : {n N i r : ℕ} → refusalOf rows ≡ none → i < N → N ≡ n → Stands (ownedBy rows a 5) n i → r ≡ num rows i 4 → r ≤ 1000000
+  usage-most {i = i} acc l z s e = rw e (at-most rows (accepted rows acc) i 5 4 (is-requirement l z s))
+
+-- ---- what a booking takes
+
+module _ (rows : List ℤ) (k : ℕ) (h : is rows k 0 23 ≡ true) where
+  activity-link : {a : ℕ} → a ≡ ownPlace rows k → a ≡ orEnd rows (placeOf rows 2 (num rows k 1))
+  activity-link e = e ∙ own-activity rows 23 k (unfold ownerKind in refl) h
+
+  resource-link : {x : ℕ} → x ≡ resPlace rows k → x ≡ orEnd rows (placeOf rows 11 (num rows k 3))
+  resource-link e = e ∙ own-resource rows k h
+
+  pub unknown-activity : {a N : ℕ} → a ≡ ownPlace rows k → N ≡ rowCount rows → N ≤ a → 1 ≡ usage (sheet rows) (assignmentOf rows k)
+  unfolding usage
+  unknown-activity e z l =
+      let q = linked-none rows 2 (num rows k 1) (activity-link e) (omega arith) in
+      rw (find-activity rows (num rows k 1), q)
+
+  pub activity-found : {a N : ℕ} → a ≡ ownPlace rows k → N ≡ rowCount rows → a < N → placeOf rows 2 (num rows a 1) ≡ some a
+  activity-found {a} e z l = found-self rows 2 (num rows k 1) a (linked-some rows 2 (num rows k 1) (activity-link e) (omega arith))
+
+  pub unknown-resource : {a x N : ℕ} → a ≡ ownPlace rows k → x ≡ resPlace rows k → N ≡ rowCount rows → a < N → N ≤ x → 1 ≡ usage (sheet rows) (assignmentOf rows k)
+  unfolding usage
+  unknown-resource e g z l m =
+      let q = linked-some rows 2 (num rows k 1) (activity-link e) (omega arith) in
+      let p = linked-none rows 11 (num rows k 3) (resource-link g) (omega arith) in
+      rw (find-activity rows (num rows k 1), q, find-resource rows (num rows k 3), p)
+
+  pub known-usage : {a x N r : ℕ} → a ≡ ownPlace rows k → x ≡ resPlace rows k → N ≡ rowCount rows → a < N → x < N
+      → r ≡ usageOn (sheet rows) (activityOf rows a) (resourceOf rows x) → r ≡ usage (sheet rows) (assignmentOf rows k)
+  unfolding usage
+  known-usage e g z l m u =
+      let q = linked-some rows 2 (num rows k 1) (activity-link e) (omega arith) in
+      let p = linked-some rows 11 (num rows k 3) (resource-link g) (omega arith) in
+      rw (find-activity rows (num rows k 1), q, find-resource rows (num rows k 3), p) u

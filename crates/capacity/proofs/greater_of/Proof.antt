@@ -1,0 +1,17 @@
+use borrow.Author.Needs.{needs}
+use mir.Facts.{toZ-ofZ}
+use Rattle.capacity.proofs.greater_of.Statement.{statement}
+use Rattle.capacity.proofs.greater_of.Tie as tie
+use Rattle.capacity.proofs.greater_of.Reads as reads
+use Rattle.capacity.proofs.greater_of.Lts as lts
+
+-- src/lib.rt:74:1
+returns : tie.Need-returns
+returns c = rw (toZ-ofZ ((c .before .fits .b)), rw (toZ-ofZ ((c .before .fits .a)), toZ-ofZ ((c .before .fits .b))) at (c .if1 .taken))
+
+-- src/lib.rt:74:1
+returns-2 : tie.Need-returns-2
+returns-2 c = rw (toZ-ofZ ((c .before .fits .a)), rw (toZ-ofZ ((c .before .fits .a)), toZ-ofZ ((c .before .fits .b))) at (c .if1 .left))
+
+pub greater-of-spec : {M : Type 1} → statement M
+greater-of-spec = tie.close (tie.spec returns returns-2)

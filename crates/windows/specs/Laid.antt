@@ -1,0 +1,22 @@
+-- Whose windows are laid out, and what is laid out. Assumes nothing.
+use Prim.Native.Nat.{ℕ, _≤_}
+use mathlib.Core.Path.{_≡_}
+use mathlib.Core.List.{List}
+use mathlib.Core.Logic.{_⊎_}
+use mathlib.Core.Option.{some}
+use lib.IntN.{ℤ}
+use lib.ListN.{length}
+use Rattle.calendar.specs.Calendar.{Calendar}
+use Rattle.calendar.specs.Layout.{calendarOf}
+use Rattle.rows.specs.Cells.{num}
+use Rattle.sheet.specs.Places.{placeOf}
+
+-- row o is an activity and x the kind of its windows, or it is a resource and x the kind of its windows
+abbrev pub Holder : List ℤ → ℕ → ℕ → Type 0
+Holder rows o x = ((x ≡ 16) × (placeOf rows 2 (num rows o 1) ≡ some o)) ⊎ ((x ≡ 15) × (placeOf rows 11 (num rows o 1) ≡ some o))
+
+-- after w the numbers w′ have the calendar c at the places from `at` up to `to`; what stood before them is as it was
+pub record Laid (w w′ : List ℕ) (at to : ℕ) (c : Calendar ℤ) : Type 0 where
+  pub size : length w′ ≡ 2400
+  pub calendar : calendarOf w′ at to ≡ c
+  pub kept : (from j : ℕ) → j ≤ at → calendarOf w′ from j ≡ calendarOf w from j

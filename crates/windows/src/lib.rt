@@ -1,0 +1,47 @@
+// The windows of a resource or of an activity, laid out for the calendar functions.
+ghost use mathlib.Core.Path.{_≡_};
+ghost use Prim.Native.Nat.{ℕ, _+_, _<_, _≤_};
+ghost use lib.ListN.{length};
+ghost use Rattle.loops.specs.Search.{countBelow};
+ghost use Rattle.triples.specs.Triples.{setTriple};
+ghost use Rattle.rows.specs.Cells.{rowCount, num};
+ghost use Rattle.sheet.specs.Index.{Owned, ownedBy};
+ghost use Rattle.model.specs.Sheet.{sheet};
+ghost use Rattle.model.specs.Resource.{windows};
+ghost use Rattle.windows.specs.Laid.{Holder, Laid};
+
+// The window of row k at place i.
+fn add_window(rows: &[i64], k: usize, w: &mut [u64; 2400], i: usize)
+    requires { ⌜ i < 800 ⌝ }
+    ensures { λ _. ⌜ now (w .exit) ≡ setTriple (now (w .entry)) i (num (now (rows .entry)) k 2) (num (now (rows .entry)) k 3) (num (now (rows .entry)) k 4) ⌝ }
+{
+    let closed = rows::num_at(rows, k, 2);
+    let start = rows::num_at(rows, k, 3);
+    let end = rows::num_at(rows, k, 4);
+    triples::set_triple(w, i, closed, start, end);
+}
+
+// The windows (kind x: 15 of a resource, 16 of an activity) of row o at the places from `at` on, and the place past the last. What stands before
+// them stays.
+pub fn gather_windows(
+    rows: &[i64],
+    owned: &[u16; 8810],
+    o: usize,
+    x: usize,
+    w: &mut [u64; 2400],
+    at: usize,
+) -> usize
+    requires { ⌜ Owned (now rows) (now owned) × (o ≤ rowCount (now rows)) × Holder (now rows) o x × (length (now w) ≡ 2400) × (at + countBelow (ownedBy (now rows) o x) (rowCount (now rows)) ≤ 800) ⌝ }
+    ensures laid { λ r. ⌜ Laid (now (w .entry)) (now (w .exit)) at r (windows (sheet (now (rows .entry))) x (num (now (rows .entry)) o 1)) ⌝ }
+    ensures count { λ r. ⌜ r ≡ at + countBelow (ownedBy (now (rows .entry)) o x) (rowCount (now (rows .entry))) ⌝ }
+{
+    let n = rows::row_count(rows);
+    let mut to = at;
+    let mut k = sheet::first_owned(rows, owned, o, x);
+    while k < n {
+        add_window(rows, k, w, to);
+        to += 1;
+        k = sheet::next_owned(rows, owned, o, x, k);
+    }
+    to
+}
