@@ -1,0 +1,132 @@
+-- A row that is looked up by its id is what the definition finds in the list of all rows of its kind. Assumes nothing.
+use Prim.Native.Nat.{ℕ, zero, suc, _<_, _≤_}
+use mathlib.Core.Path.{_≡_, refl, ap, ap₂, sym, _∙_}
+use mathlib.Core.Bool.{Bool, true, false, cond, _&&_, _||_}
+use mathlib.Core.List.{List, [], _∷_, _++_}
+use mathlib.Core.Option.{Option, none, some}
+use native.Mathlib.Omega.{arith}
+use lib.Dec.{eqb, ltb}
+use lib.IntN.{ℤ}
+use borrow.Author.Tests.{ltb-true, ltb-false}
+use Rattle.loops.specs.Lists.{given, keep, head, option, isSome}
+use Rattle.loops.specs.Range.{collect}
+use Rattle.loops.specs.Search.{orElse, someIf, first, firstPlace, anyBelow}
+use Rattle.loops.specs.Chain.{First}
+use Rattle.loops.proofs.ListLaws.{keep-append, head-append, head-collect}
+use Rattle.loops.proofs.SearchLaws.{any-hit}
+use Rattle.loops.proofs.PlaceLaws.{any-same}
+use Rattle.rows.specs.Cells.{rowCount, num, is}
+use Rattle.sheet.specs.Places.{named, placeOf}
+use Rattle.sheet.specs.Index.{ownerKind, ownedBy}
+use Rattle.model.specs.Sheet.{sheet, maybeAt, rowAt, numAt, intAt}
+use Rattle.model.specs.Task.{Task, taskAt, tasks, findTask}
+use Rattle.model.specs.Activity.{Activity, Split, activityAt, activities, findActivity, split}
+use Rattle.model.proofs.RowLaws.{kind-is, row-none, row-here, task-row, task-none, activity-row, activity-none}
+use Rattle.model.proofs.OwnedLaws.{of-activity}
+use Rattle.times.specs.Rows.{activityOf}
+
+-- ---- the first of a list that passes, by places
+
+module _ {A : Type 0} (g : ℕ → List A) (p : A → Bool) (q : ℕ → Bool) (f : ℕ → A) where
+  joined : (x : Option ℕ) (b : Bool) (n : ℕ)
+      → orElse (option x none (λ k. some (f k))) (cond b (some (f n)) none) ≡ option (orElse x (someIf b n)) none (λ k. some (f k))
+  joined none true n = refl
+  joined none false n = refl
+  joined (some k) b n = refl
+
+  found-by : ((k : ℕ) → head (keep p (g k)) ≡ cond (q k) (some (f k)) none) → (n : ℕ)
+      → head (keep p (collect g n)) ≡ option (firstPlace q n) none (λ k. some (f k))
+  unfolding collect firstPlace keep
+  found-by h zero = refl
+  found-by h (suc n) =
+      ap head (keep-append p (collect g n) (g n))
+      ∙ head-append (keep p (collect g n)) (keep p (g n))
+      ∙ ap₂ orElse (found-by h n) (h n)
+      ∙ joined (firstPlace q n) (q n) n
+
+module _ (rows : List ℤ) where
+  abbrev pub taskOf : ℕ → Task ℤ
+  taskOf k = record { id = num rows k 1; deadline = maybeAt rows k 2; release = maybeAt rows k 3 }
+
+  kept-one : {A : Type 0} (b : Bool) (x : A) → head (given b x ++ []) ≡ cond b (some x) none
+  kept-one true x = refl
+  kept-one false x = refl
+
+  task-here : (id k : ℕ) → head (keep (λ t. eqb (t .id) id) (taskAt (sheet rows) k)) ≡ cond (named rows 1 id k) (some (taskOf k)) none
+  unfolding named keep
+  task-here id k = go (is rows k 0 1) refl
+    where
+      go : (b : Bool) → is rows k 0 1 ≡ b
+          → head (keep (λ t. eqb (t .id) id) (taskAt (sheet rows) k)) ≡ cond (is rows k 0 1 && is rows k 1 id) (some (taskOf k)) none
+      go true h = rw (h, task-row rows k h) (unfold is in kept-one (eqb (num rows k 1) id) (taskOf k))
+      go false h = rw (h, task-none rows k h)
+
+  pub find-task : (id : ℕ) → findTask (sheet rows) id ≡ option (placeOf rows 1 id) none (λ k. some (taskOf k))
+  unfolding findTask tasks placeOf
+  find-task id = found-by (taskAt (sheet rows)) (λ t. eqb (t .id) id) (named rows 1 id) taskOf (task-here id) (rowCount rows)
+
+  activity-here : (id k : ℕ) → head (keep (λ a. eqb (a .id) id) (activityAt (sheet rows) k)) ≡ cond (named rows 2 id k) (some (activityOf rows k)) none
+  unfolding named keep
+  activity-here id k = go (is rows k 0 2) refl
+    where
+      go : (b : Bool) → is rows k 0 2 ≡ b
+          → head (keep (λ a. eqb (a .id) id) (activityAt (sheet rows) k)) ≡ cond (is rows k 0 2 && is rows k 1 id) (some (activityOf rows k)) none
+      go true h = rw (h, activity-row rows k h) (unfold is in kept-one (eqb (num rows k 1) id) (activityOf rows k))
+      go false h = rw (h, activity-none rows k h)
+
+  pub find-activity : (id : ℕ) → findActivity (sheet rows) id ≡ option (placeOf rows 2 id) none (λ k. some (activityOf rows k))
+  unfolding findActivity activities placeOf
+  find-activity id = found-by (activityAt (sheet rows)) (λ a. eqb (a .id) id) (named rows 2 id) (activityOf rows) (activity-here id) (rowCount rows)
+
+-- ---- whether there is any
+
+some-either : {A : Type 0} (x y : Option A) → isSome (orElse x y) ≡ (isSome x || isSome y)
+some-either none y = refl
+some-either (some x) y = refl
+
+first-some : {A : Type 0} (f : ℕ → Option A) (n : ℕ) → isSome (first f n) ≡ anyBelow (λ k. isSome (f k)) n
+unfolding first anyBelow
+first-some f zero = refl
+first-some f (suc n) = some-either (first f n) (f n) ∙ ap (λ b. b || isSome (f n)) (first-some f n)
+
+none-below : (q : ℕ → Bool) (n : ℕ) → ((k : ℕ) → k < n → q k ≡ false) → anyBelow q n ≡ false
+unfolding anyBelow
+none-below q zero h = refl
+none-below q (suc n) h = rw (none-below q n (λ k l. h k (omega arith)), h n (omega arith))
+
+-- by the first place
+pub any-by-first : (q : ℕ → Bool) (n i N : ℕ) → First q 0 n i → N ≡ n → ltb i N ≡ anyBelow q n
+any-by-first q n i N f z = go (ltb i N) refl
+  where
+    go : (b : Bool) → ltb i N ≡ b → b ≡ anyBelow q n
+    go true e = let l = ltb-true i N e in any-hit q i n n (omega arith) refl (f .here (omega arith))
+    go false e = let l = ltb-false i N e in sym (none-below q n (λ k m. f .none k (omega arith) (omega (arith, f .high))))
+
+module _ (rows : List ℤ) (a : ℕ) (q : placeOf rows 2 (num rows a 1) ≡ some a) where
+  abbrev splitAt : ℕ → List Split
+  splitAt k = given (eqb (numAt (sheet rows) k 1) (num rows a 1)) (record { maxParts = intAt (sheet rows) k 2; minPart = numAt (sheet rows) k 3; overhead = numAt (sheet rows) k 4 })
+
+  given-some : {A : Type 0} (b : Bool) (x : A) → isSome (head (given b x)) ≡ b
+  given-some true x = refl
+  given-some false x = refl
+
+  split-here : (k : ℕ) → isSome (head (rowAt (sheet rows) 4 splitAt k)) ≡ ownedBy rows a 4 k
+  split-here k = go (is rows k 0 4) refl ∙ sym (of-activity rows 4 a (num rows a 1) (unfold ownerKind in refl) q k)
+    where
+      go : (b : Bool) → is rows k 0 4 ≡ b → isSome (head (rowAt (sheet rows) 4 splitAt k)) ≡ (is rows k 0 4 && is rows k 1 (num rows a 1))
+      go true h =
+          rw (row-here rows k 4 splitAt h, h, kind-is rows k 4 h)
+          (unfold is in given-some (eqb (num rows k 1) (num rows a 1)) _)
+      go false h = rw (row-none rows k 4 splitAt h, h)
+
+  -- an activity is split if a row of kind 4 belongs to it
+  pub split-is : isSome (split (sheet rows) (num rows a 1)) ≡ anyBelow (ownedBy rows a 4) (rowCount rows)
+  unfolding split
+  split-is =
+      ap isSome (head-collect (rowAt (sheet rows) 4 splitAt) (rowCount rows))
+      ∙ first-some (λ k. head (rowAt (sheet rows) 4 splitAt k)) (rowCount rows)
+      ∙ any-same _ _ (rowCount rows) (λ k l. split-here k)
+
+  pub split-told : {b : Bool} {i N : ℕ} → First (ownedBy rows a 4) 0 (rowCount rows) i → N ≡ rowCount rows → b ≡ ltb i N
+      → b ≡ isSome (split (sheet rows) (num rows a 1))
+  split-told {b} {i} {N} f z e = e ∙ any-by-first (ownedBy rows a 4) (rowCount rows) i N f z ∙ sym split-is

@@ -1,0 +1,141 @@
+-- Where a booking belongs: its activity's row, whether it is misplaced, and that it stands in its activity's chain. Assumes nothing.
+use Prim.Native.Nat.{ℕ, zero, suc, _<_, _≤_}
+use mathlib.Core.Path.{_≡_, refl, ap, ap₂, sym, _∙_}
+use mathlib.Core.Bool.{Bool, true, false, cond, not, _&&_, _||_, true≢false}
+use mathlib.Core.List.{List, [], _∷_, _++_}
+use mathlib.Core.Option.{Option, none, some}
+use native.Mathlib.Omega.{arith}
+use native.Mathlib.Decide.{decLt}
+use lib.Dec.{eqb, ltb}
+use lib.IntN.{ℤ, pos, negsuc}
+use borrow.Author.Tests.{lt-ltb, le-ltb, eq-eqb}
+use Rattle.loops.specs.Lists.{isSome}
+use Rattle.loops.specs.Chain.{First}
+use Rattle.rows.specs.Cells.{rowCount, cell, num, is}
+use Rattle.rows.specs.Class.{n?-c}
+use Rattle.rows.specs.Ranges.{isNone, within, inRange, inClass}
+use Rattle.sheet.specs.Accepted.{Accepted}
+use Rattle.sheet.specs.Places.{ofKind, placeOf}
+use Rattle.sheet.specs.Index.{ownerKind, orEnd, ownPlace, ownedBy}
+use Rattle.sheet.proofs.Lookups.{Named, placed, num-is}
+use Rattle.model.specs.Sheet.{sheet}
+use Rattle.model.specs.Activity.{Activity, split}
+use Rattle.model.specs.Schedule.{Part, Assignment}
+use Rattle.model.proofs.OwnedLaws.{own-activity}
+use Rattle.checks.specs.Pieces.{indexOf, beforeIndex}
+use Rattle.checks.specs.CheckAssignments.{misplaced}
+use Rattle.pieces.specs.Bookings.{indexKey, keyAt}
+use Rattle.pieces.proofs.Indices.{indexIn, before-key}
+use Rattle.pieces.proofs.Companions.{index-class, booked-index}
+use Rattle.times.specs.Rows.{bookingOf, activityOf}
+use Rattle.assignments.specs.Bookings.{Booked}
+
+-- ---- whether a booking names a part
+
+part-index : (p : Option Part) → isSome p ≡ isSome (indexOf p)
+part-index none = refl
+part-index (some p) = refl
+
+none-class : inClass n?-c (negsuc 9223372036854775807) ≡ true
+unfolding inClass inRange within isNone
+none-class = refl
+
+none-key : indexKey (negsuc 9223372036854775807) ≡ 0
+unfolding indexKey
+none-key = refl
+
+none-index : indexIn (negsuc 9223372036854775807) ≡ none
+unfolding isNone within
+none-index = refl
+
+after-none : (y : Option ℤ) → isSome y ≡ beforeIndex none y
+after-none none = refl
+after-none (some y) = refl
+
+index-some : (x : ℤ) → inClass n?-c x ≡ true → isSome (indexIn x) ≡ ltb 0 (indexKey x)
+index-some x e =
+    after-none (indexIn x)
+    ∙ ap (λ z. beforeIndex z (indexIn x)) (sym none-index)
+    ∙ before-key (negsuc 9223372036854775807) x none-class e
+    ∙ ap (λ z. ltb z (indexKey x)) none-key
+
+module _ (rows : List ℤ) (acc : Accepted rows) (a k : ℕ) (l : k < rowCount rows) (h : is rows k 0 23 ≡ true) where
+  part-some : isSome (bookingOf rows k .part) ≡ ltb 0 (keyAt rows k)
+  unfolding keyAt
+  part-some =
+      part-index (bookingOf rows k .part)
+      ∙ ap isSome (booked-index rows acc k l h)
+      ∙ index-some (cell rows k 7) (index-class rows acc k h)
+
+  -- ---- the three answers
+  same-task : (b : Bool) → is rows k 2 (num rows a 2) ≡ b → eqb (num rows k 2) (num rows a 2) ≡ b
+  unfolding is
+  same-task b e = e
+
+  pub in-part : {p : Bool} → is rows k 2 (num rows a 2) ≡ true → 0 < keyAt rows k → p ≡ isSome (split (sheet rows) (num rows a 1))
+      → not p ≡ misplaced (sheet rows) (activityOf rows a) (bookingOf rows k)
+  in-part {p} e m q =
+      ap not q
+      ∙ sym (ap₂ (λ x y. not x || (y && not (isSome (split (sheet rows) (num rows a 1))))) (same-task true e) (part-some ∙ lt-ltb 0 (keyAt rows k) m))
+
+  pub whole : is rows k 2 (num rows a 2) ≡ true → keyAt rows k ≤ 0 → false ≡ misplaced (sheet rows) (activityOf rows a) (bookingOf rows k)
+  whole e m =
+      sym (ap₂ (λ x y. not x || (y && not (isSome (split (sheet rows) (num rows a 1))))) (same-task true e) (part-some ∙ le-ltb 0 (keyAt rows k) m))
+
+  pub other-task : is rows k 2 (num rows a 2) ≡ false → true ≡ misplaced (sheet rows) (activityOf rows a) (bookingOf rows k)
+  other-task e =
+      sym (ap (λ x. not x || (isSome (bookingOf rows k .part) && not (isSome (split (sheet rows) (num rows a 1))))) (same-task false e))
+
+-- ---- the activity's row
+
+module _ (rows : List ℤ) where
+  pub of-kind : (x k : ℕ) → ofKind rows x k ≡ true → is rows k 0 x ≡ true
+  unfolding ofKind
+  of-kind x k e = e
+
+  pub task-test : (a k : ℕ) {v : ℕ} {r b : Bool} → v ≡ num rows a 2 → r ≡ is rows k 2 v → r ≡ b → is rows k 2 (num rows a 2) ≡ b
+  task-test a k e f g = sym (f ∙ ap (is rows k 2) e) ∙ g
+
+  pub own-row : (a k : ℕ) → Booked rows a k → ownPlace rows k ≡ a
+  own-row a k b = own-activity rows 23 k (unfold ownerKind in refl) (b .kind) ∙ rw (b .place) (unfold orEnd in refl)
+
+  pub activity-named : (a k : ℕ) → Booked rows a k → Named rows 2 (num rows k 1) a
+  activity-named a k b = placed rows 2 (num rows k 1) a (b .place)
+
+  pub activity-kind : (a k : ℕ) → Booked rows a k → is rows a 0 2 ≡ true
+  activity-kind a k b = num-is rows a 0 2 (activity-named a k b .kind)
+
+  -- the row is found by its own id
+  pub activity-place : (a k : ℕ) → Booked rows a k → placeOf rows 2 (num rows a 1) ≡ some a
+  activity-place a k b = ap (placeOf rows 2) (activity-named a k b .id-is) ∙ b .place
+
+  pub owned-booking : (a k : ℕ) → Booked rows a k → ownedBy rows a 23 k ≡ true
+  unfolding ownedBy
+  owned-booking a k b = rw (b .kind) (eq-eqb (ownPlace rows k) a (own-row a k b))
+
+  pub booked : {a N : ℕ} (k : ℕ) → a ≡ ownPlace rows k → a < N → N ≡ rowCount rows → k < rowCount rows → is rows k 0 23 ≡ true → Booked rows a k
+  booked {a} {N} k e l z m h = record { within = m; kind = h; place = go (placeOf rows 2 (num rows k 1)) refl }
+    where
+      at : (x : Option ℕ) → placeOf rows 2 (num rows k 1) ≡ x → a ≡ orEnd rows x
+      at x q = e ∙ own-activity rows 23 k (unfold ownerKind in refl) h ∙ ap (orEnd rows) q
+
+      go : (x : Option ℕ) → placeOf rows 2 (num rows k 1) ≡ x → placeOf rows 2 (num rows k 1) ≡ some a
+      go none q = let w : a ≡ rowCount rows = at none q ∙ (unfold orEnd in refl) in absurd (omega arith)
+      go (some j) q = let w : a ≡ j = at (some j) q ∙ (unfold orEnd in refl) in q ∙ ap some (sym w)
+
+  pub unbooked : {a N : ℕ} (k : ℕ) → a ≡ ownPlace rows k → N ≤ a → N ≡ rowCount rows → is rows k 0 23 ≡ true → placeOf rows 2 (num rows k 1) ≡ none
+  unbooked {a} {N} k e l z h = go (placeOf rows 2 (num rows k 1)) refl
+    where
+      go : (x : Option ℕ) → placeOf rows 2 (num rows k 1) ≡ x → placeOf rows 2 (num rows k 1) ≡ none
+      go none q = q
+      go (some j) q =
+          let w : a ≡ j = e ∙ own-activity rows 23 k (unfold ownerKind in refl) h ∙ ap (orEnd rows) q ∙ (unfold orEnd in refl) in
+          absurd (omega (arith, placed rows 2 (num rows k 1) j q .within))
+
+-- the first place at which p holds is none after a place at which it holds
+pub first-upto : (p : ℕ → Bool) (i n j k : ℕ) → First p i n j → i ≤ k → p k ≡ true → j ≤ k
+first-upto p i n j k f l e = go (decLt k j)
+  where
+    go : Dec (k < j) → j ≤ k
+    go (yes m) = absurd (true≢false (sym e ∙ f .none k l m))
+    go (no m) = omega arith

@@ -1,0 +1,58 @@
+use Prim.Native.Nat.{_+_, _<_, _≤_}
+use mathlib.Core.Path.{_≡_, refl, sym, ap, ap₂, _∙_}
+use native.Mathlib.Omega.{arith}
+use lib.Dec.{ltb}
+use lib.ListN.{getD}
+use Rattle.rows.specs.Cells.{num}
+use Rattle.model.proofs.Accepting.{at-most}
+use borrow.Author.Needs.{needs}
+use Rattle.assignments.proofs.is_short.Statement.{statement}
+use Rattle.assignments.proofs.is_short.Tie as tie
+use Rattle.assignments.proofs.is_short.Reads as reads
+use Rattle.assignments.proofs.is_short.Lts as lts
+use Rattle.rows.proofs.num_at.Reads as num-at-reads
+
+-- src/lib.rt:150:9
+num-at-requires : tie.Need-num-at-requires
+num-at-requires c κs = search needs
+
+-- src/lib.rt:151:9
+num-at-requires-2 : tie.Need-num-at-requires-2
+num-at-requires-2 c κs = search needs
+
+-- src/lib.rt:152:5
+num-at-requires-3 : tie.Need-num-at-requires-3
+num-at-requires-3 c κs = search needs
+
+-- src/lib.rt:152:49
+mul-result : tie.Need-mul-result
+mul-result c = search needs
+
+-- src/lib.rt:152:49
+element-copy-out-result : tie.Need-element-copy-out-result
+element-copy-out-result c = search needs
+
+-- src/lib.rt:152:41
+add-result : tie.Need-add-result
+add-result c = let s : num (c .before .before .before .before .args .rows .now) ((c .before .before .before .before .args .k)) 4 ≤ 4000000000000 = at-most _ ((c .before .before .before .before .pre .0)) _ 23 4 ((c .before .before .before .before .pre .3)) in let t : num (c .before .before .before .before .args .rows .now) ((c .before .before .before .before .args .k)) 6 ≤ 4000000000000 = at-most _ ((c .before .before .before .before .pre .0)) _ 23 6 ((c .before .before .before .before .pre .3)) in let d : getD (c .before .before .before .before .args .need .now) (c .before .before .before .before .args .k) 0 < 9007199254740992 = (c .before .before .before .before .pre .1) .small _ ((c .before .before .before .before .pre .2)) in record { fits = omega (arith, t, d, (c .before .before .num-at2 .ensures)) }
+
+-- src/lib.rt:152:32
+add-result-2 : tie.Need-add-result-2
+add-result-2 c = let s : num (c .before .before .before .before .args .rows .now) ((c .before .before .before .before .args .k)) 4 ≤ 4000000000000 = at-most _ ((c .before .before .before .before .pre .0)) _ 23 4 ((c .before .before .before .before .pre .3)) in let t : num (c .before .before .before .before .args .rows .now) ((c .before .before .before .before .args .k)) 6 ≤ 4000000000000 = at-most _ ((c .before .before .before .before .pre .0)) _ 23 6 ((c .before .before .before .before .pre .3)) in let d : getD (c .before .before .before .before .args .need .now) (c .before .before .before .before .args .k) 0 < 9007199254740992 = (c .before .before .before .before .pre .1) .small _ ((c .before .before .before .before .pre .2)) in record { fits = omega (arith, s, t, d, (c .before .before .before .num-at .ensures), (c .before .before .num-at2 .ensures)) }
+
+-- src/lib.rt:146:1
+returns : tie.Need-returns
+returns c = ap₂ ltb (c .before .num-at3 .ensures) (ap₂ (λ x y. x + (y + getD (c .before .before .before .before .args .need .now) ((c .before .before .before .before .args .k)) 0)) (c .before .before .before .num-at .ensures) (c .before .before .num-at2 .ensures))
+
+pub is-short-spec : {M : Type 1} → statement M
+is-short-spec =
+    tie.close
+    (tie.spec
+    num-at-requires
+    num-at-requires-2
+    num-at-requires-3
+    mul-result
+    element-copy-out-result
+    add-result
+    add-result-2
+    returns)
