@@ -1,0 +1,1 @@
+-- The contracts of `transport` cite the definitions of `model` and `checks` alone.
