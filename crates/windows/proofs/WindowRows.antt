@@ -30,20 +30,20 @@ use Rattle.windows.specs.Gathered.{windowRow, windowsOwned}
 
 module _ (rows : List ℤ) where
   -- what the definition makes of row k
-  abbrev windowIf : ℕ → ℕ → Calendar ℤ
+  abbrev pub windowIf : ℕ → ℕ → Calendar ℤ
   windowIf id k =
       cond (eqb (numAt (sheet rows) k 1) id)
       (with2 (timeAt (sheet rows) k 3) (timeAt (sheet rows) k 4) λ a e. record { closed = numAt (sheet rows) k 2; start = a; end = e })
       []
 
-  abbrev windowOn : ℕ → ℕ → ℕ → Calendar ℤ
+  abbrev pub windowOn : ℕ → ℕ → ℕ → Calendar ℤ
   windowOn x id = rowAt (sheet rows) x (windowIf id)
 
-  resource-window : (id k : ℕ) → is rows k 0 15 ≡ true → windowOn 15 id k ≡ cond (is rows k 1 id) (windowRow rows k) []
+  pub resource-window : (id k : ℕ) → is rows k 0 15 ≡ true → windowOn 15 id k ≡ cond (is rows k 1 id) (windowRow rows k) []
   unfolding is
   resource-window id k h = rw (kind-is rows k 15 h)
 
-  activity-window : (id k : ℕ) → is rows k 0 16 ≡ true → windowOn 16 id k ≡ cond (is rows k 1 id) (windowRow rows k) []
+  pub activity-window : (id k : ℕ) → is rows k 0 16 ≡ true → windowOn 16 id k ≡ cond (is rows k 1 id) (windowRow rows k) []
   unfolding is
   activity-window id k h = rw (kind-is rows k 16 h)
 
