@@ -229,7 +229,11 @@ fn rows_case(line: &[u8], rows: &[i64], n: usize) -> bool {
     if rows.len() < n {
         return false;
     }
-    rows_pass(&rows[..n], rows::nat(number_of(number)), rows::nat(number_of(place)))
+    rows_pass(
+        &rows[..n],
+        rows::nat(number_of(number)),
+        rows::nat(number_of(place)),
+    )
 }
 
 // A case is done: it is counted, and printed where it differs.
