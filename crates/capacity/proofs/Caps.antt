@@ -14,7 +14,7 @@ use mir.Val.{SFits, toZ, ofZ}
 use mir.Facts.{toZ-ofZ}
 use Rattle.loops.specs.Lists.{given, last, option, each}
 use Rattle.loops.specs.Range.{fold, collect}
-use Rattle.loops.specs.Search.{orElse}
+use Rattle.loops.specs.Search.{orElse, someIf}
 use Rattle.loops.specs.Chain.{onlyAt}
 use Rattle.loops.proofs.ListLaws.{each-append, each-collect, last-append}
 use Rattle.loops.proofs.RangeLaws.{collect-ext}
@@ -61,6 +61,14 @@ module _ (rows : List ℤ) (x : ℕ) where
 
   unfoldable pub laterCap : Option ℕ → ℕ → Option ℕ
   laterCap e k = cond (is rows k 1 x) (some k) e
+
+  pub later-turn : (k : ℕ) (e : Option ℕ) {p r : Option ℕ} → p ≡ someIf (is rows k 1 x) k → r ≡ orElse p e → r ≡ laterCap e k
+  unfolding laterCap
+  later-turn k e h q = q ∙ ap (λ p. orElse p e) h ∙ go (is rows k 1 x)
+    where
+      go : (b : Bool) → orElse (someIf b k) e ≡ cond b (some k) e
+      go true = refl
+      go false = refl
 
   each-row : (n : ℕ) (h : ℕ → List (Constraint ℤ)) (k : ℕ) → each (capacityOf (sheet rows) x) (h k) ≡ [] → each (capacityOf (sheet rows) x) (rowAt (sheet rows) n h k) ≡ []
   each-row n h k e = go (isKind (sheet rows) n k)

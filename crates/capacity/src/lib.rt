@@ -1,6 +1,6 @@
 // Check 5, `check_capacity`: each booked resource whose load exceeds its capacity.
 ghost use mathlib.Core.Path.{_≡_};
-ghost use mathlib.Core.Bool.{Bool, true, false, cond};
+ghost use mathlib.Core.Bool.{Bool, true, false};
 ghost use mathlib.Core.Option.{Option, none, some};
 ghost use Prim.Native.Nat.{ℕ, suc, _<_, _≤_};
 ghost use lib.IntN.{ℤ, pos};
@@ -8,6 +8,7 @@ ghost use lib.Signed.{ltZ};
 ghost use lib.Dec.{eqb};
 ghost use lib.ListN.{length};
 ghost use Rattle.loops.specs.Lists.{option, anyOf};
+ghost use Rattle.loops.specs.Search.{orElse, someIf};
 ghost use Rattle.calendar.specs.Clock.{clock};
 ghost use Rattle.rows.specs.Cells.{rowCount, cell, is};
 ghost use Rattle.sheet.specs.Places.{foundOf};
@@ -96,13 +97,23 @@ fn base_of(rows: &[i64], kinds: &[u16; 832], x: u64) -> i64
 }
 
 // Row k, if it is a capacity of the resource x.
-fn later_cap(rows: &[i64], x: u64, f: Found, k: usize) -> Found
-    ensures { λ r. ⌜ foundOf r ≡ cond (is (now (rows .entry)) k 1 x) (some k) (foundOf f) ⌝ }
+fn cap_at(rows: &[i64], x: u64, k: usize) -> Found
+    ensures { λ r. ⌜ foundOf r ≡ someIf (is (now (rows .entry)) k 1 x) k ⌝ }
 {
     if rows::is_at(rows, k, 1, x) {
         return Found::At(k);
     }
-    f
+    Found::Nothing
+}
+
+// The first, or where it has none the second.
+fn or_else(a: Found, b: Found) -> Found
+    ensures { λ r. ⌜ foundOf r ≡ orElse (foundOf a) (foundOf b) ⌝ }
+{
+    let Found::At(_k) = a else {
+        return b;
+    };
+    a
 }
 
 // The row of the last capacity constraint of the resource.
@@ -114,7 +125,7 @@ fn cap_override(rows: &[i64], kinds: &[u16; 832], x: u64) -> Found
     let mut f = Found::Nothing;
     let mut k = sheet::first_of(rows, kinds, 18);
     while k < n {
-        f = later_cap(rows, x, f, k);
+        f = or_else(cap_at(rows, x, k), f);
         k = sheet::next_of(rows, kinds, 18, k);
     }
     f

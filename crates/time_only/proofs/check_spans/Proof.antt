@@ -1,0 +1,82 @@
+use borrow.Author.Needs.{needs}
+use Rattle.time_only.proofs.Told.{span-silent}
+use Prim.Native.Nat.{ℕ, _-_}
+use mathlib.Core.Path.{_≡_, refl, ap, _∙_}
+use native.Mathlib.Omega.{arith}
+use Rattle.loops.specs.Range.{collect}
+use Rattle.loops.specs.Chain.{Stands}
+use Rattle.calendar.specs.Clock.{clock}
+use Rattle.findings.specs.Sink.{sink, emit}
+use Rattle.findings.proofs.SinkLaws.{kept}
+use Rattle.findings.proofs.Reports.{emit-first, emit-next, emit-end}
+use Rattle.rows.specs.Cells.{rowCount}
+use Rattle.sheet.specs.Places.{ofKind}
+use Rattle.model.specs.Sheet.{sheet}
+use Rattle.model.proofs.Standing.{stands-kind}
+use Rattle.checks.specs.CheckTimeOnly.{checkSpanAt}
+use Rattle.time_only.proofs.check_spans.Statement.{statement}
+use Rattle.time_only.proofs.check_spans.Tie as tie
+use Rattle.time_only.proofs.check_spans.Reads as reads
+use Rattle.time_only.proofs.check_spans.Lts as lts
+use Rattle.rows.proofs.row_count.Reads as row-count-reads
+use Rattle.sheet.proofs.first_of.Reads as first-of-reads
+use Rattle.sheet.proofs.next_of.Reads as next-of-reads
+use Rattle.time_only.proofs.check_span.Reads as check-span-reads
+
+abbrev Inv-loop : tie.InvT-loop
+Inv-loop rows kinds links owned out₀ n count m₀ k₀ out m k = Stands (ofKind rows 24) (rowCount rows) k × (sink out m ≡ emit (sink out₀ n) (collect (checkSpanAt clock (sheet rows)) k))
+
+abbrev μ-loop : tie.MeasureT-loop
+μ-loop rows kinds links owned out₀ n count m₀ k₀ out m k = count - k
+
+-- src/lib.rt:202:9
+row-count-requires : tie.Need-row-count-requires Inv-loop μ-loop
+row-count-requires c κs = search needs
+
+-- src/lib.rt:204:9
+first-of-requires : tie.Need-first-of-requires Inv-loop μ-loop
+first-of-requires c κs = ((c .before .pre .by-kind), omega arith)
+
+-- src/lib.rt:205:5
+loop-holds : tie.Need-loop-holds Inv-loop μ-loop
+loop-holds c = (search needs, emit-first _ _ (c .first-of .ensures) (span-silent _))
+
+-- src/lib.rt:206:9
+check-span-requires : tie.Need-check-span-requires Inv-loop μ-loop
+check-span-requires c κs = ((c .before .before .before .before .before .pre .linked), (c .before .before .before .before .before .pre .by-owner), (c .before .before .before .before .before .pre .accepted), omega (arith, (c .before .loop-test .taken), (c .before .before .before .before .row-count .ensures)), stands-kind _ _ (c .before .loop-test .taken) (c .before .before .before .before .row-count .ensures) ((c .before .before .loop .inv .0)))
+
+-- src/lib.rt:207:9
+next-of-requires : tie.Need-next-of-requires Inv-loop μ-loop
+next-of-requires c κs = ((c .before .before .before .before .before .before .before .pre .by-kind), (c .before .before .before .before .loop .inv .0), omega (arith, (c .before .before .before .loop-test .taken), (c .before .before .before .before .before .before .row-count .ensures)))
+
+-- src/lib.rt:205:5
+loop-less : tie.Need-loop-less Inv-loop μ-loop
+loop-less c = search needs
+
+-- src/lib.rt:205:5
+loop-again : tie.Need-loop-again Inv-loop μ-loop
+loop-again c = (search needs, emit-next _ _ (c .next-of .ensures) (span-silent _) ((c .before .before .before .before .before .loop .inv .1)) (c .before .before .check-span .ensures))
+
+-- src/lib.rt:191:1
+same-length : tie.Need-same-length Inv-loop μ-loop
+same-length c = kept _ _ _ ((c .before .loop .inv .1))
+
+-- src/lib.rt:191:1
+returns : tie.Need-returns Inv-loop μ-loop
+returns c = emit-end _ _ _ _ _ (c .loop-test .left) (c .before .before .before .row-count .ensures) ((c .before .loop .inv .0)) ((c .before .loop .inv .1))
+
+pub check-spans-spec : {M : Type 1} → statement M
+check-spans-spec =
+    tie.close
+    (tie.spec
+    Inv-loop
+    μ-loop
+    row-count-requires
+    first-of-requires
+    loop-holds
+    check-span-requires
+    next-of-requires
+    loop-less
+    loop-again
+    same-length
+    returns)

@@ -1,0 +1,31 @@
+use borrow.Author.Needs.{needs}
+use mathlib.Core.Path.{_∙_}
+use Rattle.findings.proofs.SinkLaws.{kept, emit-then}
+use Rattle.checks.specs.CheckTimeOnly.{checkTimeOnly}
+use Rattle.time_only.proofs.check_time_only.Statement.{statement}
+use Rattle.time_only.proofs.check_time_only.Tie as tie
+use Rattle.time_only.proofs.check_time_only.Reads as reads
+use Rattle.time_only.proofs.check_time_only.Lts as lts
+use Rattle.time_only.proofs.check_spans.Reads as check-spans-reads
+use Rattle.time_only.proofs.check_tasks.Reads as check-tasks-reads
+
+-- src/lib.rt:267:9
+check-spans-requires : tie.Need-check-spans-requires
+check-spans-requires c κs = search needs
+
+-- src/lib.rt:268:5
+check-tasks-requires : tie.Need-check-tasks-requires
+check-tasks-requires c κs = search needs
+
+-- src/lib.rt:256:1
+same-length : tie.Need-same-length
+same-length c = kept _ _ _ (c .before .check-tasks .ensures) ∙ kept _ _ _ (c .before .before .before .before .check-spans .ensures)
+
+-- src/lib.rt:256:1
+returns : tie.Need-returns
+unfolding checkTimeOnly
+returns c = emit-then _ _ _ (c .before .before .before .before .check-spans .ensures) (c .before .check-tasks .ensures)
+
+pub check-time-only-spec : {M : Type 1} → statement M
+check-time-only-spec =
+    tie.close (tie.spec check-spans-requires check-tasks-requires same-length returns)
