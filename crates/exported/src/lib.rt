@@ -3,7 +3,10 @@ ghost use mathlib.Core.Path.{_≡_};
 ghost use Prim.Native.Nat.{_/_};
 ghost use lib.ListN.{length};
 ghost use Rattle.text.specs.Text.{answerOf, rowsAfter};
-ghost use Rattle.exported.specs.Outcome.{ofText};
+ghost use Rattle.sheet.specs.Refusals.{verdictOf, refusalOf};
+ghost use Rattle.work_end.specs.Inquiry.{outcomeOf, inquiry};
+ghost use Rattle.exported.specs.Outcome.{ofText, ofRefusal, ofInquiry};
+use sheet::Verdict;
 use text::Answer;
 
 // A refusal by number and place, or, with number 0, acceptance and a count in the place.
@@ -35,4 +38,71 @@ pub extern "C" fn sheet_read_text(text: &[u8], rows: &mut [i64]) -> Outcome
     ensures { λ r. ⌜ now (rows .exit) ≡ rowsAfter (answerOf (now (text .entry)) (length (now (rows .entry)) / 10)) (now (text .entry)) (now (rows .entry)) ⌝ }
 {
     of_text(text::read_text(text, rows))
+}
+
+fn of_verdict(v: Verdict) -> Outcome
+    ensures { λ r. ⌜ r ≡ ofRefusal (verdictOf v) ⌝ }
+{
+    match v {
+        Verdict::Fine => Outcome {
+            number: 0,
+            place: 0,
+        },
+        Verdict::Refused(k, p) => Outcome {
+            number: k,
+            place: p as u64,
+        },
+    }
+}
+
+// Refusals 1 to 5 on the rows.
+#[no_mangle]
+pub extern "C" fn sheet_validate(rows: &[i64]) -> Outcome
+    ensures { λ r. ⌜ r ≡ ofRefusal (refusalOf (now (rows .entry))) ⌝ }
+{
+    of_verdict(refusals::validate(rows))
+}
+
+// A refusal by number and place; or, with number 0, an outcome (0 an end, 1 pause, 2 never) and the instant of an end.
+#[repr(C)]
+pub struct WorkEnd {
+    pub number: u64,
+    pub place: u64,
+    pub outcome: u64,
+    pub instant: u64,
+}
+
+fn accepted(outcome: u64, instant: u64) -> WorkEnd
+    ensures { λ r. ⌜ r ≡ record { number = 0; place = 0; outcome = outcome; instant = instant } ⌝ }
+{
+    WorkEnd {
+        number: 0,
+        place: 0,
+        outcome: outcome,
+        instant: instant,
+    }
+}
+
+fn of_answer(a: work_end::Answer) -> WorkEnd
+    ensures { λ r. ⌜ r ≡ ofInquiry (outcomeOf a) ⌝ }
+{
+    match a {
+        work_end::Answer::End(e) => accepted(0, e),
+        work_end::Answer::Pause => accepted(1, 0),
+        work_end::Answer::Never => accepted(2, 0),
+        work_end::Answer::Refused(k, p) => WorkEnd {
+            number: k,
+            place: p as u64,
+            outcome: 0,
+            instant: 0,
+        },
+    }
+}
+
+// The work-end inquiry.
+#[no_mangle]
+pub extern "C" fn sheet_work_end(rows: &[i64], resource: i64, start: i64, work: i64) -> WorkEnd
+    ensures { λ r. ⌜ r ≡ ofInquiry (inquiry (now (rows .entry)) resource start work) ⌝ }
+{
+    of_answer(work_end::work_end(rows, resource, start, work))
 }

@@ -16,7 +16,7 @@ pub struct WorkEnd {
     pub number: u64,
     pub place: u64,
     pub outcome: u64,
-    pub instant: i64,
+    pub instant: u64,
 }
 
 #[allow(dead_code)]

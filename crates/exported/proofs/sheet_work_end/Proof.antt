@@ -1,0 +1,32 @@
+use mathlib.Core.List.{List}
+use lib.IntN.{ℤ}
+use mir.Syntax.{w64}
+use mir.ValLaws.{toZ-ofZ}
+use mathlib.Core.Path.{_≡_, ap, _∙_}
+use Rattle.work_end.specs.Inquiry.{inquiry}
+use Rattle.exported.specs.Outcome.{ofInquiry}
+use borrow.Author.Needs.{needs}
+use Rattle.exported.proofs.sheet_work_end.Statement.{statement}
+use Rattle.exported.proofs.sheet_work_end.Tie as tie
+use Rattle.exported.proofs.sheet_work_end.Reads as reads
+use Rattle.exported.proofs.sheet_work_end.Lts as lts
+use Rattle.exported.proofs.of_answer.Reads as of-answer-reads
+use Rattle.work_end.proofs.work_end.Reads as work-end-reads
+
+same-inquiry : (rows : List ℤ) {x x′ z z′ y y′ : ℤ} → x ≡ x′ → z ≡ z′ → y ≡ y′ → inquiry rows x z y ≡ inquiry rows x′ z′ y′
+same-inquiry rows p q r = λ i. inquiry rows (p i) (q i) (r i)
+
+-- src/lib.rt:107:15
+work-end-requires : tie.Need-work-end-requires
+work-end-requires c κs = search needs
+
+-- src/lib.rt:107:5
+of-answer-requires : tie.Need-of-answer-requires
+of-answer-requires c κs = search needs
+
+-- src/lib.rt:103:1
+returns : tie.Need-returns
+returns c = (c .of-answer .ensures) ∙ ap ofInquiry ((c .before .work-end .ensures) ∙ same-inquiry _ (toZ-ofZ w64 (c .before .before .args .resource) (c .before .before .fits .resource)) (toZ-ofZ w64 (c .before .before .args .start) (c .before .before .fits .start)) (toZ-ofZ w64 (c .before .before .args .work) (c .before .before .fits .work)))
+
+pub sheet-work-end-spec : {M : Type 1} → statement M
+sheet-work-end-spec = tie.close (tie.spec work-end-requires of-answer-requires returns)
