@@ -1,84 +1,26 @@
--- A row that is looked up by its id is what the definition finds in the list of all rows of its kind. Assumes nothing.
-use Prim.Native.Nat.{ℕ, zero, suc, _<_, _≤_}
-use mathlib.Core.Path.{_≡_, refl, ap, ap₂, sym, _∙_}
-use mathlib.Core.Bool.{Bool, true, false, cond, _&&_, _||_}
-use mathlib.Core.List.{List, [], _∷_, _++_}
+-- Whether an activity is split: whether a row of kind 4 stands in its chain. Assumes nothing.
+use Prim.Native.Nat.{ℕ, zero, suc, _<_}
+use mathlib.Core.Path.{_≡_, refl, ap, sym, _∙_}
+use mathlib.Core.Bool.{Bool, true, false, _&&_, _||_}
+use mathlib.Core.List.{List}
 use mathlib.Core.Option.{Option, none, some}
 use native.Mathlib.Omega.{arith}
 use lib.Dec.{eqb, ltb}
 use lib.IntN.{ℤ}
 use borrow.Author.Tests.{ltb-true, ltb-false}
-use Rattle.loops.specs.Lists.{given, keep, head, option, isSome}
-use Rattle.loops.specs.Range.{collect}
-use Rattle.loops.specs.Search.{orElse, someIf, first, firstPlace, anyBelow}
+use Rattle.loops.specs.Lists.{given, head, isSome}
+use Rattle.loops.specs.Search.{orElse, first, anyBelow}
 use Rattle.loops.specs.Chain.{First}
-use Rattle.loops.proofs.ListLaws.{keep-append, head-append, head-collect}
+use Rattle.loops.proofs.ListLaws.{head-collect}
 use Rattle.loops.proofs.SearchLaws.{any-hit}
 use Rattle.loops.proofs.PlaceLaws.{any-same}
 use Rattle.rows.specs.Cells.{rowCount, num, is}
-use Rattle.sheet.specs.Places.{named, placeOf}
+use Rattle.sheet.specs.Places.{placeOf}
 use Rattle.sheet.specs.Index.{ownerKind, ownedBy}
-use Rattle.model.specs.Sheet.{sheet, maybeAt, rowAt, numAt, intAt}
-use Rattle.model.specs.Task.{Task, taskAt, tasks, findTask}
-use Rattle.model.specs.Activity.{Activity, Split, activityAt, activities, findActivity, split}
-use Rattle.model.proofs.RowLaws.{kind-is, row-none, row-here, task-row, task-none, activity-row, activity-none}
+use Rattle.model.specs.Sheet.{sheet, rowAt, numAt, intAt}
+use Rattle.model.specs.Activity.{Split, split}
+use Rattle.model.proofs.RowLaws.{kind-is, row-none, row-here}
 use Rattle.model.proofs.OwnedLaws.{of-activity}
-use Rattle.times.specs.Rows.{activityOf}
-
--- ---- the first of a list that passes, by places
-
-module _ {A : Type 0} (g : ℕ → List A) (p : A → Bool) (q : ℕ → Bool) (f : ℕ → A) where
-  joined : (x : Option ℕ) (b : Bool) (n : ℕ)
-      → orElse (option x none (λ k. some (f k))) (cond b (some (f n)) none) ≡ option (orElse x (someIf b n)) none (λ k. some (f k))
-  joined none true n = refl
-  joined none false n = refl
-  joined (some k) b n = refl
-
-  found-by : ((k : ℕ) → head (keep p (g k)) ≡ cond (q k) (some (f k)) none) → (n : ℕ)
-      → head (keep p (collect g n)) ≡ option (firstPlace q n) none (λ k. some (f k))
-  unfolding collect firstPlace keep
-  found-by h zero = refl
-  found-by h (suc n) =
-      ap head (keep-append p (collect g n) (g n))
-      ∙ head-append (keep p (collect g n)) (keep p (g n))
-      ∙ ap₂ orElse (found-by h n) (h n)
-      ∙ joined (firstPlace q n) (q n) n
-
-module _ (rows : List ℤ) where
-  abbrev pub taskOf : ℕ → Task ℤ
-  taskOf k = record { id = num rows k 1; deadline = maybeAt rows k 2; release = maybeAt rows k 3 }
-
-  kept-one : {A : Type 0} (b : Bool) (x : A) → head (given b x ++ []) ≡ cond b (some x) none
-  kept-one true x = refl
-  kept-one false x = refl
-
-  task-here : (id k : ℕ) → head (keep (λ t. eqb (t .id) id) (taskAt (sheet rows) k)) ≡ cond (named rows 1 id k) (some (taskOf k)) none
-  unfolding named keep
-  task-here id k = go (is rows k 0 1) refl
-    where
-      go : (b : Bool) → is rows k 0 1 ≡ b
-          → head (keep (λ t. eqb (t .id) id) (taskAt (sheet rows) k)) ≡ cond (is rows k 0 1 && is rows k 1 id) (some (taskOf k)) none
-      go true h = rw (h, task-row rows k h) (unfold is in kept-one (eqb (num rows k 1) id) (taskOf k))
-      go false h = rw (h, task-none rows k h)
-
-  pub find-task : (id : ℕ) → findTask (sheet rows) id ≡ option (placeOf rows 1 id) none (λ k. some (taskOf k))
-  unfolding findTask tasks placeOf
-  find-task id = found-by (taskAt (sheet rows)) (λ t. eqb (t .id) id) (named rows 1 id) taskOf (task-here id) (rowCount rows)
-
-  activity-here : (id k : ℕ) → head (keep (λ a. eqb (a .id) id) (activityAt (sheet rows) k)) ≡ cond (named rows 2 id k) (some (activityOf rows k)) none
-  unfolding named keep
-  activity-here id k = go (is rows k 0 2) refl
-    where
-      go : (b : Bool) → is rows k 0 2 ≡ b
-          → head (keep (λ a. eqb (a .id) id) (activityAt (sheet rows) k)) ≡ cond (is rows k 0 2 && is rows k 1 id) (some (activityOf rows k)) none
-      go true h = rw (h, activity-row rows k h) (unfold is in kept-one (eqb (num rows k 1) id) (activityOf rows k))
-      go false h = rw (h, activity-none rows k h)
-
-  pub find-activity : (id : ℕ) → findActivity (sheet rows) id ≡ option (placeOf rows 2 id) none (λ k. some (activityOf rows k))
-  unfolding findActivity activities placeOf
-  find-activity id = found-by (activityAt (sheet rows)) (λ a. eqb (a .id) id) (named rows 2 id) (activityOf rows) (activity-here id) (rowCount rows)
-
--- ---- whether there is any
 
 some-either : {A : Type 0} (x y : Option A) → isSome (orElse x y) ≡ (isSome x || isSome y)
 some-either none y = refl

@@ -31,14 +31,15 @@ use Rattle.model.specs.Task.{Task, findTask}
 use Rattle.model.specs.Activity.{Activity, findActivity, neededMs}
 use Rattle.model.specs.Schedule.{Assignment, assignmentAt, assignmentsBelow, unknownActivity, durationTooShort, earlyStart, violation}
 use Rattle.model.proofs.RowLaws.{assignment-row, assignment-none}
+use Rattle.model.specs.Records.{taskOf}
 use Rattle.model.proofs.Accepting.{has-owner}
+use Rattle.model.proofs.Finds.{find-task, find-activity, own-task}
 use Rattle.checks.specs.Pieces.{isHeld, runsOn}
 use Rattle.checks.specs.CheckAssignments.{misplaced, units, uses, earlyAssignment, checkKnown, checkAssignment, checkAssignmentAt, checkAssignments}
 use Rattle.pieces.specs.Held.{heldAt}
 use Rattle.times.specs.Rows.{bookingOf, activityOf}
 use Rattle.times.specs.Times.{Needs}
 use Rattle.assignments.specs.Bookings.{Booked}
-use Rattle.assignments.proofs.Finding.{taskOf, find-task, find-activity}
 use Rattle.assignments.proofs.Placing.{activity-named, activity-kind}
 
 module _ (rows : List ℤ) where
@@ -51,10 +52,6 @@ module _ (rows : List ℤ) where
 
   early-is : (k r c : ℕ) → earlyAssignment clock (sheet rows) (bookingOf rows k) (maybeAt rows r c) ≡ given (ltb (num rows k 4) (num rows r c)) (earlyStart 1 (num rows k 1))
   early-is k r c = early-cell (bookingOf rows k) (num rows k 4) refl (cell rows r c)
-
-  own-task : (a : ℕ) → is rows a 0 2 ≡ true → ownPlace rows a ≡ orEnd rows (placeOf rows 1 (num rows a 2))
-  unfolding ownPlace ownerPlace ownerOf ownerKind
-  own-task a h = rw (is-num rows a 0 2 h)
 
   task-there : (a : ℕ) → lacks task-c rows a 2 ≡ false → placeOf rows 1 (num rows a 2) ≡ none → ⊥
   unfolding lacks
@@ -75,7 +72,7 @@ module _ (rows : List ℤ) where
           ≡ given (ltb (num rows k 4) (num rows t 3)) (earlyStart 1 (num rows k 1))
       go none q = absurd (absent q)
       go (some j) q =
-          let w : t ≡ j = e ∙ own-task a (activity-kind rows a k b) ∙ ap (orEnd rows) q ∙ (unfold orEnd in refl) in
+          let w : t ≡ j = e ∙ own-task rows a (activity-kind rows a k b) ∙ ap (orEnd rows) q ∙ (unfold orEnd in refl) in
           early-is k j 3 ∙ ap (λ i. given (ltb (num rows k 4) (num rows i 3)) (earlyStart 1 (num rows k 1))) (sym w)
 
   -- ---- a booking of an activity
