@@ -1,2 +1,3 @@
 pub mod Joint
+pub mod Once
 pub mod Plain
