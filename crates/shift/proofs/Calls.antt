@@ -16,12 +16,13 @@ use Rattle.loops.proofs.PartLaws.{all-each, all-collect}
 use Rattle.calendar.specs.Clock.{Clock, clock}
 use Rattle.findings.specs.declared.Violation.{Violation}
 use Rattle.findings.specs.Sink.{flat}
+use Rattle.sheet.specs.Refusals.{Refusal}
 use Rattle.model.specs.Sheet.{Sheet, sheet}
 use Rattle.model.specs.Schedule.{Assignment, assignmentAt, assignmentsBelow, capacityExceeded}
 use Rattle.checks.specs.CheckCapacity.{capOf, peak, checkResource, checkFirstBooking, checkCapacityAt, checkCapacity}
 use Rattle.checks.specs.CheckSchedule.{beforeCapacity, afterCapacity, checkSchedule, findings}
 use Rattle.shift.specs.Shift.{Shifted, InClass}
-use Rattle.shift.specs.Call.{accepted, refused, Refusal, sameLine, AsOften, Listed, Written, Ended, Checked, isCapacity, SameFindings, SameCalls, Demand3}
+use Rattle.shift.specs.Call.{accepted, refused, sameLine, AsOften, Listed, Written, Ended, Checked, isCapacity, SameFindings, SameCalls, Demand3}
 use Rattle.shift.proofs.Shift.{SameParts, same-parts, same-findings}
 
 -- ---- check 5's lines

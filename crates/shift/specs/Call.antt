@@ -11,6 +11,7 @@ use Rattle.loops.specs.Lists.{countOf, allOf}
 use Rattle.calendar.specs.Clock.{clock}
 use Rattle.findings.specs.declared.Violation.{Violation}
 use Rattle.findings.specs.Sink.{flat}
+use Rattle.sheet.specs.Refusals.{Refusal}
 use Rattle.model.specs.Sheet.{sheet}
 use Rattle.checks.specs.CheckCapacity.{checkCapacity}
 use Rattle.checks.specs.CheckSchedule.{beforeCapacity, afterCapacity, findings}
@@ -22,10 +23,6 @@ use Rattle.shift.specs.Shift.{Shifted, InClass}
 pub data Answer : Type 0 where
   accepted : ℕ → Answer
   refused : ℕ → ℕ → Answer
-
-pub record Refusal : Type 0 where
-  pub number : ℕ
-  pub place : ℕ
 
 -- ---- the order of check 5's lines, which alone is free
 
