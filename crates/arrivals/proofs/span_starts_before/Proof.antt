@@ -1,0 +1,25 @@
+use mathlib.Core.Path.{refl}
+use borrow.Author.Needs.{needs}
+use Rattle.arrivals.proofs.span_starts_before.Statement.{statement}
+use Rattle.arrivals.proofs.span_starts_before.Tie as tie
+use Rattle.arrivals.proofs.span_starts_before.Reads as reads
+use Rattle.arrivals.proofs.span_starts_before.Lts as lts
+
+-- src/lib.rt:92:23
+enum-known-x : tie.Need-enum-known-x
+enum-known-x c = search needs
+
+-- src/lib.rt:93:9
+enum-told : tie.Need-enum-told
+enum-told c = search needs
+
+-- src/lib.rt:93:9
+returns : tie.Need-returns
+returns c = search needs
+
+-- src/lib.rt:89:1
+returns-2 : tie.Need-returns-2
+returns-2 c = rw ((c .before .x .given .1)) refl
+
+pub span-starts-before-spec : {M : Type 1} → statement M
+span-starts-before-spec = tie.close (tie.spec enum-known-x enum-told returns returns-2)
