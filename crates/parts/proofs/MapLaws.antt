@@ -121,7 +121,7 @@ and-second false b e = absurd (false≢true e)
 abbrev above : ℤ → Map → Bool
 above k m = allOf (λ e. ltZ k (e .key)) m
 
-pub sorted : Map → Bool
+unfoldable pub sorted : Map → Bool
 sorted [] = true
 sorted (e ∷ m) = above (e .key) m && sorted m
 

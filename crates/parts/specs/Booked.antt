@@ -36,9 +36,12 @@ partAt rows o = only (ownedBy rows o 23) λ k. given (hasPart rows k) (partOf ro
 unfoldable pub partsBelow : List ℤ → ℕ → ℕ → List Part
 partsBelow rows o k = collect (partAt rows o) k
 
--- some booking is of the whole activity
+-- row k is a booking of the whole activity
+unfoldable pub wholeAt : List ℤ → ℕ → ℕ → Bool
+wholeAt rows o k = ownedBy rows o 23 k && not (hasPart rows k)
+
 unfoldable pub wholeIn : List ℤ → ℕ → Bool
-wholeIn rows o = anyBelow (λ k. ownedBy rows o 23 k && not (hasPart rows k)) (rowCount rows)
+wholeIn rows o = anyBelow (wholeAt rows o) (rowCount rows)
 
 -- a work that may be none as a number: 0 for none, else one more
 abbrev pub decoded : ℕ → Option ℕ
@@ -54,10 +57,8 @@ outside most i = ltZ i (pos 0) || not (ltZ i most)
 
 -- what is added up of an index and its work: 0 the indices, 1 the works, 2 the works below the minimum, 3 the indices outside
 unfoldable pub measureOf : List ℤ → ℕ → ℕ → ℤ → ℕ → ℕ
-measureOf rows x 0 i w = 1
-measureOf rows x 1 i w = w
-measureOf rows x 2 i w = cond (ltb w (num rows x 3)) 1 0
-measureOf rows x (suc (suc (suc m))) i w = cond (outside (cell rows x 2) i) 1 0
+measureOf rows x mode i w =
+    cond (eqb mode 0) 1 (cond (eqb mode 1) w (cond (eqb mode 2) (cond (ltb w (num rows x 3)) 1 0) (cond (outside (cell rows x 2) i) 1 0)))
 
 unfoldable pub total : (ℤ → ℕ → ℕ) → List (Entry ℤ ℕ) → ℕ
 total g [] = 0

@@ -1,4 +1,8 @@
-use borrow.Author.Needs.{needs}
+use mathlib.Core.Path.{ap}
+use mathlib.Core.Bool.{not}
+use mir.Facts.{toZ-ofZ}
+use Rattle.parts.specs.Booked.{hasPart}
+use borrow.Author.Needs.{needs, sfits-of}
 use Rattle.parts.proofs.has_part.Statement.{statement}
 use Rattle.parts.proofs.has_part.Tie as tie
 use Rattle.parts.proofs.has_part.Reads as reads
@@ -16,7 +20,8 @@ is-none-requires c κs = search needs
 
 -- src/lib.rt:23:1
 returns : tie.Need-returns
-returns c = ?
+unfolding hasPart
+returns c = ap not (rw (toZ-ofZ (sfits-of (c .before .cell-at .ok)), (c .before .cell-at .ensures)) at (c .is-none .ensures))
 
 pub has-part-spec : {M : Type 1} → statement M
 has-part-spec = tie.close (tie.spec cell-at-requires is-none-requires returns)

@@ -1,3 +1,6 @@
+use Prim.Native.Nat.{_+_}
+use mathlib.Core.Path.{ap, sym, _∙_}
+use borrow.Author.Tests.{eq-eqb, ne-eqb}
 use borrow.Author.Needs.{needs}
 use Rattle.parts.proofs.work_after.Statement.{statement}
 use Rattle.parts.proofs.work_after.Tie as tie
@@ -29,15 +32,15 @@ add-result c = search needs
 
 -- src/lib.rt:35:13
 returns : tie.Need-returns
-returns c = ?
+returns c = rw (sym (c .before .before .before .before .before .has-part .ensures) ∙ (c .before .before .before .before .if1 .taken), ← (c .before .before .before .key-at .ensures), ← (c .before .before .key-at2 .ensures), eq-eqb _ _ (c .before .if2 .taken)) (ap (λ x. x + 1) (c .id-at .ensures .0))
 
 -- src/lib.rt:30:1
 returns-2 : tie.Need-returns-2
-returns-2 c = ?
+returns-2 c = rw (sym (c .before .before .before .before .has-part .ensures) ∙ (c .before .before .before .if1 .taken), ← (c .before .before .key-at .ensures), ← (c .before .key-at2 .ensures), ne-eqb _ _ (c .if2 .left))
 
 -- src/lib.rt:30:1
 returns-3 : tie.Need-returns-3
-returns-3 c = ?
+returns-3 c = rw (sym (c .before .has-part .ensures) ∙ (c .if1 .left))
 
 pub work-after-spec : {M : Type 1} → statement M
 work-after-spec =
