@@ -77,7 +77,14 @@ fn is_other(before: u64, work: u64) -> bool
     before != work + 1
 }
 
-fn check_work(rows: &[i64], owned: &[u16; 8810], o: usize, k: usize, out: &mut [i64], n: usize) -> usize
+fn check_work(
+    rows: &[i64],
+    owned: &[u16; 8810],
+    o: usize,
+    k: usize,
+    out: &mut [i64],
+    n: usize,
+) -> usize
     requires { ⌜ Accepted (now rows) × Owned (now rows) (now owned) × (o ≤ rowCount (now rows)) × (k < rowCount (now rows)) × (ownedBy (now rows) o 23 k ≡ true) ⌝ }
     ensures { λ r. ⌜ sink (now (out .exit)) r ≡ emit (sink (now (out .entry)) n) (twoWorks (num (now (rows .entry)) o 1) (partsBelow (now (rows .entry)) o k) (partAt (now (rows .entry)) o k)) ⌝ }
 {
@@ -131,7 +138,15 @@ fn measure(rows: &[i64], x: usize, mode: u64, k: usize, w: u64) -> u64
 }
 
 // The sum with booking k's part: its work stands for that which its index had before.
-fn add_part(rows: &[i64], owned: &[u16; 8810], o: usize, x: usize, mode: u64, k: usize, sum: u64) -> u64
+fn add_part(
+    rows: &[i64],
+    owned: &[u16; 8810],
+    o: usize,
+    x: usize,
+    mode: u64,
+    k: usize,
+    sum: u64,
+) -> u64
     requires { ⌜ Accepted (now rows) × Owned (now rows) (now owned) × (o ≤ rowCount (now rows)) × (k < rowCount (now rows)) × (ownedBy (now rows) o 23 k ≡ true) × (sum ≡ total (measureOf (now rows) x mode) (partsOf (partsBelow (now rows) o k))) × (sum ≤ k * 4000000000000) ⌝ }
     ensures value { λ r. ⌜ r ≡ total (measureOf (now (rows .entry)) x mode) (partsOf (partsBelow (now (rows .entry)) o (k + 1))) ⌝ }
     ensures bound { λ r. ⌜ r ≤ k * 4000000000000 + 4000000000000 ⌝ }
@@ -203,7 +218,14 @@ fn report_short(activity: u64, times: u64, out: &mut [i64], n: usize) -> usize
     m
 }
 
-fn check_split(rows: &[i64], owned: &[u16; 8810], o: usize, x: usize, out: &mut [i64], n: usize) -> usize
+fn check_split(
+    rows: &[i64],
+    owned: &[u16; 8810],
+    o: usize,
+    x: usize,
+    out: &mut [i64],
+    n: usize,
+) -> usize
     requires { ⌜ Accepted (now rows) × Owned (now rows) (now owned) × (o ≤ rowCount (now rows)) ⌝ }
     ensures { λ r. ⌜ sink (now (out .exit)) r ≡ emit (sink (now (out .entry)) n) (splitFindings (now (rows .entry)) x o) ⌝ }
 {
@@ -216,7 +238,14 @@ fn check_split(rows: &[i64], owned: &[u16; 8810], o: usize, x: usize, out: &mut 
     let outside = sum_of(rows, owned, o, x, 3);
     let work = sum_of(rows, owned, o, x, 1);
     let a = report(activity, 9, 95, is_whole(rows, owned, o), out, n);
-    let b = report(activity, 9, 95, is_beyond(rows, x, indices, outside), out, a);
+    let b = report(
+        activity,
+        9,
+        95,
+        is_beyond(rows, x, indices, outside),
+        out,
+        a,
+    );
     let c = report(activity, 10, 90, work < process, out, b);
     let d = report(activity, 9, 95, process < work, out, c);
     if 1 < indices {
@@ -251,7 +280,14 @@ fn check_task(rows: &[i64], owned: &[u16; 8810], t: usize, out: &mut [i64], n: u
     m
 }
 
-pub fn check_parts(rows: &[i64], kinds: &[u16; 832], links: &[u16; 1600], owned: &[u16; 8810], out: &mut [i64], n: usize) -> usize
+pub fn check_parts(
+    rows: &[i64],
+    kinds: &[u16; 832],
+    links: &[u16; 1600],
+    owned: &[u16; 8810],
+    out: &mut [i64],
+    n: usize,
+) -> usize
     requires { ⌜ Indexed (now rows) (now kinds) (now links) (now owned) ⌝ }
     ensures { λ r. ⌜ sink (now (out .exit)) r ≡ emit (sink (now (out .entry)) n) (checkParts (sheet (now (rows .entry)))) ⌝ }
 {
