@@ -1,0 +1,5 @@
+pub mod MapLaws
+pub mod Works
+pub mod Sums
+pub mod Findings
+pub mod Whole

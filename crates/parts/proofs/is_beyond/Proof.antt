@@ -1,0 +1,22 @@
+use borrow.Author.Tests.{lt-ltb, le-ltb}
+use borrow.Author.Needs.{needs}
+use Rattle.parts.proofs.is_beyond.Statement.{statement}
+use Rattle.parts.proofs.is_beyond.Tie as tie
+use Rattle.parts.proofs.is_beyond.Reads as reads
+use Rattle.parts.proofs.is_beyond.Lts as lts
+use Rattle.rows.proofs.num_at.Reads as num-at-reads
+
+-- src/lib.rt:186:8
+num-at-requires : tie.Need-num-at-requires
+num-at-requires c κs = search needs
+
+-- src/lib.rt:187:9
+returns : tie.Need-returns
+returns c = rw (← (c .before .num-at .ensures), lt-ltb _ _ (c .if1 .taken))
+
+-- src/lib.rt:183:1
+returns-2 : tie.Need-returns-2
+returns-2 c = rw (← (c .before .num-at .ensures), le-ltb _ _ (c .if1 .left))
+
+pub is-beyond-spec : {M : Type 1} → statement M
+is-beyond-spec = tie.close (tie.spec num-at-requires returns returns-2)

@@ -1,0 +1,62 @@
+use borrow.Author.Needs.{needs}
+use Prim.Native.Nat.{_-_, _≤_}
+use native.Mathlib.Omega.{arith}
+use mathlib.Core.Path.{_≡_, refl, sym, ap, _∙_}
+use mathlib.Core.List.{[], _∷_}
+use Rattle.loops.specs.Range.{collect}
+use Rattle.findings.specs.Sink.{sink, emit}
+use Rattle.findings.proofs.SinkLaws.{loop-start, loop-turn, loop-end, kept}
+use Rattle.model.specs.Schedule.{durationTooShort}
+use Rattle.parts.proofs.report_short.Statement.{statement}
+use Rattle.parts.proofs.report_short.Tie as tie
+use Rattle.parts.proofs.report_short.Reads as reads
+use Rattle.parts.proofs.report_short.Lts as lts
+use Rattle.parts.proofs.report.Reads as report-reads
+
+abbrev Inv-loop : tie.InvT-loop
+Inv-loop activity times out₀ n m₀ i₀ out m i = (sink out m ≡ emit (sink out₀ n) (collect (λ _. durationTooShort 3 activity ∷ []) i)) × (i ≤ times)
+
+abbrev μ-loop : tie.MeasureT-loop
+μ-loop activity times out₀ n m₀ i₀ out m i = times - i
+
+-- src/lib.rt:199:5
+loop-holds : tie.Need-loop-holds Inv-loop μ-loop
+loop-holds c = (loop-start _ _, omega arith)
+
+-- src/lib.rt:200:9
+report-requires : tie.Need-report-requires Inv-loop μ-loop
+report-requires c κs = search needs
+
+-- src/lib.rt:201:9
+add-i : tie.Need-add-i Inv-loop μ-loop
+add-i c = search needs
+
+-- src/lib.rt:199:5
+loop-less : tie.Need-loop-less Inv-loop μ-loop
+loop-less c = search needs
+
+-- src/lib.rt:199:5
+loop-again : tie.Need-loop-again Inv-loop μ-loop
+loop-again c = (loop-turn _ _ _ (c .before .before .before .before .loop .inv .0) (c .before .report .ensures), omega (arith, (c .before .before .before .loop-test .taken)))
+
+-- src/lib.rt:193:1
+same-length : tie.Need-same-length Inv-loop μ-loop
+same-length c = kept _ _ _ (c .before .loop .inv .0)
+
+-- src/lib.rt:193:1
+returns : tie.Need-returns Inv-loop μ-loop
+returns c = loop-end _ _ _ _ _ (c .before .loop .inv .1) (c .loop-test .left) refl (c .before .loop .inv .0)
+
+pub report-short-spec : {M : Type 1} → statement M
+report-short-spec =
+    tie.close
+    (tie.spec
+    Inv-loop
+    μ-loop
+    loop-holds
+    report-requires
+    add-i
+    loop-less
+    loop-again
+    same-length
+    returns)
