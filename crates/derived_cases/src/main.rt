@@ -264,6 +264,14 @@ fn product_of(rows: &[i64], n: usize) -> Timed {
     f
 }
 
+// The total of a derived duration, or word that there is none.
+fn total_of(d: Derived) -> Time {
+    match d {
+        Derived::Within(x) => x.total_ms(),
+        Derived::TooLarge => Time::TooLarge,
+    }
+}
+
 // A line `PROCESS,TIME`.
 fn product_case(line: &[u8], rows: &[i64], n: usize) -> bool {
     let process = text::first_part(line, b',');
@@ -274,7 +282,7 @@ fn product_case(line: &[u8], rows: &[i64], n: usize) -> bool {
         teardown_ms: 0,
     };
     let d = product_of(rows, n).duration(base);
-    is_time(d.total_ms(), number_of(time))
+    is_time(total_of(d), number_of(time))
 }
 
 // A line `MS,WORK,WHOLE,TIME`.
