@@ -1,11 +1,11 @@
 -- The overlap of an activity is that of its first row of kind 3; its numbers lie in their classes. Assumes nothing.
-use Prim.Native.Nat.{ℕ, _<_, _≤_}
+use Prim.Native.Nat.{ℕ, suc, _+_, _-_, _<_, _≤_}
 use mathlib.Core.Path.{_≡_, refl, sym, ap, _∙_}
-use mathlib.Core.Bool.{Bool, true, false, _&&_, _||_, true≢false}
+use mathlib.Core.Bool.{Bool, true, false, cond, _&&_, _||_, true≢false}
 use mathlib.Core.List.{List, [], _∷_}
 use mathlib.Core.Option.{Option, none, some}
 use native.Mathlib.Omega.{arith}
-use lib.Dec.{T, eqb, leb}
+use lib.Dec.{T, eqb, leb, ltb}
 use lib.IntN.{ℤ, pos, negsuc, natAbs, _+ℤ_}
 use lib.Ieee.{binary64, ofBits}
 use borrow.Author.Tests.{leb-true}
@@ -23,8 +23,8 @@ use Rattle.sheet.specs.Index.{ownerKind, ownedBy}
 use Rattle.sheet.specs.Accepted.{Accepted}
 use Rattle.sheet.proofs.Lookups.{and-left, and-right}
 use Rattle.overlap.specs.declared.Overlap.{Overlap}
-use Rattle.overlap.specs.Bounds.{isShare, overlapOf}
-use Rattle.overlap.proofs.Laws.{bits-share, sum-mag}
+use Rattle.overlap.specs.Bounds.{isShare, overlapOf, earliestEnd}
+use Rattle.overlap.proofs.Laws.{bits-share}
 use Rattle.model.specs.Sheet.{sheet, rowAt, numAt, intAt}
 use Rattle.model.specs.Activity.{overlap}
 use Rattle.model.proofs.RowLaws.{kind-is, row-none, row-here}
@@ -80,9 +80,21 @@ unfolding inClass inRange within
 in-g (pos n) e = leb-true n 4000000000000 (and-right true (leb n 4000000000000) (or-false (true && leb n 4000000000000) e))
 in-g (negsuc n) e = let l : n ≤ 3999999999999 = leb-true n 3999999999999 (and-left (leb n 3999999999999) true (or-false (leb n 3999999999999 && true) e)) in omega arith
 
-module _ (rows : List ℤ) (acc : Accepted rows) (k : ℕ) (h : is rows k 0 3 ≡ true) where
-  pub share-is : T (isShare (ofBits binary64 (num rows k 2)))
-  share-is = bits-share (num rows k 2) (at-most rows acc k 3 2 h)
+sum-abs : (a : ℕ) (z : ℤ) → natAbs (pos a +ℤ z) ≤ a + natAbs z
+sum-abs a (pos b) = omega arith
+sum-abs a (negsuc b) = go (ltb a (suc b))
+  where
+    go : (t : Bool) → natAbs (cond t (negsuc (suc b - suc a)) (pos (a - suc b))) ≤ a + suc b
+    go true = omega arith
+    go false = omega arith
 
-  pub lag-most : natAbs (cell rows k 3) ≤ 4000000000000
-  lag-most = in-g (cell rows k 3) (in-class rows acc k 3 3 h)
+module _ (rows : List ℤ) (acc : Accepted rows) (k : ℕ) (h : is rows k 0 3 ≡ true) (bits : ℕ) {v : Overlap} {lag : ℤ} (o : v ≡ overlapOf bits lag) where
+  pub share-is : bits ≡ num rows k 2 → T (isShare (v .«start_after»))
+  share-is e = rw (o, e) (bits-share (num rows k 2) (at-most rows acc k 3 2 h))
+
+  module _ (e : lag ≡ cell rows k 3) where
+    pub lag-most : natAbs (v .«finish_after_ms») ≤ 4000000000000
+    lag-most = rw (o, e) (in-g (cell rows k 3) (in-class rows acc k 3 3 h))
+
+    pub end-most : (n : ℕ) {x : ℤ} → n ≤ 4000000000000 → x ≡ earliestEnd v (pos n) → natAbs x ≤ 8000000000000
+    end-most n l f = rw f (let a = sum-abs n (v .«finish_after_ms») in let b = lag-most in omega arith)

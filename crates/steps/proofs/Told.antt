@@ -6,14 +6,14 @@ use mathlib.Core.List.{List, [], _∷_, _++_}
 use mathlib.Core.Option.{Option, none, some}
 use lib.IntN.{ℤ, pos, _+ℤ_, +ℤ-comm}
 use lib.Signed.{ltZ}
-use Rattle.loops.specs.Lists.{given, each, option}
+use Rattle.loops.specs.Lists.{given, anyOf, each, option}
 use Rattle.calendar.specs.Clock.{clock}
 use Rattle.rows.specs.Cells.{rowCount, cell, num}
 use Rattle.findings.specs.declared.Violation.{Violation}
 use Rattle.findings.specs.Sink.{Sink, emit}
-use Rattle.findings.proofs.SinkLaws.{emit-none}
+use Rattle.findings.proofs.SinkLaws.{emit-none, emit-then}
 use Rattle.overlap.specs.declared.Overlap.{Overlap}
-use Rattle.overlap.specs.Bounds.{earliestStart, earliestEnd}
+use Rattle.overlap.specs.Bounds.{overlapOf, earliestStart, earliestEnd}
 use Rattle.model.specs.Sheet.{sheet}
 use Rattle.model.specs.Resource.{transportBetween}
 use Rattle.model.specs.Activity.{overlap}
@@ -50,7 +50,26 @@ module _ (rows : List ℤ) (before after : ℕ) (earliest : ℤ) where
 pub told : {b c : Bool} {id v : ℕ} (s : Sink) {s′ : Sink} → b ≡ c → id ≡ v → s′ ≡ emit s (given b (precedenceViolation 7 id)) → s′ ≡ emit s (given c (precedenceViolation 7 v))
 told s e f q = rw (← e, ← f) q
 
+pub early-told : (rows : List ℤ) (before after from : ℕ) {b : Bool} {id : ℕ} (s : Sink) {s′ : Sink}
+    → b ≡ anyOf (λ p. clock .before (p .start) (clock .plus (pos from) (pos (transportBetween (sheet rows) (runsOnAll clock (sheet rows) before) (p .to))))) (piecesOf clock (sheet rows) after)
+    → id ≡ after → s′ ≡ emit s (given b (precedenceViolation 7 id)) → s′ ≡ emit s (given (startsEarly rows before after (pos from)) (precedenceViolation 7 after))
+unfolding startsEarly
+early-told rows before after from s e f q = told s e f q
+
 -- ---- both tests
+
+pub both-told : (rows : List ℤ) (before after k a e : ℕ) {v : Overlap} {bits from : ℕ} {lag earliest : ℤ} (s : Sink) {s₁ s₂ : Sink}
+    → v ≡ overlapOf bits lag → bits ≡ num rows k 2 → lag ≡ cell rows k 3 → pos from ≡ earliestStart v (pos a) (pos e) → earliest ≡ earliestEnd v (pos e)
+    → s₁ ≡ emit s (given (startsEarly rows before after (pos from)) (precedenceViolation 7 after))
+    → s₂ ≡ emit s₁ (given (endsEarly rows before after earliest) (precedenceViolation 7 after))
+    → s₂ ≡ emit s (given (startsEarly rows before after (earliestStart (overlapOf (num rows k 2) (cell rows k 3)) (pos a) (pos e))) (precedenceViolation 7 after)
+    ++ given (endsEarly rows before after (earliestEnd (overlapOf (num rows k 2) (cell rows k 3)) (pos e))) (precedenceViolation 7 after))
+both-told rows before after k a e {v} {bits} {from} {lag} {earliest} s {s₁} h i j f g p q =
+    let w : v ≡ overlapOf (num rows k 2) (cell rows k 3) = rw (← i, ← j) h in
+    emit-then _ _ s
+    (p ∙ ap (λ z. emit s (given (startsEarly rows before after z) (precedenceViolation 7 after))) (f ∙ ap (λ o. earliestStart o (pos a) (pos e)) w))
+    (q ∙ ap (λ z. emit s₁ (given (endsEarly rows before after z) (precedenceViolation 7 after))) (g ∙ ap (λ o. earliestEnd o (pos e)) w))
+
 
 module _ (rows : List ℤ) (before after : ℕ) (s : Sink) {x : Span} {id : ℕ} (q : spanMeant x ≡ activitySpan clock (sheet rows) id) (i : id ≡ num rows before 1) where
   span-is : (y : Span) → x ≡ y → activitySpan clock (sheet rows) (num rows before 1) ≡ spanMeant y

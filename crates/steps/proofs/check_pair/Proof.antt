@@ -1,3 +1,8 @@
+use Rattle.model.proofs.Accepting.{accepted}
+use Rattle.follows.proofs.Bounds.{span-most}
+use Rattle.transport.proofs.Bookings.{activity-at}
+use Rattle.steps.proofs.Overlapping.{overlap-row, no-overlap, first-kind}
+use Rattle.steps.proofs.Told.{no-previous, in-order, overlapping}
 use borrow.Author.Needs.{needs}
 use Rattle.steps.proofs.check_pair.Statement.{statement}
 use Rattle.steps.proofs.check_pair.Tie as tie
@@ -28,7 +33,7 @@ enum-told c = search needs
 
 -- src/lib.rt:134:9
 returns : tie.Need-returns
-returns c = ?
+returns c = no-previous _ _ _ _ (c .before .before .activity-span .ensures) (c .before .before .before .num-at .ensures) (c .enum-told .given .1)
 
 -- src/lib.rt:136:9
 first-owned-requires : tie.Need-first-owned-requires
@@ -40,7 +45,7 @@ row-count-requires c κs = search needs
 
 -- src/lib.rt:138:9
 check-overlapping-requires : tie.Need-check-overlapping-requires
-check-overlapping-requires c κs = ?
+check-overlapping-requires c κs = ((accepted _ ((c .before .before .before .before .before .before .before .before .before .pre .0) .accepted)), (c .before .before .before .before .before .before .before .before .before .pre .0) .by-kind, (c .before .before .before .before .before .before .before .before .before .pre .0) .linked, (c .before .before .before .before .before .before .before .before .before .pre .0) .by-owner, (c .before .before .before .before .before .before .before .before .before .pre .1), (c .before .before .before .before .before .before .before .before .before .pre .2), (c .before .before .before .before .before .before .before .before .before .pre .3), (c .before .before .before .before .before .before .before .before .before .pre .4), span-most _ (accepted _ ((c .before .before .before .before .before .before .before .before .before .pre .0) .accepted)) _ (c .before .before .before .before .before .before .before .activity-span .ensures) (c .before .before .before .before .before .previous .given .1) .0, span-most _ (accepted _ ((c .before .before .before .before .before .before .before .before .before .pre .0) .accepted)) _ (c .before .before .before .before .before .before .before .activity-span .ensures) (c .before .before .before .before .before .previous .given .1) .1, first-kind _ _ _ (activity-at _ (accepted _ ((c .before .before .before .before .before .before .before .before .before .pre .0) .accepted)) _ (c .before .before .before .before .before .before .before .before .before .pre .3) (c .before .before .before .before .before .before .before .before .before .pre .4)) _ (c .before .before .before .first-owned .ensures) (c .before .if1 .taken) (c .before .before .row-count .ensures))
 
 -- src/lib.rt:138:9
 same-length : tie.Need-same-length
@@ -48,11 +53,11 @@ same-length c = search needs
 
 -- src/lib.rt:138:9
 returns-2 : tie.Need-returns-2
-returns-2 c = ?
+returns-2 c = overlapping _ _ _ _ (c .before .before .before .before .before .before .before .before .before .activity-span .ensures) (c .before .before .before .before .before .before .before .before .before .before .num-at .ensures) (c .before .before .before .before .before .before .before .previous .given .1) (overlap-row _ _ _ (activity-at _ (accepted _ ((c .before .before .before .before .before .before .before .before .before .before .before .pre .0) .accepted)) _ (c .before .before .before .before .before .before .before .before .before .before .before .pre .3) (c .before .before .before .before .before .before .before .before .before .before .before .pre .4)) _ (c .before .before .before .before .before .first-owned .ensures) (c .before .before .before .if1 .taken) (c .before .before .before .before .row-count .ensures)) (c .before .check-overlapping .ensures)
 
 -- src/lib.rt:140:5
 report-early-requires : tie.Need-report-early-requires
-report-early-requires c κs = ?
+report-early-requires c κs = ((accepted _ ((c .before .before .before .before .before .before .before .before .before .pre .0) .accepted)), (c .before .before .before .before .before .before .before .before .before .pre .0) .by-kind, (c .before .before .before .before .before .before .before .before .before .pre .0) .linked, (c .before .before .before .before .before .before .before .before .before .pre .0) .by-owner, (c .before .before .before .before .before .before .before .before .before .pre .1), (c .before .before .before .before .before .before .before .before .before .pre .2), (c .before .before .before .before .before .before .before .before .before .pre .3), (c .before .before .before .before .before .before .before .before .before .pre .4), span-most _ (accepted _ ((c .before .before .before .before .before .before .before .before .before .pre .0) .accepted)) _ (c .before .before .before .before .before .before .before .activity-span .ensures) (c .before .before .before .before .before .previous .given .1) .1)
 
 -- src/lib.rt:119:1
 same-length-2 : tie.Need-same-length-2
@@ -60,7 +65,7 @@ same-length-2 c = search needs
 
 -- src/lib.rt:119:1
 returns-3 : tie.Need-returns-3
-returns-3 c = ?
+returns-3 c = in-order _ _ _ _ (c .before .before .before .before .before .before .before .before .before .activity-span .ensures) (c .before .before .before .before .before .before .before .before .before .before .num-at .ensures) (c .before .before .before .before .before .before .before .previous .given .1) (no-overlap _ _ _ (activity-at _ (accepted _ ((c .before .before .before .before .before .before .before .before .before .before .before .pre .0) .accepted)) _ (c .before .before .before .before .before .before .before .before .before .before .before .pre .3) (c .before .before .before .before .before .before .before .before .before .before .before .pre .4)) _ (c .before .before .before .before .before .first-owned .ensures) (c .before .before .before .if1 .left) (c .before .before .before .before .row-count .ensures)) (c .before .report-early .ensures)
 
 pub check-pair-spec : {M : Type 1} → statement M
 check-pair-spec =

@@ -1,3 +1,4 @@
+use Rattle.steps.proofs.Told.{early-told}
 use borrow.Author.Needs.{needs}
 use Rattle.steps.proofs.report_early.Statement.{statement}
 use Rattle.steps.proofs.report_early.Tie as tie
@@ -25,7 +26,7 @@ same-length c = search needs
 
 -- src/lib.rt:25:1
 returns : tie.Need-returns
-returns c = ?
+returns c = early-told _ _ _ _ _ (c .before .before .before .before .piece-is-early .ensures) (c .before .before .before .id-at .ensures .0) (c .before .report .ensures)
 
 pub report-early-spec : {M : Type 1} → statement M
 report-early-spec =

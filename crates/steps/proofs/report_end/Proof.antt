@@ -1,3 +1,7 @@
+use mir.Syntax.{w64}
+use mir.Val.{SFits}
+use mir.Facts.{toZ-ofZ}
+use Rattle.steps.proofs.Told.{told}
 use borrow.Author.Needs.{needs}
 use Rattle.steps.proofs.report_end.Statement.{statement}
 use Rattle.steps.proofs.report_end.Tie as tie
@@ -25,7 +29,7 @@ same-length c = search needs
 
 -- src/lib.rt:70:1
 returns : tie.Need-returns
-returns c = ?
+returns c = let f : SFits w64 (c .before .before .before .before .before .args .earliest) = search needs in told _ (rw (toZ-ofZ f) at (c .before .before .before .before .ends-early .ensures)) (c .before .before .before .id-at .ensures .0) (c .before .report .ensures)
 
 pub report-end-spec : {M : Type 1} → statement M
 report-end-spec =
