@@ -1,8 +1,8 @@
 -- The pieces of an activity run on what its bookings run on: the longest move to them is the same. Assumes nothing.
 use Prim.Native.Nat.{ℕ, max}
-use mathlib.Core.Path.{_≡_, refl, sym, ap, _∙_}
+use mathlib.Core.Path.{_≡_, refl, _∙_}
 use mathlib.Core.Bool.{Bool, true, false, cond}
-use mathlib.Core.List.{List, [], _∷_, _++_, map, foldl}
+use mathlib.Core.List.{List, [], _∷_, map, foldl}
 use mathlib.Core.Option.{Option, none, some}
 use native.Mathlib.Omega.{arith}
 use lib.IntN.{ℤ}
@@ -43,9 +43,6 @@ module _ {T : Type 0} (K : Clock T) (s : Sheet T) (l : List ℕ) where
       omega arith
   one-more a (e ∷ m) = go (beforeIndex (indexOf (a .part)) (e .key)) (beforeIndex (e .key) (indexOf (a .part))) (one-more a m)
     where
-      new : Piece T
-      new = pieceWith K a (record { start = a .start; to = [] })
-
       go : (b c : Bool) → moves (values (step m a)) ≡ max (moves (values m)) (transportBetween s l (a .resource ∷ []))
           → moves (values (cond b (entry (indexOf (a .part)) (pieceWith K a (record { start = a .start; to = [] })) ∷ e ∷ m) (cond c (e ∷ step m a) (entry (e .key) (pieceWith K a (e .value)) ∷ m))))
           ≡ max (moves (e .value ∷ values m)) (transportBetween s l (a .resource ∷ []))

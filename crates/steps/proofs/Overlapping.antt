@@ -2,12 +2,11 @@
 use Prim.Native.Nat.{ℕ, suc, _+_, _-_, _<_, _≤_}
 use mathlib.Core.Path.{_≡_, refl, sym, ap, _∙_}
 use mathlib.Core.Bool.{Bool, true, false, cond, _&&_, _||_, true≢false}
-use mathlib.Core.List.{List, [], _∷_}
-use mathlib.Core.Option.{Option, none, some}
+use mathlib.Core.List.{List}
+use mathlib.Core.Option.{none, some}
 use native.Mathlib.Omega.{arith}
 use lib.Dec.{T, eqb, leb, ltb}
 use lib.IntN.{ℤ, pos, negsuc, natAbs, _+ℤ_}
-use lib.Ieee.{binary64, ofBits}
 use borrow.Author.Tests.{leb-true}
 use Rattle.loops.specs.Lists.{given, head}
 use Rattle.loops.specs.Search.{first, someIf}
@@ -17,7 +16,7 @@ use Rattle.loops.proofs.SearchLaws.{first-hit}
 use Rattle.loops.proofs.Walks.{first-first}
 use Rattle.rows.specs.Cells.{rowCount, cell, num, is}
 use Rattle.rows.specs.Class.{g-c}
-use Rattle.rows.specs.Ranges.{within, isNone, inRange, inClass}
+use Rattle.rows.specs.Ranges.{within, inRange, inClass}
 use Rattle.sheet.specs.Places.{placeOf}
 use Rattle.sheet.specs.Index.{ownerKind, ownedBy}
 use Rattle.sheet.specs.Accepted.{Accepted}

@@ -1,14 +1,14 @@
 -- What the code tells of two steps is what `checkPair` says. Assumes nothing.
-use Prim.Native.Nat.{ℕ, _<_, _≤_}
+use Prim.Native.Nat.{ℕ}
 use mathlib.Core.Path.{_≡_, refl, sym, ap, _∙_}
 use mathlib.Core.Bool.{Bool, true, false}
-use mathlib.Core.List.{List, [], _∷_, _++_}
+use mathlib.Core.List.{List, [], _++_}
 use mathlib.Core.Option.{Option, none, some}
 use lib.IntN.{ℤ, pos, _+ℤ_, +ℤ-comm}
 use lib.Signed.{ltZ}
 use Rattle.loops.specs.Lists.{given, anyOf, each, option}
 use Rattle.calendar.specs.Clock.{clock}
-use Rattle.rows.specs.Cells.{rowCount, cell, num}
+use Rattle.rows.specs.Cells.{cell, num}
 use Rattle.findings.specs.declared.Violation.{Violation}
 use Rattle.findings.specs.Sink.{Sink, emit}
 use Rattle.findings.proofs.SinkLaws.{emit-none, emit-then}
@@ -69,7 +69,6 @@ both-told rows before after k a e {v} {bits} {from} {lag} {earliest} s {s₁} h 
     emit-then _ _ s
     (p ∙ ap (λ z. emit s (given (startsEarly rows before after z) (precedenceViolation 7 after))) (f ∙ ap (λ o. earliestStart o (pos a) (pos e)) w))
     (q ∙ ap (λ z. emit s₁ (given (endsEarly rows before after z) (precedenceViolation 7 after))) (g ∙ ap (λ o. earliestEnd o (pos e)) w))
-
 
 module _ (rows : List ℤ) (before after : ℕ) (s : Sink) {x : Span} {id : ℕ} (q : spanMeant x ≡ activitySpan clock (sheet rows) id) (i : id ≡ num rows before 1) where
   span-is : (y : Span) → x ≡ y → activitySpan clock (sheet rows) (num rows before 1) ≡ spanMeant y

@@ -2,7 +2,7 @@
 ghost use mathlib.Core.Path.{_≡_};
 ghost use mathlib.Core.Bool.{true};
 ghost use mathlib.Core.List.{_++_};
-ghost use Prim.Native.Nat.{ℕ, _<_, _≤_};
+ghost use Prim.Native.Nat.{_<_, _≤_};
 ghost use lib.IntN.{pos, natAbs};
 ghost use Rattle.loops.specs.Lists.{given};
 ghost use Rattle.calendar.specs.Clock.{clock};
@@ -135,7 +135,19 @@ pub fn check_pair(
     };
     let k = sheet::first_owned(rows, owned, after, 3);
     if k < rows::row_count(rows) {
-        return check_overlapping(rows, kinds, links, owned, before, after, start, end, k, out, n);
+        return check_overlapping(
+            rows,
+            kinds,
+            links,
+            owned,
+            before,
+            after,
+            start,
+            end,
+            k,
+            out,
+            n,
+        );
     }
     report_early(rows, kinds, links, owned, before, after, end, out, n)
 }
