@@ -38,11 +38,11 @@ report-early-requires c κs = search needs
 
 -- src/lib.rt:114:9
 earliest-end-requires : tie.Need-earliest-end-requires
-earliest-end-requires c κs = let f : SFits w64 (c .before .before .before .before .before .cell-at .result) = search needs in ((c .before .before .before .before .before .before .before .pre .9), lag-most _ (c .before .before .before .before .before .before .before .pre .0) _ (c .before .before .before .before .before .before .before .pre .10) _ (rw (toZ-ofZ f) at (c .before .before .before .before .new .ensures)) (c .before .before .before .before .before .cell-at .ensures))
+earliest-end-requires c κs = let f : SFits w64 (c .before .before .before .before .before .cell-at .result) = search needs in (search needs, lag-most _ (c .before .before .before .before .before .before .before .pre .0) _ (c .before .before .before .before .before .before .before .pre .10) _ (rw (toZ-ofZ f) at (c .before .before .before .before .new .ensures)) (c .before .before .before .before .before .cell-at .ensures))
 
 -- src/lib.rt:115:5
 report-end-requires : tie.Need-report-end-requires
-report-end-requires c κs = let g : SFits w64 (c .before .earliest-end .result) = search needs in let f : SFits w64 (c .before .before .before .before .before .before .before .cell-at .result) = search needs in ((c .before .before .before .before .before .before .before .before .before .pre .0), (c .before .before .before .before .before .before .before .before .before .pre .1), (c .before .before .before .before .before .before .before .before .before .pre .2), (c .before .before .before .before .before .before .before .before .before .pre .3), (c .before .before .before .before .before .before .before .before .before .pre .4), (c .before .before .before .before .before .before .before .before .before .pre .5), (c .before .before .before .before .before .before .before .before .before .pre .6), (c .before .before .before .before .before .before .before .before .before .pre .7), rw (toZ-ofZ g) (end-most _ (c .before .before .before .before .before .before .before .before .before .pre .0) _ (c .before .before .before .before .before .before .before .before .before .pre .10) _ (rw (toZ-ofZ f) at (c .before .before .before .before .before .before .new .ensures)) (c .before .before .before .before .before .before .before .cell-at .ensures) _ (c .before .before .before .before .before .before .before .before .before .pre .9) (c .before .earliest-end .ensures)))
+report-end-requires c κs = let g : SFits w64 (c .before .earliest-end .result) = search needs in let f : SFits w64 (c .before .before .before .before .before .before .before .cell-at .result) = search needs in ((c .before .before .before .before .before .before .before .before .before .pre .0), (c .before .before .before .before .before .before .before .before .before .pre .1), (c .before .before .before .before .before .before .before .before .before .pre .2), (c .before .before .before .before .before .before .before .before .before .pre .3), (c .before .before .before .before .before .before .before .before .before .pre .4), (c .before .before .before .before .before .before .before .before .before .pre .5), (c .before .before .before .before .before .before .before .before .before .pre .6), (c .before .before .before .before .before .before .before .before .before .pre .7), rw (toZ-ofZ g) (end-most _ (c .before .before .before .before .before .before .before .before .before .pre .0) _ (c .before .before .before .before .before .before .before .before .before .pre .10) _ (rw (toZ-ofZ f) at (c .before .before .before .before .before .before .new .ensures)) (c .before .before .before .before .before .before .before .cell-at .ensures) _ (search needs) (c .before .earliest-end .ensures)))
 
 -- src/lib.rt:95:1
 same-length : tie.Need-same-length

@@ -39,7 +39,7 @@ moved-between-requires c κs = search needs
 
 -- src/lib.rt:67:5
 is-before-requires : tie.Need-is-before-requires
-is-before-requires c κs = (span-most _ (c .before .before .before .before .before .before .pre .0) _ (c .before .before .before .before .activity-span .ensures) (c .before .before .x .given .1) .1, (c .moved-between .ensures .1), search needs)
+is-before-requires c κs = (span-most _ (c .before .before .before .before .before .before .pre .0) _ (c .before .before .before .before .activity-span .ensures) (c .before .before .x .given .1) .1, search needs, search needs)
 
 -- src/lib.rt:50:1
 returns-2 : tie.Need-returns-2
