@@ -89,13 +89,15 @@ pub whole : (rows : List ℤ) (acc : Accepted rows) (k : ℕ) (l : k < rowCount 
     → Added (windows (sheet rows) 16 (num rows a 1)) (countBelow (ownedBy rows a 16) (rowCount rows)) w cs g w′ cs′ g′
     → (g′ .calendars ≤ 800)
     × (((t : ℤ) → jointWorking clock (layout.calendarsOf w′ (take (2 * g′ .calendars) cs′)) t
-        ≡ jointWorking clock (calendarsOf clock (sheet rows) (assignmentOf rows k) (activityOf rows a)) t)
+    ≡ jointWorking clock (calendarsOf clock (sheet rows) (assignmentOf rows k) (activityOf rows a)) t)
     × ((length w′ ≡ 2400) × (length cs′ ≡ 1600)))
 whole rows acc k l h a {w′ = w′} {cs′ = cs′} {g′ = g′} p r b s = (
   omega (arith, s .calendars),
-  (λ t.
-      ap (λ y. jointWorking clock y t) (lent w′ cs′ (g′ .calendars) (omega (arith, s .calendars, s .tidy .pairs)))
-      ∙ joint-laid rows acc k l h t a (laidOut w′ cs′ (g′ .calendars)) p
-      (s .list ∙ ap (λ y. y ++ (windows (sheet rows) 16 (num rows a 1) ∷ [])) (r .list)),
-  (s .tidy .places, s .tidy .pairs)),
+  (
+    λ t.
+        ap (λ y. jointWorking clock y t) (lent w′ cs′ (g′ .calendars) (omega (arith, s .calendars, s .tidy .pairs)))
+        ∙ joint-laid rows acc k l h t a (laidOut w′ cs′ (g′ .calendars)) p
+        (s .list ∙ ap (λ y. y ++ (windows (sheet rows) 16 (num rows a 1) ∷ [])) (r .list)),
+    (s .tidy .places, s .tidy .pairs),
+  ),
 )
