@@ -1,3 +1,1 @@
-pub mod Joint
-pub mod Once
 pub mod Plain
