@@ -1,3 +1,5 @@
 pub mod Joint
 pub mod Once
 pub mod Plain
+pub mod Resumable
+pub mod Booking
