@@ -37,11 +37,11 @@ mul-cs c = search needs
 
 -- src/lib.rt:164:18
 array-share-prefix-cs : tie.Need-array-share-prefix-cs
-array-share-prefix-cs c = omega (arith, ((c .before .before .before .lay-calendars .ensures) .0), ((c .before .before .before .lay-calendars .ensures) .3))
+array-share-prefix-cs c = omega (arith, ((c .before .before .before .lay-calendars .ensures) .0), ((c .before .before .before .lay-calendars .ensures) .1 .1 .1))
 
 -- src/lib.rt:164:18
 slice-aggregate-is-uncovered : tie.Need-slice-aggregate-is-uncovered
-slice-aggregate-is-uncovered c = sym (length-take-le _ _ (omega (arith, ((c .before .before .before .before .lay-calendars .ensures) .0), ((c .before .before .before .before .lay-calendars .ensures) .3))))
+slice-aggregate-is-uncovered c = sym (length-take-le _ _ (omega (arith, ((c .before .before .before .before .lay-calendars .ensures) .0), ((c .before .before .before .before .lay-calendars .ensures) .1 .1 .1))))
 
 -- src/lib.rt:164:32
 slice-aggregate-is-uncovered-2 : tie.Need-slice-aggregate-is-uncovered-2
@@ -53,7 +53,7 @@ is-uncovered-requires c κs = search needs
 
 -- src/lib.rt:146:1
 returns : tie.Need-returns
-returns c = same-covered _ _ ((c .before .before .before .before .before .before .lay-calendars .ensures) .1) (c .before .before .before .before .before .num-at .ensures) (c .before .before .before .before .num-at2 .ensures) (c .before .before .before .needed-ms .ensures) (c .is-uncovered .ensures)
+returns c = same-covered _ _ ((c .before .before .before .before .before .before .lay-calendars .ensures) .1 .0) (c .before .before .before .before .before .num-at .ensures) (c .before .before .before .before .num-at2 .ensures) (c .before .before .before .needed-ms .ensures) (c .is-uncovered .ensures)
 
 pub lacks-time-spec : {M : Type 1} → statement M
 lacks-time-spec =
