@@ -1,0 +1,4 @@
+pub mod Gathering
+pub mod Joint
+pub mod Marking
+pub mod Once
