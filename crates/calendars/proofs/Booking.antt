@@ -1,6 +1,6 @@
 -- The findings of any booking, and of all of them. Assumes nothing.
 use Prim.Native.Nat.{ℕ, _<_, _≤_}
-use mathlib.Core.Path.{_≡_, refl, ap, ap₂, sym, _∙_}
+use mathlib.Core.Path.{_≡_, refl, ap, sym, _∙_}
 use mathlib.Core.Bool.{Bool, true, false, cond, _&&_}
 use mathlib.Core.List.{List, [], append-nil}
 use mathlib.Core.Option.{Option, none, some}
@@ -21,7 +21,6 @@ use Rattle.sheet.specs.Places.{ofKind, placeOf}
 use Rattle.sheet.specs.Index.{ownerKind, orEnd, ownPlace, resPlace}
 use Rattle.sheet.proofs.Lookups.{and-left, and-right, placed}
 use Rattle.model.specs.Sheet.{sheet}
-use Rattle.model.specs.Resource.{Resource, findResource}
 use Rattle.model.specs.Activity.{Activity, findActivity}
 use Rattle.model.specs.Schedule.{assignmentAt, assignmentsBelow, assignments}
 use Rattle.model.specs.Records.{activityOf, resourceOf, assignmentOf}

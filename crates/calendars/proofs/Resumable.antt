@@ -1,9 +1,9 @@
 -- The findings of a booking that may pause. Assumes nothing.
-use Prim.Native.Nat.{ℕ, _+_, _<_, _≤_}
+use Prim.Native.Nat.{ℕ, _+_, _<_}
 use mathlib.Core.Path.{_≡_, refl, ap, ap₂, sym, _∙_}
 use mathlib.Core.Bool.{Bool, true, false, not, _||_}
-use mathlib.Core.List.{List, [], _∷_}
-use mathlib.Core.Option.{Option, none, some}
+use mathlib.Core.List.{List}
+use mathlib.Core.Option.{none, some}
 use lib.Dec.{ltb}
 use lib.IntN.{ℤ, pos}
 use lib.ListN.{getD}
@@ -23,7 +23,7 @@ use Rattle.model.proofs.Finds.{find-activity}
 use Rattle.checks.specs.Pieces.{runsOn}
 use Rattle.checks.specs.CheckCalendars.{calendarsOf, checkResumable}
 use Rattle.times.specs.Times.{Needs}
-use Rattle.calendars.proofs.Joint.{available-same}
+use Rattle.piece_calendars.proofs.Joint.{available-same}
 use Rattle.calendars.proofs.Plain.{known}
 
 -- ---- whether working time covers work

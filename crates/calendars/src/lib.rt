@@ -1,12 +1,12 @@
 // Check 6, `check_calendars` of scheduler/feasibility.rs: a booking that may not pause is held whole by a window of its resource and of its activity;
 // resumable work starts in the joint working time of its piece, and that time within its span covers it.
 ghost use mathlib.Core.Path.{_≡_};
-ghost use Prim.Native.Nat.{ℕ, _+_, _*_, _<_, _≤_};
+ghost use Prim.Native.Nat.{ℕ, _+_, _<_, _≤_};
 ghost use mathlib.Core.Bool.{Bool, true, not, _&&_, _||_};
 ghost use mathlib.Core.Option.{Option, some};
 ghost use lib.Dec.{ltb};
-ghost use lib.IntN.{ℤ, pos};
-ghost use lib.ListN.{length, take, getD};
+ghost use lib.IntN.{pos};
+ghost use lib.ListN.{getD};
 ghost use Rattle.loops.specs.Lists.{given};
 ghost use Rattle.rows.specs.Cells.{rowCount, num, is};
 ghost use Rattle.sheet.specs.Places.{placeOf};
@@ -107,25 +107,6 @@ fn check_plain(
 
 // ---- resumable bookings
 
-fn lay_calendars(
-    rows: &[i64],
-    kinds: &[u16; 832],
-    links: &[u16; 1600],
-    owned: &[u16; 8810],
-    a: usize,
-    k: usize,
-    w: &mut [u64; 2400],
-    cs: &mut [usize; 1600],
-) -> usize
-    requires { ⌜ Indexed (now rows) (now kinds) (now links) (now owned) × (k < rowCount (now rows)) × (is (now rows) k 0 23 ≡ true) × (a ≡ ownPlace (now rows) k) × (a < rowCount (now rows)) × (length (now w) ≡ 2400) × (length (now cs) ≡ 1600) ⌝ }
-    ensures count { λ r. ⌜ r ≤ 800 ⌝ }
-    ensures joint { λ r. ⌜ ((t : ℤ) → jointWorking clock (layout.calendarsOf (now (w .exit)) (take (2 * r) (now (cs .exit)))) t ≡ jointWorking clock (calendarsOf clock (sheet (now (rows .entry))) (assignmentOf (now (rows .entry)) k) (activityOf (now (rows .entry)) a)) t) ⌝ }
-    ensures places { λ r. ⌜ length (now (w .exit)) ≡ 2400 ⌝ }
-    ensures pairs { λ r. ⌜ length (now (cs .exit)) ≡ 1600 ⌝ }
-{
-    0
-}
-
 // What booking k needs: its own setup, and the derived rest of its work.
 fn needed_ms(rows: &[i64], need: &[u64; 800], k: usize) -> u64
     requires { ⌜ Accepted (now rows) × Needs (now rows) (now need) × (k < rowCount (now rows)) × (is (now rows) k 0 23 ≡ true) ⌝ }
@@ -159,7 +140,7 @@ fn lacks_time(
 {
     let mut w = [0u64; 2400];
     let mut cs = [0usize; 1600];
-    let c = lay_calendars(rows, kinds, links, owned, a, k, &mut w, &mut cs);
+    let c = piece_calendars::lay_calendars(rows, kinds, links, owned, a, k, &mut w, &mut cs);
     let start = rows::num_at(rows, k, 4);
     let end = rows::num_at(rows, k, 5);
     let needed = needed_ms(rows, need, k);

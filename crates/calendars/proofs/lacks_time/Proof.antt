@@ -1,7 +1,7 @@
 use native.Mathlib.Omega.{arith}
-use lib.ListN.{length, length-replicate}
+use lib.ListN.{length-replicate}
 use lib.Seq.{length-take-le}
-use mathlib.Core.Path.{_≡_, sym}
+use mathlib.Core.Path.{sym}
 use Prim.Native.Nat.{ℕ}
 use Rattle.model.proofs.Accepting.{accepted}
 use Rattle.calendars.proofs.Resumable.{same-covered}
@@ -11,7 +11,7 @@ use Rattle.calendars.proofs.lacks_time.Tie as tie
 use Rattle.calendars.proofs.lacks_time.Reads as reads
 use Rattle.calendars.proofs.lacks_time.Lts as lts
 use Rattle.calendars.proofs.is_uncovered.Reads as is-uncovered-reads
-use Rattle.calendars.proofs.lay_calendars.Reads as lay-calendars-reads
+use Rattle.piece_calendars.proofs.lay_calendars.Reads as lay-calendars-reads
 use Rattle.calendars.proofs.needed_ms.Reads as needed-ms-reads
 use Rattle.rows.proofs.num_at.Reads as num-at-reads
 
