@@ -29,6 +29,7 @@ use Rattle.model.specs.Sheet.{sheet}
 use Rattle.model.specs.Resource.{windows}
 use Rattle.model.proofs.Requiring.{count-less}
 use Rattle.windows.specs.Laid.{Holder, Laid}
+use Rattle.pieces.proofs.Chains.{owned-kind}
 use Rattle.piece_calendars.specs.declared.Gathered.{Gathered}
 use Rattle.piece_calendars.specs.Taken.{marked, OnResources}
 use Rattle.piece_calendars.specs.Laying.{laidOut, Tidy, Added, calendarAt, windowAbove, Resources}
@@ -110,41 +111,39 @@ module _ (rows : List ℤ) where
   two-kinds x y k d e f = d (sym (is-num rows k 0 x e) ∙ is-num rows k 0 y f)
 
   -- the windows of row i and of the rows above it
+  window-more : (i j : ℕ) → cond (windowAbove rows i j) 1 0 + cond (ownedBy rows i 15 j) 1 0 ≤ cond (windowAbove rows (suc i) j) 1 0
+  unfolding windowAbove ownedBy
+  window-more i j = go (is rows j 0 15) (decLt (ownPlace rows j) i) (ℕ-discrete (ownPlace rows j) i)
+    where
+      go : (b : Bool) → Dec (ownPlace rows j < i) → Dec (ownPlace rows j ≡ i)
+          → cond (b && ltb (ownPlace rows j) i) 1 0 + cond (b && eqb (ownPlace rows j) i) 1 0 ≤ cond (b && ltb (ownPlace rows j) (suc i)) 1 0
+      go false d e = omega arith
+      go true (yes d) e = rw (lt-ltb _ _ d, ne-eqb (ownPlace rows j) i (λ z. omega arith), lt-ltb (ownPlace rows j) (suc i) (omega arith)) (omega arith)
+      go true (no d) (yes e) = rw (le-ltb (ownPlace rows j) i (omega arith), eq-eqb _ _ e, lt-ltb (ownPlace rows j) (suc i) (omega arith)) (omega arith)
+      go true (no d) (no e) = rw (le-ltb (ownPlace rows j) i (omega arith), ne-eqb _ _ e, le-ltb (ownPlace rows j) (suc i) (omega arith)) (omega arith)
+
   windows-more : (i n : ℕ) → countBelow (windowAbove rows i) n + countBelow (ownedBy rows i 15) n ≤ countBelow (windowAbove rows (suc i)) n
-  windows-more i n = count-both (windowAbove rows i) (ownedBy rows i 15) (windowAbove rows (suc i)) at n
-    where
-      at : (j : ℕ) → cond (windowAbove rows i j) 1 0 + cond (ownedBy rows i 15 j) 1 0 ≤ cond (windowAbove rows (suc i) j) 1 0
-      unfolding windowAbove ownedBy
-      at j = go (is rows j 0 15) (decLt (ownPlace rows j) i) (ℕ-discrete (ownPlace rows j) i)
-        where
-          go : (b : Bool) → Dec (ownPlace rows j < i) → Dec (ownPlace rows j ≡ i)
-              → cond (b && ltb (ownPlace rows j) i) 1 0 + cond (b && eqb (ownPlace rows j) i) 1 0 ≤ cond (b && ltb (ownPlace rows j) (suc i)) 1 0
-          go false d e = omega arith
-          go true (yes d) e = rw (lt-ltb _ _ d, ne-eqb (ownPlace rows j) i (λ z. omega arith), lt-ltb (ownPlace rows j) (suc i) (omega arith)) (omega arith)
-          go true (no d) (yes e) = rw (le-ltb (ownPlace rows j) i (omega arith), eq-eqb _ _ e, lt-ltb (ownPlace rows j) (suc i) (omega arith)) (omega arith)
-          go true (no d) (no e) = rw (le-ltb (ownPlace rows j) i (omega arith), ne-eqb _ _ e, le-ltb (ownPlace rows j) (suc i) (omega arith)) (omega arith)
+  windows-more i n = count-both (windowAbove rows i) (ownedBy rows i 15) (windowAbove rows (suc i)) (window-more i) n
 
+  above-kind : (i k : ℕ) → windowAbove rows i k ≡ true → is rows k 0 15 ≡ true
+  unfolding windowAbove
+  above-kind i k e = and-left (is rows k 0 15) _ e
+
+  -- and of an activity
   windows-all : (i a n : ℕ) → countBelow (windowAbove rows i) n + countBelow (ownedBy rows a 16) n ≤ n
-  windows-all i a n = count-apart (windowAbove rows i) (ownedBy rows a 16) (λ k e f. two-kinds 15 16 k (λ z. omega arith) (left k e) (right k f)) n
-    where
-      left : (k : ℕ) → windowAbove rows i k ≡ true → is rows k 0 15 ≡ true
-      unfolding windowAbove
-      left k e = and-left (is rows k 0 15) _ e
+  windows-all i a n = count-apart (windowAbove rows i) (ownedBy rows a 16) (λ k e f. two-kinds 15 16 k (λ z. omega arith) (above-kind i k e) (owned-kind rows a 16 k f)) n
 
-      right : (k : ℕ) → ownedBy rows a 16 k ≡ true → is rows k 0 16 ≡ true
-      unfolding ownedBy
-      right k e = and-left (is rows k 0 16) _ e
+  resource-more : (r : ℕ) → is rows r 0 11 ≡ true → countBelow (ofKind rows 11) (suc r) ≡ countBelow (ofKind rows 11) r + 1
+  unfolding countBelow ofKind
+  resource-more r e = rw e
 
-  -- a row that is no resource
+  -- a booking is no resource
   resources-few : (k n : ℕ) → k < n → is rows k 0 23 ≡ true → countBelow (ofKind rows 11) n < n
+  unfolding ofKind
   resources-few k n l h =
-      let a = count-apart (ofKind rows 11) (ofKind rows 23) (λ j e f. two-kinds 11 23 j (λ z. omega arith) (at 11 j e) (at 23 j f)) n in
-      let b = count-less (ofKind rows 23) k n l (unfold ofKind in h) in
+      let a = count-apart (ofKind rows 11) (ofKind rows 23) (λ j e f. two-kinds 11 23 j (λ z. omega arith) e f) n in
+      let b = count-less (ofKind rows 23) k n l h in
       omega arith
-    where
-      at : (x j : ℕ) → ofKind rows x j ≡ true → is rows j 0 x ≡ true
-      unfolding ofKind
-      at x j e = e
 
 -- ---- resource by resource
 
@@ -169,12 +168,8 @@ module _ (rows : List ℤ) (marks : List ℕ) where
           ∙ ap (λ l. l ++ (windows (sheet rows) 15 (num rows r 1) ∷ [])) (h .list)
           ∙ (unfold collect calendarAt in rw e);
       windows = let b = windows-more rows r (rowCount rows) in omega (arith, a .windows, h .windows);
-      calendars = unfold countBelow ofKind in rw k (omega (arith, a .calendars, few (h .calendars)));
+      calendars = let q = resource-more rows r k in omega (arith, a .calendars, h .calendars);
     }
-      where
-        few : g .calendars ≤ countBelow (ofKind rows 11) r → g .calendars ≤ countBelow (λ j. is rows j 0 11) r
-        unfolding ofKind
-        few q = q
 
     pub gather-none : marked marks r ≡ false → Resources rows marks r w cs g → Resources rows marks (suc r) w cs g
     gather-none e h = record {

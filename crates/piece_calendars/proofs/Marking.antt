@@ -18,11 +18,9 @@ use Rattle.sheet.specs.Index.{resPlace, ownPlace, ownedBy}
 use Rattle.pieces.specs.Bookings.{inPiece}
 use Rattle.pieces.proofs.Chains.{blind-if, piece-owned}
 use Rattle.piece_calendars.specs.Taken.{takenBelow, taken, marked, Marked, OnResources}
+use Rattle.piece_calendars.proofs.Joint.{or-false}
 use Rattle.piece_calendars.proofs.Once.{taken-place}
 
-or-false : (b : Bool) → (b || false) ≡ b
-or-false true = refl
-or-false false = refl
 
 module _ (rows : List ℤ) (k : ℕ) where
   -- one row more

@@ -1,4 +1,6 @@
 use borrow.Author.Needs.{needs}
+use mathlib.Core.Path.{refl}
+use Rattle.piece_calendars.proofs.Gathering.{added}
 use Rattle.piece_calendars.proofs.add_calendar.Statement.{statement}
 use Rattle.piece_calendars.proofs.add_calendar.Tie as tie
 use Rattle.piece_calendars.proofs.add_calendar.Reads as reads
@@ -43,7 +45,7 @@ add-t10 c = search needs
 
 -- src/lib.rt:62:1
 returns : tie.Need-returns
-returns c = ?
+returns c = added _ _ _ _ _ _ ((c .before .before .before .before .before .pre .3)) ((c .before .before .before .before .before .pre .5)) ((c .before .before .before .gather-windows .ensures .0)) _ ((c .before .before .before .gather-windows .ensures .1)) refl
 
 pub add-calendar-spec : {M : Type 1} → statement M
 add-calendar-spec =
