@@ -21,7 +21,6 @@ use Rattle.piece_calendars.specs.Taken.{takenBelow, taken, marked, Marke
 use Rattle.piece_calendars.proofs.Joint.{or-false}
 use Rattle.piece_calendars.proofs.Once.{taken-place}
 
-
 module _ (rows : List ℤ) (k : ℕ) where
   -- one row more
   below-more : (j r : ℕ) → takenBelow rows k (suc j) r ≡ (takenBelow rows k j r || (inPiece rows k j && eqb (resPlace rows j) r))

@@ -19,7 +19,7 @@ use Rattle.calendar.specs.Calendar.{Calendar, isWorkingTime, jointWorking}
 use Rattle.calendar.specs.Layout as layout
 use Rattle.rows.specs.Cells.{rowCount, num, is}
 use Rattle.sheet.specs.Accepted.{Accepted}
-use Rattle.sheet.specs.Index.{ownerKind, ownPlace}
+use Rattle.sheet.specs.Index.{ownerKind, ownPlace, ownedBy}
 use Rattle.model.specs.Sheet.{sheet}
 use Rattle.model.specs.Resource.{windows}
 use Rattle.model.specs.Records.{activityOf, assignmentOf}
@@ -84,20 +84,20 @@ module _ (rows : List ℤ) (acc : Accepted rows) (k : ℕ) (l : k < rowCount row
       ∙ sym (joint-is rows acc k l h t a)
 
 -- what is promised of the calendars that are laid out
-pub whole : (rows : List ℤ) (acc : Accepted rows) (k : ℕ) (l : k < rowCount rows) (h : is rows k 0 23 ≡ true) (a m : ℕ) {marks w cs w′ cs′ : List ℕ} {g g′ : Gathered}
+pub whole : (rows : List ℤ) (acc : Accepted rows) (k : ℕ) (l : k < rowCount rows) (h : is rows k 0 23 ≡ true) (a : ℕ) {marks w cs w′ cs′ : List ℕ} {g g′ : Gathered}
     → Marked rows k (rowCount rows) marks → Resources rows marks (rowCount rows) w cs g → g .calendars < 800
-    → Added (windows (sheet rows) 16 (num rows a 1)) m w cs g w′ cs′ g′
+    → Added (windows (sheet rows) 16 (num rows a 1)) (countBelow (ownedBy rows a 16) (rowCount rows)) w cs g w′ cs′ g′
     → (g′ .calendars ≤ 800)
-    × ((t : ℤ) → jointWorking clock (layout.calendarsOf w′ (take (2 * g′ .calendars) cs′)) t
-        ≡ jointWorking clock (calendarsOf clock (sheet rows) (assignmentOf rows k) (activityOf rows a)) t)
-    × (length w′ ≡ 2400)
-    × (length cs′ ≡ 1600)
-whole rows acc k l h a m {w′ = w′} {cs′ = cs′} {g′ = g′} p r b s = (
+    × (((t : ℤ) → jointWorking clock (layout.calendarsOf w′ (take (2 * g′ .calendars) cs′)) t
+    ≡ jointWorking clock (calendarsOf clock (sheet rows) (assignmentOf rows k) (activityOf rows a)) t)
+    × ((length w′ ≡ 2400) × (length cs′ ≡ 1600)))
+whole rows acc k l h a {w′ = w′} {cs′ = cs′} {g′ = g′} p r b s = (
   omega (arith, s .calendars),
-  λ t.
-      ap (λ y. jointWorking clock y t) (lent w′ cs′ (g′ .calendars) (omega (arith, s .calendars, s .tidy .pairs)))
-      ∙ joint-laid rows acc k l h t a (laidOut w′ cs′ (g′ .calendars)) p
-      (s .list ∙ ap (λ y. y ++ (windows (sheet rows) 16 (num rows a 1) ∷ [])) (r .list)),
-  s .tidy .places,
-  s .tidy .pairs,
+  (
+    λ t.
+        ap (λ y. jointWorking clock y t) (lent w′ cs′ (g′ .calendars) (omega (arith, s .calendars, s .tidy .pairs)))
+        ∙ joint-laid rows acc k l h t a (laidOut w′ cs′ (g′ .calendars)) p
+        (s .list ∙ ap (λ y. y ++ (windows (sheet rows) 16 (num rows a 1) ∷ [])) (r .list)),
+    (s .tidy .places, s .tidy .pairs),
+  ),
 )

@@ -36,7 +36,13 @@ fn mark_resource(rows: &[i64], links: &[u16; 1600], k: usize, j: usize, marks: &
 }
 
 // 1 at the row of each resource that a booking of booking k's piece is on. The activity of the piece is of row a.
-fn mark_resources(rows: &[i64], links: &[u16; 1600], owned: &[u16; 8810], a: usize, k: usize) -> [u8; 800]
+fn mark_resources(
+    rows: &[i64],
+    links: &[u16; 1600],
+    owned: &[u16; 8810],
+    a: usize,
+    k: usize,
+) -> [u8; 800]
     requires { ⌜ Linked (now rows) (now links) × Owned (now rows) (now owned) × (is (now rows) k 0 23 ≡ true) × (a ≡ ownPlace (now rows) k) ⌝ }
     ensures { λ r. ⌜ Marked (now (rows .entry)) k (rowCount (now (rows .entry))) r ⌝ }
 {

@@ -22,11 +22,11 @@ gather-resources-requires c κs = ((c .before .before .before .before .pre .0 .b
 
 -- src/lib.rt:146:9
 add-calendar-requires : tie.Need-add-calendar-requires
-add-calendar-requires c κs = let h = last-room _ _ _ _ ((c .before .before .before .before .before .before .before .pre .0 .by-owner .short)) ((c .before .before .before .before .before .before .before .pre .1)) ((c .before .before .before .before .before .before .before .pre .2)) (c .before .before .gather-resources .ensures) in ((c .before .before .before .before .before .before .before .pre .0 .by-owner), omega (arith, (c .before .before .before .before .before .before .before .pre .4)), activity-holder _ _ ((c .before .before .before .before .before .before .before .pre .2)) ((c .before .before .before .before .before .before .before .pre .3)) ((c .before .before .before .before .before .before .before .pre .4)), (c .before .before .gather-resources .ensures .tidy), h .0, h .1)
+add-calendar-requires c κs = let h = last-room _ _ (c .before .before .before .before .before .before .before .args .a) _ ((c .before .before .before .before .before .before .before .pre .0 .by-owner .short)) ((c .before .before .before .before .before .before .before .pre .1)) ((c .before .before .before .before .before .before .before .pre .2)) (c .before .before .gather-resources .ensures) in ((c .before .before .before .before .before .before .before .pre .0 .by-owner), omega (arith, (c .before .before .before .before .before .before .before .pre .4)), activity-holder _ _ ((c .before .before .before .before .before .before .before .pre .2)) ((c .before .before .before .before .before .before .before .pre .3)) ((c .before .before .before .before .before .before .before .pre .4)), (c .before .before .gather-resources .ensures .tidy), h .0, h .1)
 
 -- src/lib.rt:128:1
 returns : tie.Need-returns
-returns c = let h = last-room _ _ (c .before .before .before .before .before .before .before .before .args .a) _ ((c .before .before .before .before .before .before .before .before .pre .0 .by-owner .short)) ((c .before .before .before .before .before .before .before .before .pre .1)) ((c .before .before .before .before .before .before .before .before .pre .2)) (c .before .before .before .gather-resources .ensures) in let z = whole _ (accepted _ ((c .before .before .before .before .before .before .before .before .pre .0 .accepted))) _ ((c .before .before .before .before .before .before .before .before .pre .1)) ((c .before .before .before .before .before .before .before .before .pre .2)) _ _ (c .before .before .before .before .before .before .before .mark-resources .ensures) (c .before .before .before .gather-resources .ensures) (h .1) (c .add-calendar .ensures) in (z .0, (z .1, (z .2, z .3)))
+returns c = let h = last-room _ _ (c .before .before .before .before .before .before .before .before .args .a) _ ((c .before .before .before .before .before .before .before .before .pre .0 .by-owner .short)) ((c .before .before .before .before .before .before .before .before .pre .1)) ((c .before .before .before .before .before .before .before .before .pre .2)) (c .before .before .before .gather-resources .ensures) in whole _ (accepted _ ((c .before .before .before .before .before .before .before .before .pre .0 .accepted))) _ ((c .before .before .before .before .before .before .before .before .pre .1)) ((c .before .before .before .before .before .before .before .before .pre .2)) _ (c .before .before .before .before .before .before .before .mark-resources .ensures) (c .before .before .before .gather-resources .ensures) (h .1) (c .add-calendar .ensures)
 
 pub lay-calendars-spec : {M : Type 1} → statement M
 lay-calendars-spec =
