@@ -15,7 +15,8 @@ ghost use Rattle.calendar.specs.WorkEnd.{endFrom, jointWorkEnd};
 ghost use Rattle.calendar.specs.Layout.{windowsIn, windowAt, windowOf, windowsOf, listsOf, calendarOf, calendarsOf, answerOf};
 ghost use Rattle.calendar.specs.Scan.{standing, standingAt, standingOver, allows, nearer, withWindow, lookAt, withCalendar, jointLook};
 
-struct TimeWindow {
+// A window; `closed` is 0 where it is open, 1 where it is a closure.
+pub struct TimeWindow {
     pub closed: u64,
     pub start: u64,
     pub end: u64,
@@ -109,7 +110,7 @@ fn standing_over(x: TimeWindow, a: u64, e: u64) -> u64
 }
 
 // Whether the greatest of the windows' standings leaves it working time.
-fn is_allowed(most: u64) -> bool
+pub fn is_allowed(most: u64) -> bool
     ensures { λ r. ⌜ r ≡ allows most ⌝ }
 {
     if most == 0 {
@@ -124,6 +125,13 @@ fn greater(a: u64, b: u64) -> u64
     if a <= b { b } else { a }
 }
 
+// The greatest standing over [a, e) of some windows and of one more.
+pub fn more_standing(most: u64, x: TimeWindow, a: u64, e: u64) -> u64
+    ensures { λ r. ⌜ r ≡ max most (standingOver a e x) ⌝ }
+{
+    greater(most, standing_over(x, a, e))
+}
+
 // Whether [a, e) fits the calendar whole.
 pub fn interval_fits(w: &[u64], from: usize, to: usize, a: u64, e: u64) -> bool
     ensures { λ r. ⌜ r ≡ intervalFits clock (calendarOf (now (w .entry)) from to) (pos a) (pos e) ⌝ }
@@ -132,7 +140,7 @@ pub fn interval_fits(w: &[u64], from: usize, to: usize, a: u64, e: u64) -> bool
     let mut most = 0;
     let mut i = from;
     while i < n {
-        most = greater(most, standing_over(window_at(w, i), a, e));
+        most = more_standing(most, window_at(w, i), a, e);
         i += 1;
     }
     is_allowed(most)

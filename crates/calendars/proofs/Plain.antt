@@ -39,10 +39,9 @@ module _ (rows : List ℤ) (k : ℕ) where
       → s′ ≡ emit s (given (not b) (violation 6 kind e severity)) → s′ ≡ emit s (given (not (fitting x (num rows o 1))) (violation 6 kind (num rows k 1) severity))
   outside-here x o kind severity s f e q = q ∙ ap (emit s) (ap₂ (λ y z. given (not y) (violation 6 kind z severity)) f e)
 
-  -- the windows as they were gathered
-  pub fits-told : {d c : Calendar ℤ} {b : Bool} {a e : ℕ} → d ≡ c → a ≡ num rows k 4 → e ≡ num rows k 5
-      → b ≡ intervalFits clock d (pos a) (pos e) → b ≡ intervalFits clock c (pos (num rows k 4)) (pos (num rows k 5))
-  fits-told h p q r = rw (h, p, q) at r
+  pub fits-told : (c : Calendar ℤ) {b : Bool} {a e : ℕ} → a ≡ num rows k 4 → e ≡ num rows k 5
+      → b ≡ intervalFits clock c (pos a) (pos e) → b ≡ intervalFits clock c (pos (num rows k 4)) (pos (num rows k 5))
+  fits-told c p q r = rw (p, q) at r
 
   activity-at : (a : ℕ) → a ≡ ownPlace rows k → is rows k 0 23 ≡ true → a ≡ orEnd rows (placeOf rows 2 (num rows k 1))
   activity-at a e h = e ∙ own-activity rows 23 k (unfold ownerKind in refl) h

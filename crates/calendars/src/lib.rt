@@ -48,11 +48,9 @@ fn fits_windows(rows: &[i64], owned: &[u16; 8810], o: usize, x: usize, k: usize)
     requires { ⌜ Owned (now rows) (now owned) × (o ≤ rowCount (now rows)) × Holder (now rows) o x ⌝ }
     ensures { λ r. ⌜ r ≡ intervalFits clock (windows (sheet (now (rows .entry))) x (num (now (rows .entry)) o 1)) (pos (num (now (rows .entry)) k 4)) (pos (num (now (rows .entry)) k 5)) ⌝ }
 {
-    let mut w = [0u64; 2400];
-    let to = windows::gather_windows(rows, owned, o, x, &mut w, 0);
     let start = rows::num_at(rows, k, 4);
     let end = rows::num_at(rows, k, 5);
-    calendar::interval_fits(&w, 0, to, start, end)
+    windows::interval_fits(rows, owned, o, x, start, end)
 }
 
 fn check_resource(

@@ -191,7 +191,7 @@ module _ (rows : List ℤ) (o x : ℕ) where
         go true h = rw (kind-is rows k 15 h) (pick (eqb (num rows k 1) id) (record { closed = num rows k 2; start = pos (num rows k 3); end = pos (num rows k 4) }))
         go false h = rw h
 
-  windows-are : Holder rows o x → collect windowBy (rowCount rows) ≡ windows (sheet rows) x (num rows o 1)
+  pub windows-are : Holder rows o x → collect windowBy (rowCount rows) ≡ windows (sheet rows) x (num rows o 1)
   unfolding windows windowBy
   windows-are h =
       ⊎-elim

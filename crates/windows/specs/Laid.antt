@@ -6,6 +6,7 @@ use mathlib.Core.Logic.{_⊎_}
 use mathlib.Core.Option.{some}
 use lib.IntN.{ℤ}
 use lib.ListN.{length}
+use Rattle.calendar.specs.declared.TimeWindow.{TimeWindow}
 use Rattle.calendar.specs.Calendar.{Calendar}
 use Rattle.calendar.specs.Layout.{calendarOf}
 use Rattle.rows.specs.Cells.{num}
@@ -14,6 +15,10 @@ use Rattle.sheet.specs.Places.{placeOf}
 -- row o is an activity and x the kind of its windows, or it is a resource and x the kind of its windows
 abbrev pub Holder : List ℤ → ℕ → ℕ → Type 0
 Holder rows o x = ((x ≡ 16) × (placeOf rows 2 (num rows o 1) ≡ some o)) ⊎ ((x ≡ 15) × (placeOf rows 11 (num rows o 1) ≡ some o))
+
+-- the window of row k
+abbrev pub windowHere : List ℤ → ℕ → TimeWindow
+windowHere rows k = record { closed = num rows k 2; start = num rows k 3; end = num rows k 4 }
 
 -- after w the numbers w′ have the calendar c at the places from `at` up to `to`; what stood before them is as it was
 pub record Laid (w w′ : List ℕ) (at to : ℕ) (c : Calendar ℤ) : Type 0 where

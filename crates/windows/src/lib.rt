@@ -1,14 +1,18 @@
-// The windows of a resource or of an activity, laid out for the calendar functions.
+// The windows of a resource or of an activity: whether they hold an interval, and laid out for the calendar functions.
 ghost use mathlib.Core.Path.{_≡_};
 ghost use Prim.Native.Nat.{ℕ, _+_, _<_, _≤_};
+ghost use lib.IntN.{pos};
 ghost use lib.ListN.{length};
+ghost use Rattle.calendar.specs.Clock.{clock};
+ghost use Rattle.calendar.specs.Calendar.{intervalFits};
 ghost use Rattle.loops.specs.Search.{countBelow};
 ghost use Rattle.triples.specs.Triples.{setTriple};
 ghost use Rattle.rows.specs.Cells.{rowCount, num};
 ghost use Rattle.sheet.specs.Index.{Owned, ownedBy};
 ghost use Rattle.model.specs.Sheet.{sheet};
 ghost use Rattle.model.specs.Resource.{windows};
-ghost use Rattle.windows.specs.Laid.{Holder, Laid};
+ghost use Rattle.windows.specs.Laid.{Holder, windowHere, Laid};
+use calendar::TimeWindow;
 
 // The window of row k at place i.
 fn add_window(rows: &[i64], k: usize, w: &mut [u64; 2400], i: usize)
@@ -44,4 +48,33 @@ pub fn gather_windows(
         k = sheet::next_owned(rows, owned, o, x, k);
     }
     to
+}
+
+// The window of row k.
+fn window_of(rows: &[i64], k: usize) -> TimeWindow
+    ensures { λ r. ⌜ r ≡ windowHere (now (rows .entry)) k ⌝ }
+{
+    let closed = rows::num_at(rows, k, 2);
+    let start = rows::num_at(rows, k, 3);
+    let end = rows::num_at(rows, k, 4);
+    TimeWindow {
+        closed: closed,
+        start: start,
+        end: end,
+    }
+}
+
+// Whether [a, e) fits the windows of kind x of row o whole.
+pub fn interval_fits(rows: &[i64], owned: &[u16; 8810], o: usize, x: usize, a: u64, e: u64) -> bool
+    requires { ⌜ Owned (now rows) (now owned) × (o ≤ rowCount (now rows)) × Holder (now rows) o x ⌝ }
+    ensures { λ r. ⌜ r ≡ intervalFits clock (windows (sheet (now (rows .entry))) x (num (now (rows .entry)) o 1)) (pos a) (pos e) ⌝ }
+{
+    let n = rows::row_count(rows);
+    let mut most = 0;
+    let mut k = sheet::first_owned(rows, owned, o, x);
+    while k < n {
+        most = calendar::more_standing(most, window_of(rows, k), a, e);
+        k = sheet::next_owned(rows, owned, o, x, k);
+    }
+    calendar::is_allowed(most)
 }
