@@ -1,0 +1,167 @@
+// `check_schedule` of scheduler/feasibility.rs: refusals 1 to 7, the nine checks in call order, and what is written to the lent buffer.
+ghost use Prim.Native.Nat.{_*_, _≤_};
+ghost use mathlib.Core.Path.{_≡_};
+ghost use mathlib.Core.List.{_++_};
+ghost use mathlib.Core.Option.{none};
+ghost use lib.ListN.{length, take, drop};
+ghost use Rattle.calendar.specs.Clock.{clock};
+ghost use Rattle.findings.specs.Sink.{sink, emit};
+ghost use Rattle.model.specs.Sheet.{sheet};
+ghost use Rattle.model.specs.Indexed.{Indexed};
+ghost use Rattle.pieces.specs.Held.{Held};
+ghost use Rattle.times.specs.Times.{Needs};
+ghost use Rattle.checks.specs.CheckCalendars.{checkCalendars};
+ghost use Rattle.checks.specs.CheckPrecedence.{checkPrecedence};
+ghost use Rattle.checks.specs.CheckSchedule.{beforeCapacity, afterCapacity, findings};
+ghost use Rattle.shift.specs.Call.{Checked};
+ghost use Rattle.feasibility.specs.Table.{orFull, sheetRefusal, answered};
+use sheet::Verdict;
+
+// Accepted with the count of the findings, or refused with number and place.
+pub enum Answer {
+    Accepted(usize),
+    Refused(u64, usize),
+}
+
+// Checks 1 to 4.
+fn check_before(
+    rows: &[i64],
+    kinds: &[u16; 832],
+    links: &[u16; 1600],
+    owned: &[u16; 8810],
+    held: &[u8; 800],
+    need: &[u64; 800],
+    out: &mut [i64],
+    n: usize,
+) -> usize
+    requires { ⌜ Indexed (now rows) (now kinds) (now links) (now owned) × Held (now rows) (now held) × Needs (now rows) (now need) ⌝ }
+    ensures { λ r. ⌜ sink (now (out .exit)) r ≡ emit (sink (now (out .entry)) n) (beforeCapacity clock (sheet (now (rows .entry)))) ⌝ }
+{
+    let a = assignments::check_assignments(rows, kinds, links, owned, held, need, out, n);
+    let b = time_only::check_time_only(rows, kinds, links, owned, out, a);
+    let c = parts::check_parts(rows, kinds, links, owned, out, b);
+    requirements::check_requirements(rows, kinds, links, owned, held, out, c)
+}
+
+// STAND-IN
+fn check_calendars(rows: &[i64], kinds: &[u16; 832], links: &[u16; 1600], owned: &[u16; 8810], need: &[u64; 800], out: &mut [i64], n: usize) -> usize
+    requires { ⌜ Indexed (now rows) (now kinds) (now links) (now owned) × Needs (now rows) (now need) ⌝ }
+    ensures { λ r. ⌜ sink (now (out .exit)) r ≡ emit (sink (now (out .entry)) n) (checkCalendars clock (sheet (now (rows .entry)))) ⌝ }
+{
+    n
+}
+
+// STAND-IN
+fn check_precedence(rows: &[i64], kinds: &[u16; 832], links: &[u16; 1600], owned: &[u16; 8810], out: &mut [i64], n: usize) -> usize
+    requires { ⌜ Indexed (now rows) (now kinds) (now links) (now owned) ⌝ }
+    ensures { λ r. ⌜ sink (now (out .exit)) r ≡ emit (sink (now (out .entry)) n) (checkPrecedence clock (sheet (now (rows .entry)))) ⌝ }
+{
+    n
+}
+
+// Checks 6 to 9.
+fn check_after(
+    rows: &[i64],
+    kinds: &[u16; 832],
+    links: &[u16; 1600],
+    owned: &[u16; 8810],
+    need: &[u64; 800],
+    out: &mut [i64],
+    n: usize,
+) -> usize
+    requires { ⌜ Indexed (now rows) (now kinds) (now links) (now owned) × Needs (now rows) (now need) ⌝ }
+    ensures { λ r. ⌜ sink (now (out .exit)) r ≡ emit (sink (now (out .entry)) n) (afterCapacity clock (sheet (now (rows .entry)))) ⌝ }
+{
+    let a = check_calendars(rows, kinds, links, owned, need, out, n);
+    let b = check_precedence(rows, kinds, links, owned, out, a);
+    let c = deadlines::check_deadlines(rows, kinds, out, b);
+    constraints::check_constraints(rows, kinds, out, c)
+}
+
+// The nine checks.
+fn check_all(
+    rows: &[i64],
+    kinds: &[u16; 832],
+    links: &[u16; 1600],
+    owned: &[u16; 8810],
+    held: &[u8; 800],
+    need: &[u64; 800],
+    out: &mut [i64],
+) -> usize
+    requires { ⌜ Indexed (now rows) (now kinds) (now links) (now owned) × Held (now rows) (now held) × Needs (now rows) (now need) ⌝ }
+    ensures { λ r. ⌜ sink (now (out .exit)) r ≡ emit (sink (now (out .entry)) 0) (findings (now (rows .entry))) ⌝ }
+{
+    let a = check_before(rows, kinds, links, owned, held, need, out, 0);
+    let b = capacity::check_capacity(rows, kinds, links, owned, out, a);
+    check_after(rows, kinds, links, owned, need, out, b)
+}
+
+// The first k findings of `from` over those of out; what lies after them is unchanged.
+fn copy_findings(from: &[i64], out: &mut [i64], k: usize)
+    requires { ⌜ (4 * k ≤ length (now from)) × (4 * k ≤ length (now out)) ⌝ }
+    ensures { λ _. ⌜ now (out .exit) ≡ take (4 * k) (now (from .entry)) ++ drop (4 * k) (now (out .entry)) ⌝ }
+{
+    let end = 4 * k;
+    let mut i = 0;
+    while i < end {
+        let x = from[i];
+        out[i] = x;
+        i += 1;
+    }
+}
+
+// The findings of an accepted sheet, where the buffer holds them. The checks run once, into a buffer of their own, so that nothing is written before
+// the count is known; findings that it doesn't hold are written by running the checks again.
+fn write_findings(
+    rows: &[i64],
+    kinds: &[u16; 832],
+    links: &[u16; 1600],
+    owned: &[u16; 8810],
+    held: &[u8; 800],
+    need: &[u64; 800],
+    out: &mut [i64],
+) -> Answer
+    requires { ⌜ Indexed (now rows) (now kinds) (now links) (now owned) × Held (now rows) (now held) × Needs (now rows) (now need) × (sheetRefusal (now rows) ≡ none) ⌝ }
+    ensures { λ r. ⌜ Checked (orFull sheetRefusal) (now (rows .entry)) (now (out .entry)) (answered r) (now (out .exit)) ⌝ }
+{
+    let mut first = [0i64; 4096];
+    let count = check_all(rows, kinds, links, owned, held, need, &mut first);
+    if count > out.len() / 4 {
+        return Answer::Refused(7, 0);
+    }
+    if count <= 1024 {
+        copy_findings(&first, out, count);
+        return Answer::Accepted(count);
+    }
+    let n = check_all(rows, kinds, links, owned, held, need, out);
+    Answer::Accepted(n)
+}
+
+// Refusal 6, then the findings.
+fn check_times(rows: &[i64], kinds: &[u16; 832], links: &[u16; 1600], owned: &[u16; 8810], out: &mut [i64]) -> Answer
+    requires { ⌜ Indexed (now rows) (now kinds) (now links) (now owned) ⌝ }
+    ensures { λ r. ⌜ Checked (orFull sheetRefusal) (now (rows .entry)) (now (out .entry)) (answered r) (now (out .exit)) ⌝ }
+{
+    let held = pieces::held_of(rows, links, owned);
+    let need = times::needs_of(rows, links, owned, &held);
+    let verdict = times::refused(rows, &need);
+    match verdict {
+        Verdict::Fine => write_findings(rows, kinds, links, owned, &held, &need, out),
+        Verdict::Refused(number, place) => Answer::Refused(number, place),
+    }
+}
+
+// Checks a sheet: any rows, any buffer.
+pub fn check_schedule(rows: &[i64], out: &mut [i64]) -> Answer
+    ensures { λ r. ⌜ Checked (orFull sheetRefusal) (now (rows .entry)) (now (out .entry)) (answered r) (now (out .exit)) ⌝ }
+{
+    let index = refusals::index(rows);
+    let verdict = index.verdict;
+    let kinds = index.kinds;
+    let links = index.links;
+    let owned = index.owned;
+    match verdict {
+        Verdict::Fine => check_times(rows, &kinds, &links, &owned, out),
+        Verdict::Refused(number, place) => Answer::Refused(number, place),
+    }
+}
