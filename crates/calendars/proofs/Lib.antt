@@ -1,3 +1,3 @@
-pub mod Joint
-pub mod Once
 pub mod Plain
+pub mod Resumable
+pub mod Booking

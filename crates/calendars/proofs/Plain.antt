@@ -54,7 +54,7 @@ module _ (rows : List ℤ) (k : ℕ) where
       go none q = let w : a ≡ rowCount rows = activity-at a e h ∙ ap (orEnd rows) q ∙ (unfold orEnd in refl) in absurd (omega arith)
       go (some j) q = let w : a ≡ j = activity-at a e h ∙ ap (orEnd rows) q ∙ (unfold orEnd in refl) in q ∙ ap some (sym w)
 
-  unknown : {a N : ℕ} → a ≡ ownPlace rows k → is rows k 0 23 ≡ true → N ≤ a → N ≡ rowCount rows → placeOf rows 2 (num rows k 1) ≡ none
+  pub unknown : {a N : ℕ} → a ≡ ownPlace rows k → is rows k 0 23 ≡ true → N ≤ a → N ≡ rowCount rows → placeOf rows 2 (num rows k 1) ≡ none
   unknown {a} {N} e h l z = go (placeOf rows 2 (num rows k 1)) refl
     where
       go : (x : Option ℕ) → placeOf rows 2 (num rows k 1) ≡ x → placeOf rows 2 (num rows k 1) ≡ none

@@ -1,23 +1,31 @@
-// Check 6, `check_calendars` of scheduler/feasibility.rs: a booking that may not pause is held whole by a window of its resource and of its activity.
+// Check 6, `check_calendars` of scheduler/feasibility.rs: a booking that may not pause is held whole by a window of its resource and of its activity;
+// resumable work starts in the joint working time of its piece, and that time within its span covers it.
 ghost use mathlib.Core.Path.{_≡_};
-ghost use Prim.Native.Nat.{ℕ, _<_, _≤_};
-ghost use mathlib.Core.Bool.{Bool, true, not};
+ghost use Prim.Native.Nat.{ℕ, _+_, _<_, _≤_};
+ghost use mathlib.Core.Bool.{Bool, true, not, _&&_, _||_};
 ghost use mathlib.Core.Option.{Option, some};
+ghost use lib.Dec.{ltb};
 ghost use lib.IntN.{pos};
+ghost use lib.ListN.{getD};
 ghost use Rattle.loops.specs.Lists.{given};
 ghost use Rattle.rows.specs.Cells.{rowCount, num, is};
 ghost use Rattle.sheet.specs.Places.{placeOf};
 ghost use Rattle.sheet.specs.Index.{Owned, ownPlace};
+ghost use Rattle.sheet.specs.Accepted.{Accepted};
 ghost use Rattle.calendar.specs.Clock.{clock};
-ghost use Rattle.calendar.specs.Calendar.{intervalFits};
+ghost use Rattle.calendar.specs.Calendar.{intervalFits, jointWorking};
+ghost use Rattle.calendar.specs.Amount.{jointAvailableMs};
+ghost use Rattle.calendar.specs.Layout as layout;
 ghost use Rattle.findings.specs.Sink.{sink, emit};
 ghost use Rattle.model.specs.Sheet.{sheet};
 ghost use Rattle.model.specs.Resource.{windows};
 ghost use Rattle.model.specs.Activity.{findActivity};
 ghost use Rattle.model.specs.Schedule.{violation};
-ghost use Rattle.model.specs.Records.{assignmentOf};
-ghost use Rattle.checks.specs.CheckCalendars.{checkPlain};
+ghost use Rattle.model.specs.Records.{activityOf, assignmentOf};
+ghost use Rattle.model.specs.Indexed.{Indexed};
+ghost use Rattle.checks.specs.CheckCalendars.{calendarsOf, checkResumable, checkPlain, checkBooking, checkCalendars};
 ghost use Rattle.windows.specs.Laid.{Holder};
+ghost use Rattle.times.specs.Times.{Needs};
 use findings::Violation;
 
 fn tell(out: &mut [i64], n: usize, yes: bool, kind: u8, entity: u64, severity: u8) -> usize
@@ -78,7 +86,7 @@ fn check_activity(
 }
 
 // Booking k, that may not pause, on the resource of row o; its activity is of row a, if that is in the sheet.
-pub fn check_plain(
+fn check_plain(
     rows: &[i64],
     owned: &[u16; 8810],
     a: usize,
@@ -93,6 +101,127 @@ pub fn check_plain(
     let m = check_resource(rows, owned, o, k, out, n);
     if a < rows::row_count(rows) {
         return check_activity(rows, owned, a, k, out, m);
+    }
+    m
+}
+
+// ---- resumable bookings
+
+// What booking k needs: its own setup, and the derived rest of its work.
+fn needed_ms(rows: &[i64], need: &[u64; 800], k: usize) -> u64
+    requires { ⌜ Accepted (now rows) × Needs (now rows) (now need) × (k < rowCount (now rows)) × (is (now rows) k 0 23 ≡ true) ⌝ }
+    ensures { λ r. ⌜ r ≡ num (now (rows .entry)) k 6 + getD (now (need .entry)) k 0 ⌝ }
+{
+    rows::num_at(rows, k, 6) + need[k]
+}
+
+// Whether so much work does not fit the joint working time of the calendars in [start, end), or starts outside it.
+fn is_uncovered(cs: &[usize], w: &[u64], start: u64, end: u64, needed: u64) -> bool
+    ensures { λ r. ⌜ r ≡ (not (jointWorking clock (layout.calendarsOf (now (w .entry)) (now (cs .entry))) (pos start)) || ltb (jointAvailableMs clock (layout.calendarsOf (now (w .entry)) (now (cs .entry))) (pos start) (pos end)) needed) ⌝ }
+{
+    if calendar::joint_working(cs, w, start) {
+        return calendar::joint_available_ms(cs, w, start, end) < needed;
+    }
+    true
+}
+
+// Whether booking k, of the activity of row a, is not covered by the working time of its piece.
+fn lacks_time(
+    rows: &[i64],
+    kinds: &[u16; 832],
+    links: &[u16; 1600],
+    owned: &[u16; 8810],
+    need: &[u64; 800],
+    a: usize,
+    k: usize,
+) -> bool
+    requires { ⌜ Indexed (now rows) (now kinds) (now links) (now owned) × Needs (now rows) (now need) × (k < rowCount (now rows)) × (is (now rows) k 0 23 ≡ true) × (a ≡ ownPlace (now rows) k) × (a < rowCount (now rows)) ⌝ }
+    ensures { λ r. ⌜ r ≡ (not (jointWorking clock (calendarsOf clock (sheet (now (rows .entry))) (assignmentOf (now (rows .entry)) k) (activityOf (now (rows .entry)) a)) (pos (num (now (rows .entry)) k 4))) || ltb (jointAvailableMs clock (calendarsOf clock (sheet (now (rows .entry))) (assignmentOf (now (rows .entry)) k) (activityOf (now (rows .entry)) a)) (pos (num (now (rows .entry)) k 4)) (pos (num (now (rows .entry)) k 5))) (num (now (rows .entry)) k 6 + getD (now (need .entry)) k 0)) ⌝ }
+{
+    let mut w = [0u64; 2400];
+    let mut cs = [0usize; 1600];
+    let c = piece_calendars::lay_calendars(rows, kinds, links, owned, a, k, &mut w, &mut cs);
+    let start = rows::num_at(rows, k, 4);
+    let end = rows::num_at(rows, k, 5);
+    let needed = needed_ms(rows, need, k);
+    is_uncovered(&cs[..2 * c], &w, start, end, needed)
+}
+
+// Booking k, that may pause, of the activity of row a.
+fn check_resumable(
+    rows: &[i64],
+    kinds: &[u16; 832],
+    links: &[u16; 1600],
+    owned: &[u16; 8810],
+    need: &[u64; 800],
+    a: usize,
+    k: usize,
+    out: &mut [i64],
+    n: usize,
+) -> usize
+    requires { ⌜ Indexed (now rows) (now kinds) (now links) (now owned) × Needs (now rows) (now need) × (k < rowCount (now rows)) × (is (now rows) k 0 23 ≡ true) × (a ≡ ownPlace (now rows) k) × (a < rowCount (now rows)) ⌝ }
+    ensures { λ r. ⌜ sink (now (out .exit)) r ≡ emit (sink (now (out .entry)) n) (checkResumable clock (sheet (now (rows .entry))) (assignmentOf (now (rows .entry)) k) (activityOf (now (rows .entry)) a)) ⌝ }
+{
+    let bad = lacks_time(rows, kinds, links, owned, need, a, k);
+    tell(out, n, bad, 4, rows::id_at(rows, k, 3), 85)
+}
+
+// ---- the check
+
+// Whether the activity of row a, if that is in the sheet, is resumable.
+fn is_resumable(rows: &[i64], a: usize) -> bool
+    ensures { λ r. ⌜ r ≡ (ltb a (rowCount (now (rows .entry))) && is (now (rows .entry)) a 7 1) ⌝ }
+{
+    if a < rows::row_count(rows) {
+        return rows::is_at(rows, a, 7, 1);
+    }
+    false
+}
+
+// Booking k, if its resource is in the sheet.
+fn check_booking(
+    rows: &[i64],
+    kinds: &[u16; 832],
+    links: &[u16; 1600],
+    owned: &[u16; 8810],
+    need: &[u64; 800],
+    k: usize,
+    out: &mut [i64],
+    n: usize,
+) -> usize
+    requires { ⌜ Indexed (now rows) (now kinds) (now links) (now owned) × Needs (now rows) (now need) × (k < rowCount (now rows)) × (is (now rows) k 0 23 ≡ true) ⌝ }
+    ensures { λ r. ⌜ sink (now (out .exit)) r ≡ emit (sink (now (out .entry)) n) (checkBooking clock (sheet (now (rows .entry))) (assignmentOf (now (rows .entry)) k)) ⌝ }
+{
+    let count = rows::row_count(rows);
+    let o = sheet::resource_of(rows, links, k);
+    if count <= o {
+        return n;
+    }
+    let a = sheet::owner_of(rows, links, k);
+    if is_resumable(rows, a) {
+        return check_resumable(rows, kinds, links, owned, need, a, k, out, n);
+    }
+    check_plain(rows, owned, a, o, k, out, n)
+}
+
+pub fn check_calendars(
+    rows: &[i64],
+    kinds: &[u16; 832],
+    links: &[u16; 1600],
+    owned: &[u16; 8810],
+    need: &[u64; 800],
+    out: &mut [i64],
+    n: usize,
+) -> usize
+    requires { ⌜ Indexed (now rows) (now kinds) (now links) (now owned) × Needs (now rows) (now need) ⌝ }
+    ensures { λ r. ⌜ sink (now (out .exit)) r ≡ emit (sink (now (out .entry)) n) (checkCalendars clock (sheet (now (rows .entry)))) ⌝ }
+{
+    let count = rows::row_count(rows);
+    let mut m = n;
+    let mut k = sheet::first_of(rows, kinds, 23);
+    while k < count {
+        m = check_booking(rows, kinds, links, owned, need, k, out, m);
+        k = sheet::next_of(rows, kinds, 23, k);
     }
     m
 }

@@ -1,3 +1,4 @@
+pub mod Arms
 pub mod ChainLaws
 pub mod ListLaws
 pub mod PartLaws

@@ -181,16 +181,33 @@ fn first_owner_fault(rows: &[i64], links: &[u16; 1600]) -> Verdict
 // ---- 5
 
 // The rows of the kinds of one number repeat one another; 0: they may.
-const GROUPS: [u64; 15] = [0, 1, 2, 3, 4, 0, 0, 0, 0, 9, 9, 11, 0, 0, 14];
+fn group_of(kind: u64) -> u64
+    ensures { λ r. ⌜ r ≡ group kind ⌝ }
+{
+    match kind {
+        0 => 0,
+        1 => 1,
+        2 => 2,
+        3 => 3,
+        4 => 4,
+        5 => 0,
+        6 => 0,
+        7 => 0,
+        8 => 0,
+        9 => 9,
+        10 => 9,
+        11 => 11,
+        12 => 0,
+        13 => 0,
+        14 => 14,
+        _ => 0,
+    }
+}
 
 fn group_at(rows: &[i64], k: usize) -> u64
     ensures { λ r. ⌜ r ≡ group (num (now (rows .entry)) k 0) ⌝ }
 {
-    let kind = rows::num_at(rows, k, 0);
-    if kind < 15 {
-        return GROUPS[kind as usize];
-    }
-    0
+    group_of(rows::num_at(rows, k, 0))
 }
 
 // An earlier row than k is of kind x with that id.

@@ -15,7 +15,7 @@ use mir.Syntax.{w64}
 use mir.Val.{SFits, toZ, ofZ}
 use mir.Facts.{toZ-ofZ}
 use Rattle.rows.specs.Class.{Class, blank-c, kind-c, id-c, n-c, u-c, t-c, m-c, g-c, f-c, share-c, speed-c, n?-c, t?-c, m?-c, task-c, activity-c, resource-c, requirement-c, constraint-c, classes, classAt, codeOf}
-use Rattle.rows.specs.Table.{columns, classOf, width}
+use Rattle.rows.specs.Table.{columns, columnCodes, classOf, width}
 use Rattle.rows.specs.Ranges.{within, low, high, inRange}
 
 module _ {A B : Type 0} (f : A → B) (blank : A) where
@@ -34,30 +34,12 @@ module _ {A B : Type 0} (f : A → B) (blank : A) where
   filled-at (x ∷ l) m zero = refl
   filled-at (x ∷ l) m (suc j) = filled-at l m j
 
--- a row in the code's numbers, filled up to n places
-abbrev pub filled : {A B : Type 0} → (A → B) → A → ℕ → List A → List B
-filled f blank n l = map f l ++ replicate (n - length l) (f blank)
-
-pub entry : {A B : Type 0} (f : A → B) (blank : A) (n : ℕ) (t : List (List A)) (k j : ℕ)
-    → getD (getD (map (filled f blank n) t) k []) j (f blank) ≡ f (getD (getD t k []) j blank)
-entry f blank n [] k j = refl
-entry f blank n (l ∷ t) zero j = filled-at f blank l (n - length l) j
-entry f blank n (l ∷ t) (suc k) j = entry f blank n t k j
-
 suc-sub-one : (c : ℕ) → suc c - 1 ≡ c
 suc-sub-one c = omega arith
 
--- the code's class table, computed from 01's
-abbrev pub classTable : List (List ℕ)
-classTable = map (filled codeOf blank-c 9) columns
-
-pub class-at : (kind c : ℕ) → (c ≡ 0 → ⊥) → getD (getD classTable kind []) (c - 1) 0 ≡ codeOf (classOf kind c)
+pub class-at : (kind c : ℕ) → (c ≡ 0 → ⊥) → getD (columnCodes kind) (c - 1) 0 ≡ codeOf (classOf kind c)
 class-at kind zero h = absurd (h refl)
-class-at kind (suc c) h = rw (suc-sub-one c) (entry codeOf blank-c 9 columns kind c)
-
-pub class-past : (kind c : ℕ) → (c ≡ 0 → ⊥) → 25 ≤ kind → 0 ≡ codeOf (classOf kind c)
-class-past kind zero h k = absurd (h refl)
-class-past kind (suc c) h k = rw (List·getD-eq-default columns [] k)
+class-at kind (suc c) h = rw (suc-sub-one c) (filled-at codeOf blank-c (getD columns kind []) (9 - length (getD columns kind [])) c)
 
 -- a class's number stands for it
 pub code-class : (cl : Class) → classAt (codeOf cl) ≡ cl
@@ -109,16 +91,11 @@ low-fits n = sfits-of (ltb→lt _ _ (and-left (ltb (mag (low (classAt n))) (2 ^ 
 high-fits : (n : ℕ) → SFits w64 (high (classAt n))
 high-fits n = sfits-of (ltb→lt _ _ (and-right (ltb (mag (low (classAt n))) (2 ^ 63)) (ltb (mag (high (classAt n))) (2 ^ 63)) (all-at ends-fit classes blank-c tt tt n)))
 
--- what the test of a number against the code's two tables says
-pub ranged : (n : ℕ) (x : ℤ) {r : Bool} → SFits w64 x
-    → r ≡ within (toZ w64 (ofZ w64 (getD (map low classes) n (pos 0)))) (toZ w64 (ofZ w64 (getD (map high classes) n (pos 0)))) (toZ w64 (ofZ w64 x))
-    → r ≡ inRange (classAt n) x
+-- what the test of a number against a class's two ends says
+pub ranged : (n : ℕ) (x : ℤ) {a b : ℤ} {r : Bool} → SFits w64 x → a ≡ low (classAt n) → b ≡ high (classAt n)
+    → r ≡ within (toZ w64 (ofZ w64 a)) (toZ w64 (ofZ w64 b)) (toZ w64 (ofZ w64 x)) → r ≡ inRange (classAt n) x
 unfolding inRange
-ranged n x f e = rw (mapped low blank-c classes n, mapped high blank-c classes n, toZ-ofZ (low-fits n), toZ-ofZ (high-fits n), toZ-ofZ f) at e
-
-pub unranged : (n : ℕ) (x : ℤ) {r : Bool} → 19 ≤ n → SFits w64 x → r ≡ within (pos 0) (pos 0) (toZ w64 (ofZ w64 x)) → r ≡ inRange (classAt n) x
-unfolding inRange
-unranged n x h f e = rw (List·getD-eq-default classes blank-c h) (rw (toZ-ofZ f) at e)
+ranged n x f p q e = rw (p, q, toZ-ofZ (low-fits n), toZ-ofZ (high-fits n), toZ-ofZ f) at e
 
 -- ---- how many columns: no kind has a blank among its columns, and none has more than nine
 abbrev full : List Class → Bool

@@ -1,7 +1,7 @@
 -- The 24 kinds of rows and their columns. Assumes nothing.
-use Prim.Native.Nat.{ℕ, zero, suc}
-use mathlib.Core.List.{List, [], _∷_}
-use lib.ListN.{length, getD}
+use Prim.Native.Nat.{ℕ, zero, suc, _-_}
+use mathlib.Core.List.{List, [], _∷_, _++_, map}
+use lib.ListN.{length, getD, replicate}
 use Rattle.rows.specs.Class.{
   Class,
   blank-c,
@@ -23,6 +23,7 @@ use Rattle.rows.specs.Class.{
   resource-c,
   requirement-c,
   constraint-c,
+  codeOf,
 }
 
 -- the columns of the kinds 0 (there is none), 1, 2 .., from column 1 on
@@ -59,6 +60,10 @@ columns =
 abbrev pub classOf : ℕ → ℕ → Class
 classOf kind zero = kind-c
 classOf kind (suc c) = getD (getD columns kind []) c blank-c
+
+-- the nine columns after column 0 in the code's numbers
+abbrev pub columnCodes : ℕ → List ℕ
+columnCodes kind = map codeOf (getD columns kind []) ++ replicate (9 - length (getD columns kind [])) 0
 
 -- how many columns a kind has
 unfoldable pub width : ℕ → ℕ

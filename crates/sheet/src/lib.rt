@@ -188,42 +188,39 @@ fn constraint_at(rows: &[i64], numbers: &[u16; 800], m: u64) -> usize
 
 // ---- the row that a row belongs to
 
-// The kind of the row that a row of a kind belongs to, 0 for none; 17 stands for the constraints.
-const OWNER_KINDS: [u64; 25] = [
-    0,
-    0,
-    1,
-    2,
-    2,
-    2,
-    5,
-    5,
-    2,
-    2,
-    2,
-    0,
-    11,
-    11,
-    11,
-    11,
-    2,
-    0,
-    0,
-    0,
-    0,
-    0,
-    17,
-    2,
-    2,
-];
-
+// The kind of the row that a row of a kind belongs to, 0 for none; 17 stands for the constraints. A match, since a constant table is laid out
+// anew at each read.
 pub fn owner_kind(kind: u64) -> u64
     ensures { λ r. ⌜ r ≡ ownerKind kind ⌝ }
 {
-    if kind < 25 {
-        return OWNER_KINDS[kind as usize];
+    match kind {
+        0 => 0,
+        1 => 0,
+        2 => 1,
+        3 => 2,
+        4 => 2,
+        5 => 2,
+        6 => 5,
+        7 => 5,
+        8 => 2,
+        9 => 2,
+        10 => 2,
+        11 => 0,
+        12 => 11,
+        13 => 11,
+        14 => 11,
+        15 => 11,
+        16 => 2,
+        17 => 0,
+        18 => 0,
+        19 => 0,
+        20 => 0,
+        21 => 0,
+        22 => 17,
+        23 => 2,
+        24 => 2,
+        _ => 0,
     }
-    0
 }
 
 // A place as a number, the number of rows for none.

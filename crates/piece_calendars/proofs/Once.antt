@@ -26,9 +26,11 @@ use Rattle.model.specs.Resource.{windows}
 use Rattle.model.proofs.RowLaws.{kind-is, row-none, row-here}
 use Rattle.model.proofs.OwnedLaws.{own-resource}
 use Rattle.model.proofs.Accepting.{has-owner}
+use Rattle.model.proofs.Finds.{linked-some, found-self}
 use Rattle.pieces.specs.Bookings.{inPiece}
 use Rattle.pieces.proofs.Chains.{piece-kind}
-use Rattle.calendars.proofs.Joint.{restsAt}
+use Rattle.piece_calendars.specs.Taken.{takenBelow, taken}
+use Rattle.piece_calendars.proofs.Joint.{restsAt}
 
 -- ---- searches
 
@@ -55,6 +57,19 @@ both-ways false false f g = refl
 
 and-both : (a b : Bool) → a ≡ true → b ≡ true → (a && b) ≡ true
 and-both a b e f = rw (e, f)
+
+-- the row of a booking's resource, where it is in the sheet
+resource-place : (rows : List ℤ) (j r : ℕ) → is rows j 0 23 ≡ true → r < rowCount rows → resPlace rows j ≡ r → placeOf rows 11 (num rows j 3) ≡ some r
+resource-place rows j r g m e = linked-some rows 11 (num rows j 3) (sym e ∙ own-resource rows j g) m
+
+-- a resource that is taken is the one that its id finds
+pub taken-place : (rows : List ℤ) (k r : ℕ) → r < rowCount rows → taken rows k r ≡ true → placeOf rows 11 (num rows r 1) ≡ some r
+unfolding takenBelow
+taken-place rows k r m e =
+    let j = hit (λ i. inPiece rows k i && eqb (resPlace rows i) r) (rowCount rows) e in
+    let p = and-left (inPiece rows k (j .place)) _ (j .passes) in
+    let q = eqb-true _ _ (and-right (inPiece rows k (j .place)) _ (j .passes)) in
+    found-self rows 11 _ r (resource-place rows (j .place) r (piece-kind rows k (j .place) p) m q)
 
 -- ---- a resource that is not in the sheet has no windows
 
@@ -92,40 +107,26 @@ module _ (rows : List ℤ) (acc : Accepted rows) where
   windows-none id q = empty-collect (rowAt (sheet rows) 15 (windowIn id)) (rowCount rows) (λ k l. window-none id q k l (is rows k 0 15) refl)
 
   module _ (k : ℕ) (l : k < rowCount rows) (h : is rows k 0 23 ≡ true) (t : ℤ) where
-    -- a booking of booking k's piece is on the resource of row r
-    unfoldable pub taken : ℕ → Bool
-    taken r = anyBelow (λ j. inPiece rows k j && eqb (resPlace rows j) r) (rowCount rows)
-
-    -- and that is at rest
+    -- a resource that is taken is at rest
     unfoldable pub takenRests : ℕ → Bool
-    takenRests r = taken r && not (isWorkingTime clock (windows (sheet rows) 15 (num rows r 1)) t)
-
-    resource-place : (j r : ℕ) → is rows j 0 23 ≡ true → r < rowCount rows → resPlace rows j ≡ r → placeOf rows 11 (num rows j 3) ≡ some r
-    resource-place j r g m e = go (placeOf rows 11 (num rows j 3)) refl
-      where
-        is-end : (x : Option ℕ) → placeOf rows 11 (num rows j 3) ≡ x → r ≡ orEnd rows x
-        is-end x q = sym e ∙ own-resource rows j g ∙ ap (orEnd rows) q
-
-        go : (x : Option ℕ) → placeOf rows 11 (num rows j 3) ≡ x → placeOf rows 11 (num rows j 3) ≡ some r
-        go none q = let w : r ≡ rowCount rows = is-end none q ∙ (unfold orEnd in refl) in absurd (omega arith)
-        go (some i) q = let w : r ≡ i = is-end (some i) q ∙ (unfold orEnd in refl) in q ∙ ap some (sym w)
+    takenRests r = taken rows k r && not (isWorkingTime clock (windows (sheet rows) 15 (num rows r 1)) t)
 
     to-booking : anyBelow takenRests (rowCount rows) ≡ true → anyBelow (restsAt rows acc k l h t) (rowCount rows) ≡ true
-    unfolding takenRests taken restsAt
+    unfolding takenRests takenBelow restsAt
     to-booking e =
         let r = hit takenRests (rowCount rows) e in
-        let u = and-left (taken (r .place)) _ (r .passes) in
-        let v = and-right (taken (r .place)) _ (r .passes) in
+        let u = and-left (taken rows k (r .place)) _ (r .passes) in
+        let v = and-right (taken rows k (r .place)) _ (r .passes) in
         let j = hit (λ i. inPiece rows k i && eqb (resPlace rows i) (r .place)) (rowCount rows) u in
         let p = and-left (inPiece rows k (j .place)) _ (j .passes) in
         let q = eqb-true _ _ (and-right (inPiece rows k (j .place)) _ (j .passes)) in
-        let i = placed rows 11 _ _ (resource-place (j .place) (r .place) (piece-kind rows k (j .place) p) (r .below) q) .id-is in
+        let i = placed rows 11 _ _ (resource-place rows (j .place) (r .place) (piece-kind rows k (j .place) p) (r .below) q) .id-is in
         sym
         (any-hit (restsAt rows acc k l h t) (j .place) (rowCount rows) (rowCount rows) (j .below) refl
         (and-both (inPiece rows k (j .place)) _ p (rw i at v)))
 
     to-resource : anyBelow (restsAt rows acc k l h t) (rowCount rows) ≡ true → anyBelow takenRests (rowCount rows) ≡ true
-    unfolding takenRests taken restsAt
+    unfolding takenRests takenBelow restsAt
     to-resource e =
         let j = hit (restsAt rows acc k l h t) (rowCount rows) e in
         let p = and-left (inPiece rows k (j .place)) _ (j .passes) in
@@ -140,7 +141,7 @@ module _ (rows : List ℤ) (acc : Accepted rows) where
             let w : resPlace rows j ≡ r = own-resource rows j (piece-kind rows k j p) ∙ ap (orEnd rows) q ∙ (unfold orEnd in refl) in
             sym
             (any-hit takenRests r (rowCount rows) (rowCount rows) (d .within) refl
-            (and-both (taken r) _
+            (and-both (taken rows k r) _
             (sym
             (any-hit (λ i. inPiece rows k i && eqb (resPlace rows i) r) j (rowCount rows) (rowCount rows) m refl
             (and-both (inPiece rows k j) _ p (eq-eqb (resPlace rows j) r w))))

@@ -39,7 +39,7 @@ available-same cs ds h a e = counts-same (since clock cs a) (since clock ds a) (
 
 -- ---- all work if none does not
 
-all-any : {A : Type 0} (p : A → Bool) (l : List A) → allOf p l ≡ not (anyOf (λ x. not (p x)) l)
+pub all-any : {A : Type 0} (p : A → Bool) (l : List A) → allOf p l ≡ not (anyOf (λ x. not (p x)) l)
 unfolding allOf anyOf
 all-any p [] = refl
 all-any p (x ∷ l) = go (p x) (all-any p l)
@@ -48,11 +48,11 @@ all-any p (x ∷ l) = go (p x) (all-any p l)
     go true h = h
     go false h = refl
 
-and-true : (b : Bool) → (b && true) ≡ b
+pub and-true : (b : Bool) → (b && true) ≡ b
 and-true true = refl
 and-true false = refl
 
-or-false : (b : Bool) → (b || false) ≡ b
+pub or-false : (b : Bool) → (b || false) ≡ b
 or-false true = refl
 or-false false = refl
 

@@ -1,0 +1,52 @@
+-- Calendars laid out one behind the other: their windows in one list, and two places for each calendar, from and to. Assumes nothing.
+use Prim.Native.Nat.{ℕ, _+_, _*_, _<_, _≤_}
+use mathlib.Core.Path.{_≡_}
+use mathlib.Core.Bool.{Bool, _&&_}
+use mathlib.Core.List.{List, [], _∷_, _++_}
+use lib.Dec.{ltb}
+use lib.IntN.{ℤ}
+use lib.ListN.{length, getD}
+use Rattle.loops.specs.Lists.{given}
+use Rattle.loops.specs.Range.{collect}
+use Rattle.loops.specs.Search.{countBelow}
+use Rattle.calendar.specs.Calendar.{Calendar}
+use Rattle.calendar.specs.Layout.{calendarOf}
+use Rattle.rows.specs.Cells.{rowCount, num, is}
+use Rattle.sheet.specs.Places.{ofKind}
+use Rattle.sheet.specs.Index.{ownPlace}
+use Rattle.model.specs.Sheet.{sheet}
+use Rattle.model.specs.Resource.{windows}
+use Rattle.piece_calendars.specs.declared.Gathered.{Gathered}
+use Rattle.piece_calendars.specs.Taken.{marked}
+
+-- the first c calendars that are laid out
+unfoldable pub laidOut : List ℕ → List ℕ → ℕ → List (Calendar ℤ)
+laidOut w cs c = collect (λ j. calendarOf w (getD cs (2 * j) 0) (getD cs (2 * j + 1) 0) ∷ []) c
+
+-- the calendars end before the place where the next one begins
+pub record Tidy (w cs : List ℕ) (g : Gathered) : Type 0 where
+  pub places : length w ≡ 2400
+  pub pairs : length cs ≡ 1600
+  pub ends : (j : ℕ) → j < g .calendars → getD cs (2 * j + 1) 0 ≤ g .windows
+
+-- the calendar x, of m windows, is laid out behind the others
+pub record Added (x : Calendar ℤ) (m : ℕ) (w cs : List ℕ) (g : Gathered) (w′ cs′ : List ℕ) (g′ : Gathered) : Type 0 where
+  pub tidy : Tidy w′ cs′ g′
+  pub list : laidOut w′ cs′ (g′ .calendars) ≡ laidOut w cs (g .calendars) ++ (x ∷ [])
+  pub windows : g′ .windows ≡ g .windows + m
+  pub calendars : g′ .calendars ≡ g .calendars + 1
+
+-- the calendar of row r's resource, where it is marked
+unfoldable pub calendarAt : List ℤ → List ℕ → ℕ → List (Calendar ℤ)
+calendarAt rows marks r = given (marked marks r) (windows (sheet rows) 15 (num rows r 1))
+
+-- row j is a window of a resource above row i
+unfoldable pub windowAbove : List ℤ → ℕ → ℕ → Bool
+windowAbove rows i j = is rows j 0 15 && ltb (ownPlace rows j) i
+
+-- the calendars of the marked resources among the first i rows are laid out, and no others; there is place for the windows of the rest
+pub record Resources (rows : List ℤ) (marks : List ℕ) (i : ℕ) (w cs : List ℕ) (g : Gathered) : Type 0 where
+  pub tidy : Tidy w cs g
+  pub list : laidOut w cs (g .calendars) ≡ collect (calendarAt rows marks) i
+  pub windows : g .windows ≤ countBelow (windowAbove rows i) (rowCount rows)
+  pub calendars : g .calendars ≤ countBelow (ofKind rows 11) i

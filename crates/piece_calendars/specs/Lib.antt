@@ -1,0 +1,2 @@
+pub mod Taken
+pub mod Laying

@@ -1,0 +1,36 @@
+use mir.Syntax.{w64}
+use mir.Val.{SFits}
+use mir.Facts.{toZ-ofZ}
+use Rattle.steps.proofs.Told.{told}
+use borrow.Author.Needs.{needs}
+use Rattle.steps.proofs.report_end.Statement.{statement}
+use Rattle.steps.proofs.report_end.Tie as tie
+use Rattle.steps.proofs.report_end.Reads as reads
+use Rattle.steps.proofs.report_end.Lts as lts
+use Rattle.findings.proofs.report.Reads as report-reads
+use Rattle.rows.proofs.id_at.Reads as id-at-reads
+use Rattle.steps.proofs.ends_early.Reads as ends-early-reads
+
+-- src/lib.rt:84:9
+ends-early-requires : tie.Need-ends-early-requires
+ends-early-requires c κs = search needs
+
+-- src/lib.rt:88:17
+id-at-requires : tie.Need-id-at-requires
+id-at-requires c κs = search needs
+
+-- src/lib.rt:91:5
+report-requires : tie.Need-report-requires
+report-requires c κs = search needs
+
+-- src/lib.rt:70:1
+same-length : tie.Need-same-length
+same-length c = search needs
+
+-- src/lib.rt:70:1
+returns : tie.Need-returns
+returns c = let f : SFits w64 (c .before .before .before .before .before .args .earliest) = search needs in told _ (rw (toZ-ofZ f) at (c .before .before .before .before .ends-early .ensures)) (c .before .before .before .id-at .ensures .0) (c .before .report .ensures)
+
+pub report-end-spec : {M : Type 1} → statement M
+report-end-spec =
+    tie.close (tie.spec ends-early-requires id-at-requires report-requires same-length returns)
