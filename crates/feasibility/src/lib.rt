@@ -10,8 +10,6 @@ ghost use Rattle.model.specs.Sheet.{sheet};
 ghost use Rattle.model.specs.Indexed.{Indexed};
 ghost use Rattle.pieces.specs.Held.{Held};
 ghost use Rattle.times.specs.Times.{Needs};
-ghost use Rattle.checks.specs.CheckCalendars.{checkCalendars};
-ghost use Rattle.checks.specs.CheckPrecedence.{checkPrecedence};
 ghost use Rattle.checks.specs.CheckSchedule.{beforeCapacity, afterCapacity, findings};
 ghost use Rattle.shift.specs.Call.{Checked};
 ghost use Rattle.feasibility.specs.Table.{orFull, sheetRefusal, answered};
@@ -43,22 +41,6 @@ fn check_before(
     requirements::check_requirements(rows, kinds, links, owned, held, out, c)
 }
 
-// STAND-IN
-fn check_calendars(rows: &[i64], kinds: &[u16; 832], links: &[u16; 1600], owned: &[u16; 8810], need: &[u64; 800], out: &mut [i64], n: usize) -> usize
-    requires { ⌜ Indexed (now rows) (now kinds) (now links) (now owned) × Needs (now rows) (now need) ⌝ }
-    ensures { λ r. ⌜ sink (now (out .exit)) r ≡ emit (sink (now (out .entry)) n) (checkCalendars clock (sheet (now (rows .entry)))) ⌝ }
-{
-    n
-}
-
-// STAND-IN
-fn check_precedence(rows: &[i64], kinds: &[u16; 832], links: &[u16; 1600], owned: &[u16; 8810], out: &mut [i64], n: usize) -> usize
-    requires { ⌜ Indexed (now rows) (now kinds) (now links) (now owned) ⌝ }
-    ensures { λ r. ⌜ sink (now (out .exit)) r ≡ emit (sink (now (out .entry)) n) (checkPrecedence clock (sheet (now (rows .entry)))) ⌝ }
-{
-    n
-}
-
 // Checks 6 to 9.
 fn check_after(
     rows: &[i64],
@@ -72,8 +54,8 @@ fn check_after(
     requires { ⌜ Indexed (now rows) (now kinds) (now links) (now owned) × Needs (now rows) (now need) ⌝ }
     ensures { λ r. ⌜ sink (now (out .exit)) r ≡ emit (sink (now (out .entry)) n) (afterCapacity clock (sheet (now (rows .entry)))) ⌝ }
 {
-    let a = check_calendars(rows, kinds, links, owned, need, out, n);
-    let b = check_precedence(rows, kinds, links, owned, out, a);
+    let a = calendars::check_calendars(rows, kinds, links, owned, need, out, n);
+    let b = precedence::check_precedence(rows, kinds, links, owned, out, a);
     let c = deadlines::check_deadlines(rows, kinds, out, b);
     constraints::check_constraints(rows, kinds, out, c)
 }

@@ -7,8 +7,8 @@ use Rattle.feasibility.proofs.check_after.Reads as reads
 use Rattle.feasibility.proofs.check_after.Lts as lts
 use Rattle.constraints.proofs.check_constraints.Reads as check-constraints-reads
 use Rattle.deadlines.proofs.check_deadlines.Reads as check-deadlines-reads
-use Rattle.feasibility.proofs.check_calendars.Reads as check-calendars-reads
-use Rattle.feasibility.proofs.check_precedence.Reads as check-precedence-reads
+use Rattle.calendars.proofs.check_calendars.Reads as check-calendars-reads
+use Rattle.precedence.proofs.check_precedence.Reads as check-precedence-reads
 
 -- src/lib.rt:75:9
 check-calendars-requires : tie.Need-check-calendars-requires
