@@ -1,10 +1,9 @@
 -- Calendars are laid out one behind the other, resource by resource; there is always place for one more. Assumes nothing.
-use Prim.Native.Nat.{ℕ, zero, suc, _+_, _*_, _/_, _<_, _≤_}
+use Prim.Native.Nat.{ℕ, zero, suc, _+_, _*_, _<_, _≤_}
 use mathlib.Core.Path.{_≡_, refl, ap, ap₂, sym, _∙_}
 use mathlib.Core.Bool.{Bool, true, false, cond, _&&_, true≢false}
-use mathlib.Core.List.{List, [], _∷_, _++_, map, append-nil}
-use mathlib.Core.Logic.{inl, inr}
-use mathlib.Core.Option.{some}
+use mathlib.Core.List.{List, [], _∷_, _++_, append-nil}
+use mathlib.Core.Logic.{inr}
 use native.Mathlib.Omega.{arith}
 use native.Mathlib.Decide.{ℕ-discrete, decLt}
 use borrow.Author.Tests.{lt-ltb, le-ltb, eq-eqb, ne-eqb}
@@ -12,7 +11,6 @@ use lib.Dec.{eqb, ltb}
 use lib.IntN.{ℤ}
 use lib.ListN.{length, getD, set, length-set}
 use lib.Seq.{getD-set-same, getD-set-other}
-use Rattle.loops.specs.Lists.{given}
 use Rattle.loops.specs.Range.{collect}
 use Rattle.loops.specs.Search.{countBelow}
 use Rattle.loops.specs.Chain.{First, Stands}
@@ -22,7 +20,7 @@ use Rattle.loops.proofs.Walks.{over, stands-end}
 use Rattle.calendar.specs.Calendar.{Calendar}
 use Rattle.calendar.specs.Layout.{calendarOf}
 use Rattle.rows.specs.Cells.{rowCount, num, is}
-use Rattle.sheet.specs.Places.{ofKind, placeOf}
+use Rattle.sheet.specs.Places.{ofKind}
 use Rattle.sheet.specs.Index.{ownPlace, ownedBy}
 use Rattle.sheet.proofs.Lookups.{and-left, is-num, num-is, placed}
 use Rattle.model.specs.Sheet.{sheet}

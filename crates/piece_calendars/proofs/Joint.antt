@@ -1,8 +1,8 @@
 -- The joint working time of a piece, by the rows of its bookings; and that working time within a span is known from the working instants. Assumes nothing.
-use Prim.Native.Nat.{ℕ, zero, suc, _+_, _<_, _≤_}
-use mathlib.Core.Path.{_≡_, refl, ap, ap₂, sym, _∙_}
+use Prim.Native.Nat.{ℕ, zero, suc, _+_, _<_}
+use mathlib.Core.Path.{_≡_, refl, ap, ap₂, _∙_}
 use mathlib.Core.Bool.{Bool, true, false, not, _&&_, _||_}
-use mathlib.Core.List.{List, [], _∷_, _++_, map}
+use mathlib.Core.List.{List, [], _∷_, map}
 use lib.IntN.{ℤ, pos}
 use Rattle.loops.specs.Lists.{keep, anyOf, allOf}
 use Rattle.loops.specs.Range.{collect}
@@ -16,11 +16,10 @@ use Rattle.rows.specs.Cells.{rowCount, num, is}
 use Rattle.sheet.specs.Accepted.{Accepted}
 use Rattle.model.specs.Sheet.{sheet}
 use Rattle.model.specs.Resource.{windows}
-use Rattle.model.specs.Activity.{Activity}
-use Rattle.model.specs.Schedule.{Assignment, assignmentAt, assignmentsBelow, assignments}
+use Rattle.model.specs.Schedule.{assignmentAt, assignmentsBelow, assignments}
 use Rattle.model.specs.Records.{activityOf, assignmentOf}
 use Rattle.model.proofs.RowLaws.{assignment-row, assignment-none}
-use Rattle.checks.specs.Pieces.{ofPiece, resourcesOf, assignedWith}
+use Rattle.checks.specs.Pieces.{ofPiece, assignedWith}
 use Rattle.checks.specs.CheckCalendars.{calendarsOf}
 use Rattle.pieces.specs.Bookings.{inPiece}
 use Rattle.pieces.proofs.Companions.{of-piece}

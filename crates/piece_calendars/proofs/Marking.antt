@@ -1,6 +1,6 @@
 -- The rows of the resources of a piece are marked along the bookings of its activity. Assumes nothing.
-use Prim.Native.Nat.{ℕ, zero, suc, _+_, _<_, _≤_}
-use mathlib.Core.Path.{_≡_, refl, ap, ap₂, sym, _∙_}
+use Prim.Native.Nat.{ℕ, suc, _+_, _<_, _≤_}
+use mathlib.Core.Path.{_≡_, refl, ap, sym, _∙_}
 use mathlib.Core.Bool.{Bool, true, false, _&&_, _||_, or-true}
 use mathlib.Core.List.{List}
 use native.Mathlib.Omega.{arith}
@@ -8,7 +8,7 @@ use native.Mathlib.Decide.{ℕ-discrete}
 use borrow.Author.Tests.{eq-eqb, ne-eqb}
 use lib.Dec.{eqb}
 use lib.IntN.{ℤ}
-use lib.ListN.{length, getD, set, replicate, length-set, length-replicate, getD-replicate}
+use lib.ListN.{getD, set, replicate, length-set, length-replicate, getD-replicate}
 use lib.Seq.{getD-set-same, getD-set-other}
 use Rattle.loops.specs.Search.{anyBelow}
 use Rattle.loops.specs.Chain.{First, Stands}
@@ -17,7 +17,7 @@ use Rattle.rows.specs.Cells.{rowCount, is}
 use Rattle.sheet.specs.Index.{resPlace, ownPlace, ownedBy}
 use Rattle.pieces.specs.Bookings.{inPiece}
 use Rattle.pieces.proofs.Chains.{blind-if, piece-owned}
-use Rattle.piece_calendars.specs.Taken.{takenBelow, taken, marked, Marked, OnResources}
+use Rattle.piece_calendars.specs.Taken.{takenBelow, marked, Marked, OnResources}
 use Rattle.piece_calendars.proofs.Joint.{or-false}
 use Rattle.piece_calendars.proofs.Once.{taken-place}
 

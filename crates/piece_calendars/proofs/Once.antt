@@ -1,8 +1,8 @@
 -- Each resource of a piece once: the rows of the resources that its bookings are on work when those of all its bookings do. Assumes nothing.
-use Prim.Native.Nat.{ℕ, zero, suc, _<_, _≤_}
+use Prim.Native.Nat.{ℕ, zero, suc, _<_}
 use mathlib.Core.Path.{_≡_, refl, ap, sym, _∙_}
 use mathlib.Core.Bool.{Bool, true, false, cond, not, _&&_, _||_, true≢false}
-use mathlib.Core.List.{List, [], _∷_, _++_}
+use mathlib.Core.List.{List, []}
 use mathlib.Core.Option.{Option, none, some}
 use native.Mathlib.Omega.{arith}
 use lib.Dec.{eqb}
@@ -13,7 +13,7 @@ use Rattle.loops.specs.Range.{collect}
 use Rattle.loops.specs.Search.{anyBelow}
 use Rattle.loops.proofs.SearchLaws.{any-hit}
 use Rattle.calendar.specs.Clock.{clock}
-use Rattle.calendar.specs.Calendar.{Window, Calendar, isWorkingTime}
+use Rattle.calendar.specs.Calendar.{Window, isWorkingTime}
 use Rattle.rows.specs.Cells.{rowCount, num, is}
 use Rattle.rows.specs.Class.{resource-c}
 use Rattle.sheet.specs.Accepted.{Accepted}

@@ -1,8 +1,8 @@
 // The calendars of a piece, for `check_calendars` of scheduler/feasibility.rs: those of the resources that its bookings are on, each resource once,
 // and that of its activity, laid out for the calendar functions.
 ghost use mathlib.Core.Path.{_≡_};
-ghost use Prim.Native.Nat.{ℕ, suc, _+_, _*_, _<_, _≤_};
-ghost use mathlib.Core.Bool.{Bool, true};
+ghost use Prim.Native.Nat.{suc, _+_, _*_, _<_, _≤_};
+ghost use mathlib.Core.Bool.{true};
 ghost use lib.IntN.{ℤ};
 ghost use lib.ListN.{length, take};
 ghost use Rattle.loops.specs.Search.{countBelow};
@@ -22,7 +22,7 @@ ghost use Rattle.piece_calendars.specs.Laying.{Tidy, Added, Resources};
 
 // ---- the resources of a piece
 
-// The resource of row j marked, if j is a booking of booking k's piece and its resource is in the sheet.
+// Marks the resource of row j, if j is a booking of booking k's piece and its resource is in the sheet.
 fn mark_resource(rows: &[i64], links: &[u16; 1600], k: usize, j: usize, marks: &mut [u8; 800])
     requires { ⌜ Linked (now rows) (now links) × (j < rowCount (now rows)) × Marked (now rows) k j (now marks) ⌝ }
     ensures { λ _. ⌜ Marked (now (rows .entry)) k (suc j) (now (marks .exit)) ⌝ }
