@@ -5,7 +5,8 @@ ghost use lib.ListN.{length};
 ghost use Rattle.text.specs.Text.{answerOf, rowsAfter};
 ghost use Rattle.sheet.specs.Refusals.{verdictOf, refusalOf};
 ghost use Rattle.work_end.specs.Inquiry.{outcomeOf, inquiry};
-ghost use Rattle.exported.specs.Outcome.{ofText, ofRefusal, ofInquiry};
+ghost use Rattle.feasibility.specs.Table.{answered};
+ghost use Rattle.exported.specs.Outcome.{ofText, ofRefusal, ofInquiry, ofCall, Called};
 use sheet::Verdict;
 use text::Answer;
 
@@ -105,4 +106,30 @@ pub extern "C" fn sheet_work_end(rows: &[i64], resource: i64, start: i64, work: 
     ensures { λ r. ⌜ r ≡ ofInquiry (inquiry (now (rows .entry)) resource start work) ⌝ }
 {
     of_answer(work_end::work_end(rows, resource, start, work))
+}
+
+fn of_call(a: feasibility::Answer) -> Outcome
+    ensures { λ r. ⌜ r ≡ ofCall (answered a) ⌝ }
+{
+    match a {
+        feasibility::Answer::Accepted(n) => outcome(0, n as u64),
+        feasibility::Answer::Refused(k, p) => outcome(k, p as u64),
+    }
+}
+
+fn outcome(number: u64, place: u64) -> Outcome
+    ensures { λ r. ⌜ r ≡ record { number = number; place = place } ⌝ }
+{
+    Outcome {
+        number: number,
+        place: place,
+    }
+}
+
+// The call: checks the rows, and writes the findings of an accepted sheet to the lent numbers.
+#[no_mangle]
+pub extern "C" fn sheet_check_schedule(rows: &[i64], findings: &mut [i64]) -> Outcome
+    ensures { λ r. ⌜ Called (now (rows .entry)) (now (findings .entry)) r (now (findings .exit)) ⌝ }
+{
+    of_call(feasibility::check_schedule(rows, findings))
 }

@@ -1,6 +1,9 @@
 // `check_schedule` of scheduler/feasibility.rs: refusals 1 to 7, the nine checks in call order, and what is written to the lent buffer.
+ghost use Prim.Native.Nat.{_*_, _≤_};
 ghost use mathlib.Core.Path.{_≡_};
+ghost use mathlib.Core.List.{_++_};
 ghost use mathlib.Core.Option.{none};
+ghost use lib.ListN.{length, take, drop};
 ghost use Rattle.calendar.specs.Clock.{clock};
 ghost use Rattle.findings.specs.Sink.{sink, emit};
 ghost use Rattle.model.specs.Sheet.{sheet};
@@ -75,7 +78,22 @@ fn check_all(
     check_after(rows, kinds, links, owned, need, out, b)
 }
 
-// The findings of an accepted sheet, where the buffer holds them. A first pass counts them, in a buffer that holds none.
+// The first k findings of `from` over those of out; what lies after them is unchanged.
+fn copy_findings(from: &[i64], out: &mut [i64], k: usize)
+    requires { ⌜ (4 * k ≤ length (now from)) × (4 * k ≤ length (now out)) ⌝ }
+    ensures { λ _. ⌜ now (out .exit) ≡ take (4 * k) (now (from .entry)) ++ drop (4 * k) (now (out .entry)) ⌝ }
+{
+    let end = 4 * k;
+    let mut i = 0;
+    while i < end {
+        let x = from[i];
+        out[i] = x;
+        i += 1;
+    }
+}
+
+// The findings of an accepted sheet, where the buffer holds them. The checks run once, into a buffer of their own, so that nothing is written before
+// the count is known; findings that it doesn't hold are written by running the checks again.
 fn write_findings(
     rows: &[i64],
     kinds: &[u16; 832],
@@ -88,13 +106,17 @@ fn write_findings(
     requires { ⌜ Indexed (now rows) (now kinds) (now links) (now owned) × Held (now rows) (now held) × Needs (now rows) (now need) × (sheetRefusal (now rows) ≡ none) ⌝ }
     ensures { λ r. ⌜ Checked (orFull sheetRefusal) (now (rows .entry)) (now (out .entry)) (answered r) (now (out .exit)) ⌝ }
 {
-    let mut uncounted = [0i64; 1];
-    let count = check_all(rows, kinds, links, owned, held, need, &mut uncounted);
-    if count <= out.len() / 4 {
-        let n = check_all(rows, kinds, links, owned, held, need, out);
-        return Answer::Accepted(n);
+    let mut first = [0i64; 4096];
+    let count = check_all(rows, kinds, links, owned, held, need, &mut first);
+    if count > out.len() / 4 {
+        return Answer::Refused(7, 0);
     }
-    Answer::Refused(7, 0)
+    if count <= 1024 {
+        copy_findings(&first, out, count);
+        return Answer::Accepted(count);
+    }
+    let n = check_all(rows, kinds, links, owned, held, need, out);
+    Answer::Accepted(n)
 }
 
 // Refusal 6, then the findings.

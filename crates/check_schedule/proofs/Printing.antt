@@ -1,0 +1,164 @@
+-- What stands in the buffer after `print_answer`, of a sheet and of a text. Assumes nothing.
+use Prim.Native.Nat.{ℕ, _+_, _*_, _/_, _^_, _<_, _≤_, min}
+use mathlib.Core.Path.{_≡_, refl, sym, ap, _∙_, subst}
+use mathlib.Core.Bool.{Bool, true, false, cond}
+use mathlib.Core.List.{List, [], _∷_, _++_}
+use mathlib.Core.Option.{Option, none, some}
+use native.Mathlib.Omega.{arith}
+use borrow.Author.Tests.{ltb-false}
+use lib.Dec.{ltb}
+use lib.IntN.{ℤ, pos, natAbs}
+use lib.ListN.{length, getD, take, drop, length-append, List·getD-append}
+use lib.Seq.{sets, sets-eq, take-at}
+use Rattle.loops.specs.Search.{orElse}
+use Rattle.loops.specs.Range.{collect}
+use Rattle.loops.proofs.RangeLaws.{collect-ext}
+use Rattle.loops.proofs.PlaceLaws.{or-none-right, if-none}
+use Rattle.text.specs.Parts.{parts}
+use Rattle.text.specs.Text.{answerFrom, answerOf, rowsOf, rowsAfter}
+use Rattle.text.specs.declared.Answer.{Answer}
+use Rattle.text.specs.declared.Answer.the-variants.{Accepted, Refused}
+use Rattle.text.proofs.TextLaws.{accepted-rows}
+use Rattle.sheet.specs.Refusals.{Refusal, refuse}
+use Rattle.findings.specs.declared.Violation.{Violation}
+use Rattle.findings.specs.Sink.{flat}
+use Rattle.checks.specs.CheckSchedule.{findings, checkSchedule}
+use Rattle.shift.specs.Call.{accepted, refused, Listed, Written, Ended, Checked}
+use Rattle.feasibility.specs.Table.{orFull, sheetRefusal}
+use Rattle.output.specs.Printed.{findingNumber, field, findingLine, printedRefused, printedAccepted}
+use Rattle.output.proofs.FitLaws.{accepted-fits, refused-fits}
+use Rattle.check_schedule.specs.Program.{PrintedLines, PrintedBy, PrintedSheet, PrintedOf, PrintedText}
+
+-- ---- the buffer
+
+-- bytes that were put at the start of a buffer that holds them
+pub record Stands (bytes : List ℕ) (r : ℕ) (o : List ℕ) : Type 0 where
+  pub within : r ≤ 168030
+  pub first : take r o ≡ bytes
+
+stands : (o p : List ℕ) {o′ : List ℕ} {r : ℕ} → length o ≡ 168030 → length p ≤ 168030 → r ≡ min (length p) (length o) → o′ ≡ sets o 0 p → Stands p r o′
+stands o p {r = r} h l q e =
+    let z : r ≡ length p = omega arith in
+    record {
+      within = omega arith;
+      first = rw e (rw (sets-eq p o 0 (omega arith)) (take-at p (drop (0 + length p) o) r (sym z)));
+    }
+
+-- ---- what is printed of findings is that of their lines, whatever follows them
+
+length-flat : (l : List Violation) → length (flat l) ≡ 4 * length l
+unfolding flat
+length-flat [] = refl
+length-flat (f ∷ l) = omega (arith, length-flat l)
+
+length-listed : (rows : List ℤ) (l : List Violation) → Listed rows l → length l ≡ length (findings rows)
+unfolding findings checkSchedule
+length-listed rows l p = ap length (p .whole) ∙ simp length-append (omega (arith, p .places))
+
+module _ (xs ys : List ℤ) where
+  number-first : (k c : ℕ) → k * 4 + c < length xs → findingNumber (xs ++ ys) k c ≡ findingNumber xs k c
+  unfolding findingNumber
+  number-first k c h = List·getD-append xs ys (pos 0) (k * 4 + c) h
+
+  line-first : (k : ℕ) → k * 4 + 3 < length xs → findingLine (xs ++ ys) k ≡ findingLine xs k
+  unfolding findingLine field
+  line-first k h = rw (number-first k 0 (omega arith), number-first k 1 (omega arith), number-first k 2 (omega arith), number-first k 3 h)
+
+  accepted-first : (n : ℕ) → length xs ≡ 4 * n → printedAccepted n (xs ++ ys) ≡ printedAccepted n xs
+  unfolding printedAccepted
+  accepted-first n h = rw (collect-ext (findingLine (xs ++ ys)) (findingLine xs) n (λ k l. line-first k (omega arith)))
+
+-- ---- a sheet
+
+accepted-inj : (n m : ℕ) → accepted n ≡ accepted m → n ≡ m
+accepted-inj n m p = cc
+
+not-both : (n m p : ℕ) → accepted n ≡ refused m p → ⊥
+not-both n m p e = let z : _≡_ {A = ℕ} 0 1 = cc in omega arith
+
+few : (rows : List ℤ) → orFull sheetRefusal rows 2000 ≡ none → length (findings rows) ≤ 2000
+unfolding orFull
+few rows e = omega (arith, ltb-false 2000 (length (findings rows)) (if-none (ltb 2000 (length (findings rows))) _ (or-none-right (sheetRefusal rows) _ e)))
+
+module _ (rows before : List ℤ) (room : length before ≡ 8000) where
+  entry : {r : _} {found : List ℤ} → Checked (orFull sheetRefusal) rows before r found → Ended (orFull sheetRefusal) (orFull sheetRefusal rows 2000) rows before r found
+  entry {r} {found} c =
+      let e : length before / 4 ≡ 2000 = omega arith in
+      subst (λ k. Ended (orFull sheetRefusal) (orFull sheetRefusal rows k) rows before r found) e (c .ended)
+
+  module _ (o : List ℕ) (long : length o ≡ 168030) {o′ : List ℕ} {r : ℕ} where
+    accepted-by : (t : Option Refusal) (n : ℕ) (found : List ℤ) → (t ≡ none → length (findings rows) ≤ 2000)
+        → Ended (orFull sheetRefusal) t rows before (accepted n) found
+        → ((k c : ℕ) → natAbs (findingNumber found k c) ≤ 2 ^ 63)
+        → r ≡ min (length (printedAccepted n found)) (length o) → o′ ≡ sets o 0 (printedAccepted n found)
+        → (r ≤ 168030) × PrintedBy t rows (take r o′)
+    accepted-by (some x) n found h e f q s = absurd (not-both _ _ _ (e .answered))
+    accepted-by none n found h e f q s =
+        let z : n ≡ length (findings rows) = accepted-inj _ _ (e .counted) in
+        let d = stands o (printedAccepted n found) long (accepted-fits found f n (omega (arith, h refl))) q s in
+        let l : length (flat (e .lines)) ≡ 4 * n = length-flat (e .lines) ∙ ap (λ m. 4 * m) (length-listed rows (e .lines) (e .listed) ∙ sym z) in
+        ( d .within
+        , record {
+            lines = e .lines;
+            listed = e .listed;
+            printed = d .first ∙ ap (printedAccepted n) (e .buffer) ∙ accepted-first (flat (e .lines)) _ n l ∙ ap (λ m. printedAccepted m (flat (e .lines))) z;
+          })
+
+    refused-by : (t : Option Refusal) (number place : ℕ) (found : List ℤ)
+        → Ended (orFull sheetRefusal) t rows before (refused number place) found
+        → number < 2 ^ 64 → place < 2 ^ 64
+        → r ≡ min (length (printedRefused number place)) (length o) → o′ ≡ sets o 0 (printedRefused number place)
+        → (r ≤ 168030) × PrintedBy t rows (take r o′)
+    refused-by none number place found e h l q s = absurd (not-both _ _ _ (sym (e .counted)))
+    refused-by (some x) number place found e h l q s =
+        let d = stands o (printedRefused number place) long (omega (arith, refused-fits number place h l)) q s in
+        let a : number ≡ x .number = cc (e .answered) in
+        let b : place ≡ x .place = cc (e .answered) in
+        (d .within, d .first ∙ λ i. printedRefused (a i) (b i))
+
+    pub sheet-accepted : (n : ℕ) (found : List ℤ) → Checked (orFull sheetRefusal) rows before (accepted n) found
+        → ((k c : ℕ) → natAbs (findingNumber found k c) ≤ 2 ^ 63)
+        → r ≡ min (length (printedAccepted n found)) (length o) → o′ ≡ sets o 0 (printedAccepted n found)
+        → (r ≤ 168030) × PrintedSheet rows (take r o′)
+    sheet-accepted n found c f q s =
+        let p = accepted-by (orFull sheetRefusal rows 2000) n found (few rows) (entry c) f q s in
+        (p .0, record { by-table = p .1 })
+
+    pub sheet-refused : (number place : ℕ) (found : List ℤ) → Checked (orFull sheetRefusal) rows before (refused number place) found
+        → number < 2 ^ 64 → place < 2 ^ 64
+        → r ≡ min (length (printedRefused number place)) (length o) → o′ ≡ sets o 0 (printedRefused number place)
+        → (r ≤ 168030) × PrintedSheet rows (take r o′)
+    sheet-refused number place found c h l q s =
+        let p = refused-by (orFull sheetRefusal rows 2000) number place found (entry c) h l q s in
+        (p .0, record { by-table = p .1 })
+
+-- ---- a text
+
+module _ (text : List ℕ) (lent : List ℤ) (room : length lent ≡ 8000) {a : Answer} (told : a ≡ answerOf text (length lent / 10)) where
+  answer-is : a ≡ answerOf text 800
+  answer-is = let e : length lent / 10 ≡ 800 = omega arith in rw e at told
+
+  pub text-refused : (o : List ℕ) {o′ : List ℕ} {r number place : ℕ} → length o ≡ 168030 → a ≡ Refused number place → number < 2 ^ 64 → place < 2 ^ 64
+      → r ≡ min (length (printedRefused number place)) (length o) → o′ ≡ sets o 0 (printedRefused number place)
+      → (r ≤ 168030) × PrintedText text (take r o′)
+  text-refused o {number = number} {place = place} long e h l q s =
+      let d = stands o (printedRefused number place) long (omega (arith, refused-fits number place h l)) q s in
+      let z : answerOf text 800 ≡ Refused number place = sym answer-is ∙ e in
+      (d .within, record { by-answer = rw z (d .first) })
+
+  -- the rows of an accepted text
+  rows-are : (n : ℕ) → answerOf text 800 ≡ Accepted n → (t : Bool) → ltb 65536 (length text) ≡ t → length (rowsOf (parts 10 text)) ≡ 10 * n
+  unfolding answerOf
+  rows-are n e t q = go t (rw q at e)
+    where
+      go : (t : Bool) → cond t (Refused 8 0) (answerFrom 800 0 (parts 10 text)) ≡ Accepted n → length (rowsOf (parts 10 text)) ≡ 10 * n
+      go true e = let z : _≡_ {A = ℕ} 0 1 = cc in absurd (omega arith)
+      go false e = omega (arith, accepted-rows 800 0 (parts 10 text) n (omega arith) e .0)
+
+  pub text-accepted : {rows : List ℤ} {n : ℕ} (bytes : List ℕ) → rows ≡ rowsAfter (answerOf text (length lent / 10)) text lent → a ≡ Accepted n
+      → PrintedSheet (take (10 * n) rows) bytes → PrintedText text bytes
+  text-accepted {n = n} bytes e q p =
+      let z : answerOf text 800 ≡ Accepted n = sym answer-is ∙ q in
+      let w : answerOf text (length lent / 10) ≡ Accepted n = sym told ∙ q in
+      let first : take (10 * n) _ ≡ rowsOf (parts 10 text) = ap (take (10 * n)) (rw w at e) ∙ take-at (rowsOf (parts 10 text)) _ (10 * n) (rows-are n z (ltb 65536 (length text)) refl) in
+      record { by-answer = rw z (subst (λ (l : List ℤ). PrintedSheet l bytes) first p) }

@@ -1,0 +1,68 @@
+// The program: reads a sheet as text from standard input, checks it, and prints the answer.
+ghost use mathlib.Core.Path.{_≡_};
+ghost use Prim.Native.Nat.{_≤_};
+ghost use lib.ListN.{length, take};
+ghost use Rattle.check_schedule.specs.Program.{PrintedSheet, PrintedText};
+use feasibility::Answer;
+use libc::STDIN_FILENO;
+use libc::STDOUT_FILENO;
+
+// 800 rows, or 2,000 findings. The promises here give the lengths, which is all that lending an array as a slice asks.
+fn numbers() -> [i64; 8000]
+    ensures { λ r. ⌜ 8000 ≡ length r ⌝ }
+{
+    [0; 8000]
+}
+
+// One byte more than a text may have: a longer one is refused whatever follows.
+fn longest_text() -> [u8; 65537]
+    ensures { λ r. ⌜ 65537 ≡ length r ⌝ }
+{
+    [0; 65537]
+}
+
+// Room for what is printed of 2,000 findings.
+fn longest_answer() -> [u8; 168030]
+    ensures { λ r. ⌜ 168030 ≡ length r ⌝ }
+{
+    [0; 168030]
+}
+
+// Checks the rows and puts what is printed of them into out. It answers how many bytes that are.
+fn print_sheet(rows: &[i64], out: &mut [u8]) -> usize
+    requires { ⌜ length (now out) ≡ 168030 ⌝ }
+    ensures { λ r. ⌜ r ≤ 168030 ⌝ }
+    ensures { λ r. ⌜ PrintedSheet (now (rows .entry)) (take r (now (out .exit))) ⌝ }
+{
+    let mut found = numbers();
+    let answer = feasibility::check_schedule(rows, &mut found);
+    match answer {
+        Answer::Accepted(n) => output::print_answer(text::Answer::Accepted(n), &found, out),
+        Answer::Refused(number, place) => output::print_answer(text::Answer::Refused(number, place), &found, out),
+    }
+}
+
+// Reads the text, checks the sheet, and puts what is printed into out.
+fn print_text(text: &[u8], out: &mut [u8]) -> usize
+    requires { ⌜ length (now out) ≡ 168030 ⌝ }
+    ensures { λ r. ⌜ r ≤ 168030 ⌝ }
+    ensures { λ r. ⌜ PrintedText (now (text .entry)) (take r (now (out .exit))) ⌝ }
+{
+    let mut rows = numbers();
+    let read = text::read_text(text, &mut rows);
+    match read {
+        text::Answer::Accepted(n) => {
+            let end = 10 * n;
+            print_sheet(&rows[..end], out)
+        }
+        text::Answer::Refused(number, place) => output::print_answer(text::Answer::Refused(number, place), &rows, out),
+    }
+}
+
+fn main() {
+    let mut text = longest_text();
+    let n = io::read_full(STDIN_FILENO, &mut text);
+    let mut out = longest_answer();
+    let m = print_text(&text[..n], &mut out);
+    io::write_all(STDOUT_FILENO, &out[..m]);
+}

@@ -1,0 +1,3 @@
+pub mod Copying
+pub mod Demand3
+pub mod Top
