@@ -304,12 +304,7 @@ fn share_case(line: &[u8]) -> bool {
     let last = after(rest, work.len());
     let whole = text::first_part(last, b',');
     let time = after(last, whole.len());
-    share_is(
-        natural(ms),
-        natural(work),
-        natural(whole),
-        number_of(time),
-    )
+    share_is(natural(ms), natural(work), natural(whole), number_of(time))
 }
 
 fn share_is(ms: u64, work: u64, whole: u64, time: i64) -> bool {
