@@ -508,8 +508,7 @@ def main(folder):
     for part in (speeds, drawn_speeds, shares, overlaps, sheets, limits, in_booking_order):
         part(c)
     drawn_sheets(c, 220)
-    listing.write(folder, "derived", c.sheets)
-    listing.write(folder, "numbers", c.speeds + c.shares + c.overlaps)
+    listing.write(folder, "cases", c.sheets + c.speeds + c.shares + c.overlaps, most=None)
     print(f"{len(c.sheets)} cases of sheets, {len(c.speeds)} of speeds, {len(c.shares)} of shares, {len(c.overlaps)} of overlaps")
 
 

@@ -1,5 +1,5 @@
-// Replays the stored cases of derived times. Each case that differs is printed by its number, and at the end how
-// many there were and how many came out as expected.
+// Replays the stored cases of derived times. Each case that differs is printed by its number, each line that is ill-formed as a
+// case that differs, and at the end how many there were and how many came out as expected.
 ghost use mathlib.Core.Path.{_≡_};
 ghost use mathlib.Core.Bool.{true};
 ghost use Prim.Native.Nat.{_<_, _≤_};
@@ -10,6 +10,7 @@ ghost use Rattle.sheet.specs.Accepted.{Accepted};
 ghost use Rattle.pieces.specs.Held.{Held};
 ghost use Rattle.times.specs.Rows.{Timings};
 use libc::STDOUT_FILENO;
+use overlap::Overlap;
 use rounding::Time;
 use sheet::Verdict;
 use text::Number;
@@ -45,6 +46,15 @@ fn number_of(s: &[u8]) -> i64 {
         Number::Value(z) => z,
         Number::Misspelt => 0,
     }
+}
+
+// The number of a field that must have one of 0 or more; where it has none, one that no time and no float's bits reach.
+fn natural(s: &[u8]) -> u64 {
+    let z = number_of(s);
+    if z < 0 {
+        return 18446744073709551615;
+    }
+    rows::nat(z)
 }
 
 // What follows the first n bytes and the comma after them.
@@ -276,13 +286,14 @@ fn total_of(d: Derived) -> Time {
 fn product_case(line: &[u8], rows: &[i64], n: usize) -> bool {
     let process = text::first_part(line, b',');
     let time = after(line, process.len());
+    let ms = natural(process);
     let base = ActivityDuration {
         setup_ms: 0,
-        process_ms: rows::nat(number_of(process)),
+        process_ms: ms,
         teardown_ms: 0,
     };
     let d = product_of(rows, n).duration(base);
-    is_time(total_of(d), number_of(time))
+    ms <= 4000000000000 && is_time(total_of(d), number_of(time))
 }
 
 // A line `MS,WORK,WHOLE,TIME`.
@@ -293,12 +304,7 @@ fn share_case(line: &[u8]) -> bool {
     let last = after(rest, work.len());
     let whole = text::first_part(last, b',');
     let time = after(last, whole.len());
-    share_is(
-        rows::nat(number_of(ms)),
-        rows::nat(number_of(work)),
-        rows::nat(number_of(whole)),
-        number_of(time),
-    )
+    share_is(natural(ms), natural(work), natural(whole), number_of(time))
 }
 
 fn share_is(ms: u64, work: u64, whole: u64, time: i64) -> bool {
@@ -312,7 +318,98 @@ fn share_is(ms: u64, work: u64, whole: u64, time: i64) -> bool {
     false
 }
 
+// ---- an overlap
+
+// A line `BITS,LAG,START,END,FIRST,LAST`.
+fn overlap_case(line: &[u8]) -> bool {
+    let bits = text::first_part(line, b',');
+    let after_bits = after(line, bits.len());
+    let lag = text::first_part(after_bits, b',');
+    let after_lag = after(after_bits, lag.len());
+    let start = text::first_part(after_lag, b',');
+    let after_start = after(after_lag, start.len());
+    let end = text::first_part(after_start, b',');
+    let after_end = after(after_start, end.len());
+    let first = text::first_part(after_end, b',');
+    let last = after(after_end, first.len());
+    overlap_is(
+        natural(bits),
+        number_of(lag),
+        natural(start),
+        natural(end),
+        number_of(first),
+        number_of(last),
+    )
+}
+
+// Whether the overlap's earliest start and earliest end are these. No float is a share whose bits are above those of 1.0.
+fn overlap_is(bits: u64, lag: i64, start: u64, end: u64, first: i64, last: i64) -> bool {
+    if 4607182418800017408 < bits {
+        return false;
+    }
+    if lag < -4000000000000 {
+        return false;
+    }
+    if 4000000000000 < lag {
+        return false;
+    }
+    if 4000000000000 < start {
+        return false;
+    }
+    if 4000000000000 < end {
+        return false;
+    }
+    let o = Overlap::new(bits, lag);
+    signed(o.earliest_start(start, end)) == first && o.earliest_end(end) == last
+}
+
 // ---- the list
+
+// How many fields a line has; 0 where one of them is misspelt.
+fn field_count(fields: &[u8]) -> u64 {
+    let mut rest = fields;
+    let mut count = 0;
+    loop {
+        let f = text::first_part(rest, b',');
+        if is_misspelt(f) {
+            return 0;
+        }
+        count = next(count);
+        let n = f.len();
+        if rest.len() <= n {
+            return count;
+        }
+        rest = &rest[n + 1..];
+    }
+}
+
+fn is_misspelt(s: &[u8]) -> bool {
+    match text::read_number(s) {
+        Number::Value(_) => false,
+        Number::Misspelt => true,
+    }
+}
+
+// Whether a line has the fields that its letter asks for, and a line that gathers numbers a count of 1 or more.
+fn is_formed(tag: u8, rest: &[u8]) -> bool {
+    let n = field_count(rest);
+    if tag == b'D' || tag == b'P' {
+        return n == 2;
+    }
+    if tag == b'S' {
+        return n == 4;
+    }
+    if tag == b'O' {
+        return n == 6;
+    }
+    if number_of(text::first_part(rest, b',')) < 1 {
+        return false;
+    }
+    if tag == b'r' {
+        return 2 <= n && n <= 11;
+    }
+    2 <= n && (tag == b'n' || tag == b'e')
+}
 
 // A case is done: it is counted, and printed where it differs.
 fn done(run: Run, passes: bool) -> Run {
@@ -373,6 +470,10 @@ fn step(line: &[u8], rows: &mut [i64], expected: &mut [i64], run: Run) -> Run {
     if tag == b'#' {
         return run;
     }
+    if !is_formed(tag, rest) {
+        io::write_all(STDOUT_FILENO, b"ill-formed: ");
+        return done(run, false);
+    }
     if tag == b'D' {
         return done(
             run,
@@ -384,6 +485,9 @@ fn step(line: &[u8], rows: &mut [i64], expected: &mut [i64], run: Run) -> Run {
     }
     if tag == b'S' {
         return done(run, share_case(rest));
+    }
+    if tag == b'O' {
+        return done(run, overlap_case(rest));
     }
     gather(tag, rest, rows, expected, run)
 }

@@ -51,6 +51,14 @@ pub run-out :
 unfolding within timedDuration atSpeed dividedBy rounded halfUp ofInt div mul eq ofBits
 run-out = (refl, refl, refl, refl)
 
+-- Each product is rounded before the next speed, so the order shows: process 1 at 0.1, 0.8 and 5.0, in booking order, is 2, as the
+-- product is above 0.4; with the last booking first it is 3, as the product is 0.4 itself.
+pub order :
+    (timedDuration (ms 0 1 0) (Speed (ofBits binary64 0x3fb9_9999_9999_999a) ∷ Speed (ofBits binary64 0x3fe9_9999_9999_999a) ∷ Speed (ofBits binary64 0x4014_0000_0000_0000) ∷ []) ≡ some (ms 0 2 0))
+    × (timedDuration (ms 0 1 0) (Speed (ofBits binary64 0x4014_0000_0000_0000) ∷ Speed (ofBits binary64 0x3fe9_9999_9999_999a) ∷ Speed (ofBits binary64 0x3fb9_9999_9999_999a) ∷ []) ≡ some (ms 0 3 0))
+unfolding timedDuration atSpeed dividedBy rounded halfUp ofInt div mul eq ofBits
+order = (refl, refl)
+
 -- the largest total, the earliest among equals, whatever the speeds
 pub fixed :
     (timedDuration (ms 9 9 9) (Speed slowest ∷ Duration (ms 1 2 3) ∷ Duration (ms 3 2 1) ∷ []) ≡ some (ms 1 2 3))
