@@ -130,12 +130,13 @@ module _ (rows : List ℤ) where
 
     pub judged-told : Accepted rows → Booked rows a k → (need : List ℕ) → Needs rows need
         → misplaced (sheet rows) (activityOf rows a) (bookingOf rows k) ≡ false → isHeld (sheet rows) (bookingOf rows k) ≡ false
-        → {id used t : ℕ} {over short early late : Bool} (s₀ : Sink) {s₁ s₂ s₃ s₄ : Sink}
+        → {id used setup t : ℕ} {over short early late : Bool} (s₀ : Sink) {s₁ s₂ s₃ s₄ : Sink}
         → id ≡ num rows k 1
         → used ≡ uses (sheet rows) (activityOf rows a) (bookingOf rows k) (assignmentsBelow (sheet rows) k)
         → over ≡ ltZ (units (sheet rows) (num rows a 1)) (pos (used + 1))
         → s₁ ≡ emit s₀ (given over (violation 1 9 id 95))
-        → short ≡ ltb (num rows k 5) (num rows k 4 + (num rows k 6 + getD need k 0))
+        → setup ≡ num rows k 6
+        → short ≡ ltb (num rows k 5) (num rows k 4 + (setup + getD need k 0))
         → s₂ ≡ emit s₁ (given short (violation 1 10 id 90))
         → early ≡ ltb (num rows k 4) (num rows a 8)
         → s₃ ≡ emit s₂ (given early (violation 1 11 id 90))
@@ -143,14 +144,14 @@ module _ (rows : List ℤ) where
         → late ≡ ltb (num rows k 4) (num rows t 3)
         → s₄ ≡ emit s₃ (given late (violation 1 11 id 90))
         → s₄ ≡ emit s₀ known
-    judged-told acc b need nd h g {id} {used} {t} {over} {short} {early} {late} s₀ i u o q₁ w q₂ e q₃ z l q₄ =
+    judged-told acc b need nd h g {id} {used} {setup} {t} {over} {short} {early} {late} s₀ i u o q₁ r w q₂ e q₃ z l q₄ =
         emit-then _ _ s₀ (emit-then _ _ s₀ (emit-then _ _ s₀ q₁ q₂) q₃) q₄
         ∙ ap (emit s₀)
         (ap₂ _++_
         (ap₂ _++_
         (ap₂ _++_
         (ap₂ (λ x y. given x (unknownActivity 1 y)) (o ∙ ap (λ x. ltZ (units (sheet rows) (num rows a 1)) (pos x)) (add-one used ∙ ap suc u)) i)
-        (ap₂ (λ x y. given x (durationTooShort 1 y)) (w ∙ ap (λ x. ltb (num rows k 5) (num rows k 4 + x)) (sym (nd .at k (bookingOf rows k) (activityOf rows a) (b .within) (assignment-row rows k (b .kind)) (found a k b)))) i))
+        (ap₂ (λ x y. given x (durationTooShort 1 y)) (w ∙ ap (λ x. ltb (num rows k 5) (num rows k 4 + x)) (ap (λ x. x + getD need k 0) r ∙ sym (nd .at k (bookingOf rows k) (activityOf rows a) (b .within) (assignment-row rows k (b .kind)) (found a k b)))) i))
         (ap₂ (λ x y. given x (earlyStart 1 y)) e i ∙ sym (early-is k a 8)))
         (ap₂ (λ x y. given x (earlyStart 1 y)) l i ∙ sym (early-task acc a k t b z))
         ∙ sym (judged-is h g))

@@ -151,13 +151,12 @@ fn uses_before(
 
 // ---- times
 
-// Whether booking k ends before its setup and the rest of its work are done.
-fn is_short(rows: &[i64], need: &[u64; 800], k: usize) -> bool
-    requires { ⌜ Accepted (now rows) × Needs (now rows) (now need) × (k < rowCount (now rows)) × (is (now rows) k 0 23 ≡ true) ⌝ }
-    ensures { λ r. ⌜ r ≡ ltb (num (now (rows .entry)) k 5) (num (now (rows .entry)) k 4 + (num (now (rows .entry)) k 6 + getD (now (need .entry)) k 0)) ⌝ }
+// Whether booking k ends before that setup and the rest of its work are done.
+fn is_short(rows: &[i64], need: &[u64; 800], k: usize, setup: u64) -> bool
+    requires { ⌜ Accepted (now rows) × Needs (now rows) (now need) × (k < rowCount (now rows)) × (is (now rows) k 0 23 ≡ true) × (setup < 9223372036854775808) ⌝ }
+    ensures { λ r. ⌜ r ≡ ltb (num (now (rows .entry)) k 5) (num (now (rows .entry)) k 4 + (setup + getD (now (need .entry)) k 0)) ⌝ }
 {
     let start = rows::num_at(rows, k, 4);
-    let setup = rows::num_at(rows, k, 6);
     rows::num_at(rows, k, 5) < start + (setup + need[k])
 }
 
@@ -183,7 +182,7 @@ fn tell(out: &mut [i64], n: usize, yes: bool, kind: u8, entity: u64, severity: u
     findings::report(out, n, yes, f)
 }
 
-// Booking k, that is neither misplaced nor held.
+// Booking k, that is neither misplaced nor held. Its setup is the one that the booking records, not its activity's.
 fn check_judged(
     rows: &[i64],
     links: &[u16; 1600],
@@ -203,7 +202,8 @@ fn check_judged(
     let used = uses_before(rows, owned, held, a, parts, k);
     let over = is_over(rows, owned, a, used + 1);
     let m = tell(out, n, over, 9, id, 95);
-    let m2 = tell(out, m, is_short(rows, need, k), 10, id, 90);
+    let setup = rows::id_at(rows, k, 6);
+    let m2 = tell(out, m, is_short(rows, need, k, setup), 10, id, 90);
     let m3 = tell(out, m2, is_early(rows, k, a, 8), 11, id, 90);
     let t = sheet::owner_of(rows, links, a);
     tell(out, m3, is_early(rows, k, t, 3), 11, id, 90)

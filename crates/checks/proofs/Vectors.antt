@@ -386,3 +386,39 @@ sheet13 =
 pub findings13 : findings sheet13 ≡ violation 1 9 0 95 ∷ violation 1 9 1 95 ∷ violation 5 2 4 90 ∷ violation 6 7 0 75 ∷ violation 6 7 1 75 ∷ violation 7 3 2 95 ∷ violation 8 1 2 80 ∷ []
 unfolding same onlyAt only keep anyOf allOf countOf last insertBy sortBy each upsert fold collect first firstPlace anyBelow countBelow cell is within isNone inRange inClass width count jointAvailableMs contains holds hits isWorkingTime intervalFits jointWorking standing standingAt standingOver allows nearer withWindow lookAt withCalendar jointLook halfUp rounded dividedBy limited shareOf ceiling ceilingShare isShare atSpeed timedDuration activityAt activities findActivity activitiesOf overlap split requirementAt requirements namedFor isCandidate usageOn timingAt timing pieceOf durationOn neededMs constraintAt constraints resourceAt resources findResource listed windows transportTo transportBetween assignmentAt assignmentsBelow assignments assignmentsForActivityAll spanAt timeOnlyBelow timeOnly timeOnlyForActivity latest earliest taskCompletionTime taskAt tasks findTask activitySpan units uses checkKnown checkAssignment checkAssignmentAt checkAssignments calendarsOf checkResumable checkPlain checkBooking checkCalendars usage capOverride capOf loadAt peak checkResource checkFirstBooking checkCapacityAt checkCapacity firstOn checkOverlaps differing checkConstraint checkConstraintAt checkConstraints checkDeadline checkDeadlines partsOf workOf twoWorks checkPartsOf checkSplit checkActivityParts checkParts endToStart runsOnAll byPart piecesOf checkPair checkPairs checkTask checkPrecedence claim candidateId lacking claims unaccompanied notSimultaneous checkPieceRequirements CheckRequirements·piecesOf checkActivityRequirements checkRequirements beforeCapacity afterCapacity checkSchedule findings known seen checkFirst checkSpan checkSpanAt checkUnplaced checkTimeOnly heldAmong notHeld assignedWith isHeld runsOn eq ofBits mul ofInt div
 findings13 = refl
+
+-- bookings are claimed in row order: the first requirement takes either of the two, the second only the one that is booked first
+abbrev sheet14 : List ℤ
+sheet14 =
+    row (pos 1) (pos 0) none′ none′ (pos 0) (pos 0) (pos 0) (pos 0) (pos 0) (pos 0)
+    ++ row (pos 2) (pos 0) (pos 0) (pos 0) (pos 0) (pos 5) (pos 0) (pos 0) none′ (pos 0)
+    ++ row (pos 5) (pos 0) (pos 7) (pos 1) (pos 1) (pos 0) (pos 0) (pos 0) (pos 0) (pos 0)
+    ++ row (pos 6) (pos 0) (pos 0) (pos 1) (pos 0) (pos 0) (pos 0) (pos 0) (pos 0) (pos 0)
+    ++ row (pos 6) (pos 0) (pos 0) (pos 2) (pos 0) (pos 0) (pos 0) (pos 0) (pos 0) (pos 0)
+    ++ row (pos 5) (pos 0) (pos 8) (pos 1) (pos 1) (pos 0) (pos 0) (pos 0) (pos 0) (pos 0)
+    ++ row (pos 11) (pos 1) (pos 8) (pos 1) (pos 0) (pos 0) (pos 0) (pos 0) (pos 0) (pos 0)
+    ++ row (pos 11) (pos 2) (pos 7) (pos 1) (pos 0) (pos 0) (pos 0) (pos 0) (pos 0) (pos 0)
+    ++ row (pos 23) (pos 0) (pos 0) (pos 1) (pos 10) (pos 15) (pos 0) none′ none′ (pos 0)
+    ++ row (pos 23) (pos 0) (pos 0) (pos 2) (pos 10) (pos 15) (pos 0) none′ none′ (pos 0)
+
+pub findings14 : findings sheet14 ≡ violation 4 6 0 95 ∷ []
+unfolding same onlyAt only keep anyOf allOf countOf last insertBy sortBy each upsert fold collect first firstPlace anyBelow countBelow cell is within isNone inRange inClass width count jointAvailableMs contains holds hits isWorkingTime intervalFits jointWorking standing standingAt standingOver allows nearer withWindow lookAt withCalendar jointLook halfUp rounded dividedBy limited shareOf ceiling ceilingShare isShare atSpeed timedDuration activityAt activities findActivity activitiesOf overlap split requirementAt requirements namedFor isCandidate usageOn timingAt timing pieceOf durationOn neededMs constraintAt constraints resourceAt resources findResource listed windows transportTo transportBetween assignmentAt assignmentsBelow assignments assignmentsForActivityAll spanAt timeOnlyBelow timeOnly timeOnlyForActivity latest earliest taskCompletionTime taskAt tasks findTask activitySpan units uses checkKnown checkAssignment checkAssignmentAt checkAssignments calendarsOf checkResumable checkPlain checkBooking checkCalendars usage capOverride capOf loadAt peak checkResource checkFirstBooking checkCapacityAt checkCapacity firstOn checkOverlaps differing checkConstraint checkConstraintAt checkConstraints checkDeadline checkDeadlines partsOf workOf twoWorks checkPartsOf checkSplit checkActivityParts checkParts endToStart runsOnAll byPart piecesOf checkPair checkPairs checkTask checkPrecedence claim candidateId lacking claims unaccompanied notSimultaneous checkPieceRequirements CheckRequirements·piecesOf checkActivityRequirements checkRequirements beforeCapacity afterCapacity checkSchedule findings known seen checkFirst checkSpan checkSpanAt checkUnplaced checkTimeOnly heldAmong notHeld assignedWith isHeld runsOn eq ofBits mul ofInt div
+findings14 = refl
+
+-- the same with the bookings in the other order
+abbrev sheet15 : List ℤ
+sheet15 =
+    row (pos 1) (pos 0) none′ none′ (pos 0) (pos 0) (pos 0) (pos 0) (pos 0) (pos 0)
+    ++ row (pos 2) (pos 0) (pos 0) (pos 0) (pos 0) (pos 5) (pos 0) (pos 0) none′ (pos 0)
+    ++ row (pos 5) (pos 0) (pos 7) (pos 1) (pos 1) (pos 0) (pos 0) (pos 0) (pos 0) (pos 0)
+    ++ row (pos 6) (pos 0) (pos 0) (pos 1) (pos 0) (pos 0) (pos 0) (pos 0) (pos 0) (pos 0)
+    ++ row (pos 6) (pos 0) (pos 0) (pos 2) (pos 0) (pos 0) (pos 0) (pos 0) (pos 0) (pos 0)
+    ++ row (pos 5) (pos 0) (pos 8) (pos 1) (pos 1) (pos 0) (pos 0) (pos 0) (pos 0) (pos 0)
+    ++ row (pos 11) (pos 1) (pos 8) (pos 1) (pos 0) (pos 0) (pos 0) (pos 0) (pos 0) (pos 0)
+    ++ row (pos 11) (pos 2) (pos 7) (pos 1) (pos 0) (pos 0) (pos 0) (pos 0) (pos 0) (pos 0)
+    ++ row (pos 23) (pos 0) (pos 0) (pos 2) (pos 10) (pos 15) (pos 0) none′ none′ (pos 0)
+    ++ row (pos 23) (pos 0) (pos 0) (pos 1) (pos 10) (pos 15) (pos 0) none′ none′ (pos 0)
+
+pub findings15 : findings sheet15 ≡ []
+unfolding same onlyAt only keep anyOf allOf countOf last insertBy sortBy each upsert fold collect first firstPlace anyBelow countBelow cell is within isNone inRange inClass width count jointAvailableMs contains holds hits isWorkingTime intervalFits jointWorking standing standingAt standingOver allows nearer withWindow lookAt withCalendar jointLook halfUp rounded dividedBy limited shareOf ceiling ceilingShare isShare atSpeed timedDuration activityAt activities findActivity activitiesOf overlap split requirementAt requirements namedFor isCandidate usageOn timingAt timing pieceOf durationOn neededMs constraintAt constraints resourceAt resources findResource listed windows transportTo transportBetween assignmentAt assignmentsBelow assignments assignmentsForActivityAll spanAt timeOnlyBelow timeOnly timeOnlyForActivity latest earliest taskCompletionTime taskAt tasks findTask activitySpan units uses checkKnown checkAssignment checkAssignmentAt checkAssignments calendarsOf checkResumable checkPlain checkBooking checkCalendars usage capOverride capOf loadAt peak checkResource checkFirstBooking checkCapacityAt checkCapacity firstOn checkOverlaps differing checkConstraint checkConstraintAt checkConstraints checkDeadline checkDeadlines partsOf workOf twoWorks checkPartsOf checkSplit checkActivityParts checkParts endToStart runsOnAll byPart piecesOf checkPair checkPairs checkTask checkPrecedence claim candidateId lacking claims unaccompanied notSimultaneous checkPieceRequirements CheckRequirements·piecesOf checkActivityRequirements checkRequirements beforeCapacity afterCapacity checkSchedule findings known seen checkFirst checkSpan checkSpanAt checkUnplaced checkTimeOnly heldAmong notHeld assignedWith isHeld runsOn eq ofBits mul ofInt div
+findings15 = refl

@@ -5,6 +5,7 @@ use mathlib.Core.Bool.{Bool, true, false, cond, _&&_}
 use mathlib.Core.List.{List, [], _∷_, _++_, foldl}
 use native.Mathlib.Omega.{arith}
 use native.Mathlib.Nat.{add-zero}
+use lib.ListN.{getD}
 use Rattle.loops.specs.Lists.{given, each}
 use Rattle.loops.specs.Range.{fold, collect}
 use Rattle.loops.proofs.ListLaws.{each-collect, foldl-collect}
@@ -36,9 +37,11 @@ pub add-turn : (b : List ℕ) (t e k : ℕ) {r : ℕ} → r ≡ heldBy t (bookin
 unfolding addHeld
 add-turn b t e k h = ap (λ x. e + x) h
 
-pub higher-turn : (b : List ℕ) (n e k : ℕ) {l r : ℕ} → l ≡ loadOf (bookingsIn b n) (bookingAt b k .start) → r ≡ max e l → r ≡ higher b n e k
+pub higher-turn : (b : List ℕ) (n e k : ℕ) {t l r : ℕ} → t ≡ getD b (3 * k + 0) 0 → l ≡ loadOf (bookingsIn b n) t → r ≡ max e l → r ≡ higher b n e k
 unfolding higher
-higher-turn b n e k h q = q ∙ ap (max e) h
+higher-turn b n e k s h q =
+    let z : 3 * k + 0 ≡ 3 * k = omega arith in
+    q ∙ ap (max e) (h ∙ ap (loadOf (bookingsIn b n)) (s ∙ ap (λ i. getD b i 0) z))
 
 -- ---- ends
 

@@ -2,7 +2,8 @@
 //
 // Bookings are lent as numbers, three to a booking: start, end, usage. A booking takes its usage from its start on, up to its end and not with it.
 ghost use mathlib.Core.Path.{_≡_};
-ghost use Prim.Native.Nat.{ℕ, _<_, _≤_, max};
+ghost use Prim.Native.Nat.{ℕ, _+_, _*_, _<_, _≤_, max};
+ghost use lib.ListN.{getD};
 ghost use Rattle.load.specs.Load.{bookingAt, bookingsIn, heldBy, loadOf, peakOf, Light};
 
 // What booking j takes at the instant t.
@@ -33,6 +34,14 @@ fn load_at(b: &[u64; 2400], n: usize, t: u64) -> u64
     load
 }
 
+// Number c of booking j: 0 its start, 1 its end, 2 its usage.
+fn number_at(b: &[u64; 2400], j: usize, c: usize) -> u64
+    requires { ⌜ (j < 800) × (c < 3) ⌝ }
+    ensures { λ r. ⌜ r ≡ getD (now (b .entry)) (3 * j + c) 0 ⌝ }
+{
+    b[3 * j + c]
+}
+
 fn greater(a: u64, b: u64) -> u64
     ensures { λ r. ⌜ r ≡ max a b ⌝ }
 {
@@ -47,7 +56,7 @@ pub fn peak_of(b: &[u64; 2400], n: usize) -> u64
     let mut most = 0;
     let mut j = 0;
     while j < n {
-        most = greater(most, load_at(b, n, b[3 * j]));
+        most = greater(most, load_at(b, n, number_at(b, j, 0)));
         j += 1;
     }
     most

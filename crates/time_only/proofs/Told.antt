@@ -156,21 +156,23 @@ module _ (rows : List ℤ) (k : ℕ) where
 
   pub again-told : {f : Found} {a : ℕ} (s : Sink) {s′ : Sink} {id : ℕ} {r : Bool} → is rows k 0 24 ≡ true → Known rows k f → f ≡ At a → id ≡ num rows k 1
       → r ≡ seen (sheet rows) (timeOnlyBelow (sheet rows) k) (num rows a 1) → r ≡ true
-      → s′ ≡ emit s (given true (violation 2 9 id 95)) → s′ ≡ emit s (checkSpanAt clock (sheet rows) k)
+      → s′ ≡ emit s (given r (violation 2 9 id 95)) → s′ ≡ emit s (checkSpanAt clock (sheet rows) k)
   unfolding checkSpan
   again-told {f} {a} s h g e i v t q =
       let j : num rows a 1 ≡ num rows k 1 = placed rows 2 (num rows k 1) a (known-place g e) .id-is in
       let u : seen (sheet rows) (timeOnlyBelow (sheet rows) k) (num rows k 1) ≡ true = rw (← j) (sym v ∙ t) in
-      rw (span-at h, known-some f a g e, u) (rw i at q)
+      rw (span-at h, known-some f a g e, u) (rw (t, i) at q)
 
-  pub here-told : {f : Found} {a : ℕ} (s : Sink) {s′ : Sink} {r : Bool} → is rows k 0 24 ≡ true → Known rows k f → f ≡ At a
+  pub here-told : {f : Found} {a : ℕ} (s : Sink) {s₁ s′ : Sink} {id : ℕ} {r : Bool} → is rows k 0 24 ≡ true → Known rows k f → f ≡ At a → id ≡ num rows k 1
       → r ≡ seen (sheet rows) (timeOnlyBelow (sheet rows) k) (num rows a 1) → r ≡ false
-      → s′ ≡ emit s (checkFirst clock (sheet rows) (spanOf rows k) (activityOf rows a)) → s′ ≡ emit s (checkSpanAt clock (sheet rows) k)
+      → s₁ ≡ emit s (given r (violation 2 9 id 95))
+      → s′ ≡ emit s₁ (checkFirst clock (sheet rows) (spanOf rows k) (activityOf rows a)) → s′ ≡ emit s (checkSpanAt clock (sheet rows) k)
   unfolding checkSpan
-  here-told {f} {a} s h g e v t q =
+  here-told {f} {a} s {s₁} h g e i v t p q =
+      let z : s₁ ≡ s = (rw t at p) ∙ emit-none s in
       let j : num rows a 1 ≡ num rows k 1 = placed rows 2 (num rows k 1) a (known-place g e) .id-is in
       let u : seen (sheet rows) (timeOnlyBelow (sheet rows) k) (num rows k 1) ≡ false = rw (← j) (sym v ∙ t) in
-      rw (span-at h, known-some f a g e, u) q
+      rw (span-at h, known-some f a g e, u) (q ∙ ap (λ y. emit y (checkFirst clock (sheet rows) (spanOf rows k) (activityOf rows a))) z)
 
 pub span-silent : (rows : List ℤ) → Silent (ofKind rows 24) (checkSpanAt clock (sheet rows))
 unfolding checkSpanAt each ofKind

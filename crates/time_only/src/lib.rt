@@ -167,7 +167,7 @@ fn check_first(
     tell(out, m3, of_task, 11, id, 90)
 }
 
-// The findings of the span of row k.
+// The findings of the span of row k. A second span of an activity is one finding and no more.
 fn check_span(
     rows: &[i64],
     links: &[u16; 1600],
@@ -184,10 +184,12 @@ fn check_span(
     let Found::At(a) = activity else {
         return tell(out, n, true, 9, id, 95);
     };
-    if is_seen(rows, owned, a, k) {
-        return tell(out, n, true, 9, id, 95);
+    let again = is_seen(rows, owned, a, k);
+    let m = tell(out, n, again, 9, id, 95);
+    if again {
+        return m;
     }
-    check_first(rows, links, owned, a, k, out, n)
+    check_first(rows, links, owned, a, k, out, m)
 }
 
 fn check_spans(
