@@ -112,12 +112,12 @@ fn of_call(a: feasibility::Answer) -> Outcome
     ensures { λ r. ⌜ r ≡ ofCall (answered a) ⌝ }
 {
     match a {
-        feasibility::Answer::Accepted(n) => outcome(0, n as u64),
-        feasibility::Answer::Refused(k, p) => outcome(k, p as u64),
+        feasibility::Answer::Accepted(n) => numbered(0, n as u64),
+        feasibility::Answer::Refused(k, p) => numbered(k, p as u64),
     }
 }
 
-fn outcome(number: u64, place: u64) -> Outcome
+fn numbered(number: u64, place: u64) -> Outcome
     ensures { λ r. ⌜ r ≡ record { number = number; place = place } ⌝ }
 {
     Outcome {
