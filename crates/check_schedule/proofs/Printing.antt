@@ -95,7 +95,6 @@ pub checked-as : {rows before found found′ : List ℤ} {a b : Call·Answer} �
 checked-as {rows = rows} {before = before} {found′ = found′} {a = a} p q c =
     subst (λ x. Checked (orFull sheetRefusal) rows before (answered x) found′) q (subst (λ x. Checked (orFull sheetRefusal) rows before (answered a) x) (sym p) c)
 
-
 accepted-inj : (n m : ℕ) → accepted n ≡ accepted m → n ≡ m
 accepted-inj n m p = cc
 
@@ -122,13 +121,14 @@ module _ (rows before : List ℤ) (room : length before ≡ 8000) where
     accepted-by none n found h e f q s =
         let z : n ≡ length (findings rows) = accepted-inj _ _ (e .counted) in
         let d = stands o (printedAccepted n found) long (accepted-fits found f n (omega (arith, h refl))) q s in
-        let l : length (flat (e .lines)) ≡ 4 * n = length-flat (e .lines) ∙ ap (λ m. 4 * m) (length-listed rows (e .lines) (e .listed) ∙ sym z) in
-        ( d .within
-        , record {
+        let l : length (flat (e .lines)) ≡ 4 * n = length-flat (e .lines) ∙ ap (λ m. 4 * m) (length-listed rows (e .lines) (e .listed) ∙ sym z) in (
+          d .within,
+          record {
             lines = e .lines;
             listed = e .listed;
             printed = d .first ∙ ap (printedAccepted n) (e .buffer) ∙ accepted-first (flat (e .lines)) _ n l ∙ ap (λ m. printedAccepted m (flat (e .lines))) z;
-          })
+          },
+        )
 
     refused-by : (t : Option Refusal) (number place : ℕ) (found : List ℤ)
         → Ended (orFull sheetRefusal) t rows before (refused number place) found

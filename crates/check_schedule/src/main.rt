@@ -46,7 +46,11 @@ fn print_sheet(rows: &[i64], out: &mut [u8]) -> usize
     let found = kept(found);
     match answer {
         Answer::Accepted(n) => output::print_answer(text::Answer::Accepted(n), &found, out),
-        Answer::Refused(number, place) => output::print_answer(text::Answer::Refused(number, place), &found, out),
+        Answer::Refused(number, place) => output::print_answer(
+            text::Answer::Refused(number, place),
+            &found,
+            out,
+        ),
     }
 }
 
@@ -63,7 +67,11 @@ fn print_text(text: &[u8], out: &mut [u8]) -> usize
             let end = 10 * n;
             print_sheet(&rows[..end], out)
         }
-        text::Answer::Refused(number, place) => output::print_answer(text::Answer::Refused(number, place), &rows, out),
+        text::Answer::Refused(number, place) => output::print_answer(
+            text::Answer::Refused(number, place),
+            &rows,
+            out,
+        ),
     }
 }
 
