@@ -1,5 +1,5 @@
 -- What stands in the buffer after `print_answer`, of a sheet and of a text. Assumes nothing.
-use Prim.Native.Nat.{ℕ, _+_, _*_, _/_, _^_, _<_, _≤_, min}
+use Prim.Native.Nat.{ℕ, zero, suc, _+_, _*_, _/_, _^_, _<_, _≤_, min}
 use mathlib.Core.Path.{_≡_, refl, sym, ap, _∙_, subst}
 use mathlib.Core.Bool.{Bool, true, false, cond}
 use mathlib.Core.List.{List, [], _∷_, _++_}
@@ -7,9 +7,14 @@ use mathlib.Core.Option.{Option, none, some}
 use native.Mathlib.Omega.{arith}
 use borrow.Author.Tests.{ltb-false}
 use lib.Dec.{ltb}
-use lib.IntN.{ℤ, pos, natAbs}
+use lib.IntN.{ℤ, pos, negsuc, natAbs}
 use lib.ListN.{length, getD, take, drop, length-append, List·getD-append}
 use lib.Seq.{sets, sets-eq, take-at}
+use mir.Syntax.{w64}
+use mir.Val.{Val}
+use denote.Signed.{SInt}
+use denote.Array.{each}
+use denote.Shadow.{shadow}
 use Rattle.loops.specs.Search.{orElse}
 use Rattle.loops.specs.Range.{collect}
 use Rattle.loops.proofs.RangeLaws.{collect-ext}
@@ -24,10 +29,24 @@ use Rattle.findings.specs.declared.Violation.{Violation}
 use Rattle.findings.specs.Sink.{flat}
 use Rattle.checks.specs.CheckSchedule.{findings, checkSchedule}
 use Rattle.shift.specs.Call.{accepted, refused, Listed, Written, Ended, Checked}
-use Rattle.feasibility.specs.Table.{orFull, sheetRefusal}
+use Rattle.feasibility.specs.declared.Answer.{Answer as Call·Answer}
+use Rattle.feasibility.specs.Table.{orFull, sheetRefusal, answered}
 use Rattle.output.specs.Printed.{findingNumber, field, findingLine, printedRefused, printedAccepted}
 use Rattle.output.proofs.FitLaws.{accepted-fits, refused-fits}
 use Rattle.check_schedule.specs.Program.{PrintedLines, PrintedBy, PrintedSheet, PrintedOf, PrintedText}
+
+-- ---- numbers of 64 bits
+
+each-small : (xs : List ℤ) (us : List Val) (i : ℕ) → shadow (each ℤ (SInt w64 .own) xs us) → natAbs (getD xs i (pos 0)) ≤ 2 ^ 63
+each-small [] us i p = omega arith
+each-small (x ∷ xs) [] i p = absurd p
+each-small (pos n ∷ xs) (u ∷ us) zero p = omega (arith, p .0 .1)
+each-small (negsuc n ∷ xs) (u ∷ us) zero p = omega (arith, p .0 .1)
+each-small (x ∷ xs) (u ∷ us) (suc i) p = each-small xs us i (p .1)
+
+pub small-numbers : (xs : List ℤ) (us : List Val) → shadow (each ℤ (SInt w64 .own) xs us) → (k c : ℕ) → natAbs (findingNumber xs k c) ≤ 2 ^ 63
+unfolding findingNumber
+small-numbers xs us p k c = each-small xs us (k * 4 + c) p
 
 -- ---- the buffer
 
@@ -70,6 +89,12 @@ module _ (xs ys : List ℤ) where
 
 -- ---- a sheet
 
+-- the call's answer, taken apart, and the findings, handed on
+pub checked-as : {rows before found found′ : List ℤ} {a b : Call·Answer} → found′ ≡ found → a ≡ b
+    → Checked (orFull sheetRefusal) rows before (answered a) found → Checked (orFull sheetRefusal) rows before (answered b) found′
+checked-as {rows = rows} {before = before} {found′ = found′} {a = a} p q c =
+    subst (λ x. Checked (orFull sheetRefusal) rows before (answered x) found′) q (subst (λ x. Checked (orFull sheetRefusal) rows before (answered a) x) (sym p) c)
+
 accepted-inj : (n m : ℕ) → accepted n ≡ accepted m → n ≡ m
 accepted-inj n m p = cc
 
@@ -96,13 +121,14 @@ module _ (rows before : List ℤ) (room : length before ≡ 8000) where
     accepted-by none n found h e f q s =
         let z : n ≡ length (findings rows) = accepted-inj _ _ (e .counted) in
         let d = stands o (printedAccepted n found) long (accepted-fits found f n (omega (arith, h refl))) q s in
-        let l : length (flat (e .lines)) ≡ 4 * n = length-flat (e .lines) ∙ ap (λ m. 4 * m) (length-listed rows (e .lines) (e .listed) ∙ sym z) in
-        ( d .within
-        , record {
+        let l : length (flat (e .lines)) ≡ 4 * n = length-flat (e .lines) ∙ ap (λ m. 4 * m) (length-listed rows (e .lines) (e .listed) ∙ sym z) in (
+          d .within,
+          record {
             lines = e .lines;
             listed = e .listed;
             printed = d .first ∙ ap (printedAccepted n) (e .buffer) ∙ accepted-first (flat (e .lines)) _ n l ∙ ap (λ m. printedAccepted m (flat (e .lines))) z;
-          })
+          },
+        )
 
     refused-by : (t : Option Refusal) (number place : ℕ) (found : List ℤ)
         → Ended (orFull sheetRefusal) t rows before (refused number place) found
@@ -147,18 +173,21 @@ module _ (text : List ℕ) (lent : List ℤ) (room : length lent ≡ 8000) {a : 
       (d .within, record { by-answer = rw z (d .first) })
 
   -- the rows of an accepted text
-  rows-are : (n : ℕ) → answerOf text 800 ≡ Accepted n → (t : Bool) → ltb 65536 (length text) ≡ t → length (rowsOf (parts 10 text)) ≡ 10 * n
+  rows-are : (n : ℕ) → answerOf text 800 ≡ Accepted n → (length (rowsOf (parts 10 text)) ≡ 10 * n) × (n ≤ 800)
   unfolding answerOf
-  rows-are n e t q = go t (rw q at e)
+  rows-are n e = go (ltb 65536 (length text)) e
     where
-      go : (t : Bool) → cond t (Refused 8 0) (answerFrom 800 0 (parts 10 text)) ≡ Accepted n → length (rowsOf (parts 10 text)) ≡ 10 * n
+      go : (t : Bool) → cond t (Refused 8 0) (answerFrom 800 0 (parts 10 text)) ≡ Accepted n → (length (rowsOf (parts 10 text)) ≡ 10 * n) × (n ≤ 800)
       go true e = let z : _≡_ {A = ℕ} 0 1 = cc in absurd (omega arith)
-      go false e = omega (arith, accepted-rows 800 0 (parts 10 text) n (omega arith) e .0)
+      go false e = let w = accepted-rows 800 0 (parts 10 text) n (omega arith) e in (omega (arith, w .0), w .1)
+
+  pub few-rows : {n : ℕ} → a ≡ Accepted n → n ≤ 800
+  few-rows {n = n} q = rows-are n (sym answer-is ∙ q) .1
 
   pub text-accepted : {rows : List ℤ} {n : ℕ} (bytes : List ℕ) → rows ≡ rowsAfter (answerOf text (length lent / 10)) text lent → a ≡ Accepted n
       → PrintedSheet (take (10 * n) rows) bytes → PrintedText text bytes
   text-accepted {n = n} bytes e q p =
       let z : answerOf text 800 ≡ Accepted n = sym answer-is ∙ q in
       let w : answerOf text (length lent / 10) ≡ Accepted n = sym told ∙ q in
-      let first : take (10 * n) _ ≡ rowsOf (parts 10 text) = ap (take (10 * n)) (rw w at e) ∙ take-at (rowsOf (parts 10 text)) _ (10 * n) (rows-are n z (ltb 65536 (length text)) refl) in
+      let first : take (10 * n) _ ≡ rowsOf (parts 10 text) = ap (take (10 * n)) (rw w at e) ∙ take-at (rowsOf (parts 10 text)) _ (10 * n) (rows-are n z .0) in
       record { by-answer = rw z (subst (λ (l : List ℤ). PrintedSheet l bytes) first p) }

@@ -28,6 +28,13 @@ fn longest_answer() -> [u8; 168030]
     [0; 168030]
 }
 
+// The numbers as they are. Handed on by value they are known to be numbers of 64 bits, which bounds what is printed of them.
+fn kept(numbers: [i64; 8000]) -> [i64; 8000]
+    ensures { λ r. ⌜ r ≡ numbers ⌝ }
+{
+    numbers
+}
+
 // Checks the rows and puts what is printed of them into out. It answers how many bytes that are.
 fn print_sheet(rows: &[i64], out: &mut [u8]) -> usize
     requires { ⌜ length (now out) ≡ 168030 ⌝ }
@@ -36,9 +43,14 @@ fn print_sheet(rows: &[i64], out: &mut [u8]) -> usize
 {
     let mut found = numbers();
     let answer = feasibility::check_schedule(rows, &mut found);
+    let found = kept(found);
     match answer {
         Answer::Accepted(n) => output::print_answer(text::Answer::Accepted(n), &found, out),
-        Answer::Refused(number, place) => output::print_answer(text::Answer::Refused(number, place), &found, out),
+        Answer::Refused(number, place) => output::print_answer(
+            text::Answer::Refused(number, place),
+            &found,
+            out,
+        ),
     }
 }
 
@@ -55,7 +67,11 @@ fn print_text(text: &[u8], out: &mut [u8]) -> usize
             let end = 10 * n;
             print_sheet(&rows[..end], out)
         }
-        text::Answer::Refused(number, place) => output::print_answer(text::Answer::Refused(number, place), &rows, out),
+        text::Answer::Refused(number, place) => output::print_answer(
+            text::Answer::Refused(number, place),
+            &rows,
+            out,
+        ),
     }
 }
 

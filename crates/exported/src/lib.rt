@@ -112,14 +112,17 @@ fn of_call(a: feasibility::Answer) -> Outcome
     ensures { λ r. ⌜ r ≡ ofCall (answered a) ⌝ }
 {
     match a {
-        feasibility::Answer::Accepted(n) => Outcome {
-            number: 0,
-            place: n as u64,
-        },
-        feasibility::Answer::Refused(k, p) => Outcome {
-            number: k,
-            place: p as u64,
-        },
+        feasibility::Answer::Accepted(n) => numbered(0, n as u64),
+        feasibility::Answer::Refused(k, p) => numbered(k, p as u64),
+    }
+}
+
+fn numbered(number: u64, place: u64) -> Outcome
+    ensures { λ r. ⌜ r ≡ record { number = number; place = place } ⌝ }
+{
+    Outcome {
+        number: number,
+        place: place,
     }
 }
 

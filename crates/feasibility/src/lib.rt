@@ -120,7 +120,13 @@ fn write_findings(
 }
 
 // Refusal 6, then the findings.
-fn check_times(rows: &[i64], kinds: &[u16; 832], links: &[u16; 1600], owned: &[u16; 8810], out: &mut [i64]) -> Answer
+fn check_times(
+    rows: &[i64],
+    kinds: &[u16; 832],
+    links: &[u16; 1600],
+    owned: &[u16; 8810],
+    out: &mut [i64],
+) -> Answer
     requires { ⌜ Indexed (now rows) (now kinds) (now links) (now owned) ⌝ }
     ensures { λ r. ⌜ Checked (orFull sheetRefusal) (now (rows .entry)) (now (out .entry)) (answered r) (now (out .exit)) ⌝ }
 {
