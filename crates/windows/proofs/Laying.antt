@@ -1,15 +1,15 @@
 -- Windows are laid out row by row along the chain of their owner. Assumes nothing.
 use Prim.Native.Nat.{ℕ, zero, suc, _+_, _*_, _/_, _<_, _≤_, min}
 use mathlib.Core.Path.{_≡_, refl, ap, ap₂, sym, _∙_}
-use mathlib.Core.Logic.{_⊎_, inl, inr, ⊎-elim}
+use mathlib.Core.Logic.{⊎-elim}
 use mathlib.Core.Bool.{true, false, _&&_}
 use mathlib.Core.List.{List, [], _∷_, _++_, map, append-nil}
-use mathlib.Core.Option.{Option, none, some}
+use mathlib.Core.Option.{some}
 use native.Mathlib.Omega.{arith}
 use borrow.Author.Tests.{le-leb, lt-leb}
 use lib.Dec.{leb}
 use lib.IntN.{ℤ, pos}
-use lib.ListN.{length, getD}
+use lib.ListN.{length}
 use Rattle.loops.specs.Lists.{given}
 use Rattle.loops.specs.Range.{collect}
 use Rattle.loops.specs.Search.{countBelow}
@@ -19,7 +19,7 @@ use Rattle.loops.proofs.RangeLaws.{collect-step, collect-ext}
 use Rattle.loops.proofs.Walks.{over, stands-end}
 use Rattle.triples.specs.Triples.{setTriple}
 use Rattle.triples.proofs.TripleLaws.{triple-length, first-is, second-is, third-is, below-kept}
-use Rattle.calendar.specs.Calendar.{Window, Calendar}
+use Rattle.calendar.specs.Calendar.{Window}
 use Rattle.calendar.specs.Layout.{windowsIn, windowAt, windowOf, windowsOf, calendarOf}
 use Rattle.rows.specs.Cells.{rowCount, num, is}
 use Rattle.sheet.specs.Places.{placeOf}

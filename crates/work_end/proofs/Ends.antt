@@ -1,21 +1,18 @@
 -- Work that is started in a sheet ends, if it does, within the numbers of 64 bits. Assumes nothing.
 use Prim.Native.Nat.{ℕ, zero, suc, _+_, _^_, _<_, _≤_, max}
 use mathlib.Core.Path.{_≡_, refl, sym, ap, _∙_}
-use mathlib.Core.Bool.{Bool, true, false, cond, not, _&&_, _||_, true≢false}
+use mathlib.Core.Bool.{Bool, true, false, cond, _&&_, _||_, true≢false}
 use mathlib.Core.List.{List, [], _∷_, _++_}
-use mathlib.Core.Option.{Option, none, some}
+use mathlib.Core.Option.{none, some}
 use native.Mathlib.Omega.{arith}
 use borrow.Author.Tests.{leb-true, lt-ltb}
-use lib.Dec.{ltb}
 use lib.IntN.{ℤ, pos, negsuc}
-use lib.ListN.{length, getD}
 use lib.Signed.{leZ}
 use Rattle.loops.specs.Numbers.{toNat}
 use Rattle.loops.specs.Range.{collect}
-use Rattle.loops.specs.Lists.{given, option}
-use Rattle.loops.specs.Search.{orElse}
-use Rattle.calendar.specs.Clock.{clock, amountOf, ahead}
-use Rattle.calendar.specs.Calendar.{Window, Calendar, jointWorking}
+use Rattle.loops.specs.Lists.{given}
+use Rattle.calendar.specs.Clock.{clock, amountOf}
+use Rattle.calendar.specs.Calendar.{Calendar, jointWorking}
 use Rattle.calendar.specs.Amount.{since}
 use Rattle.calendar.specs.WorkEnd.{Ending, endsAt, pauses, never, mapEnding, after, endIn, reach, reaches, endAfter, endFrom, jointWorkEnd}
 use Rattle.calendar.specs.Layout as layout
@@ -24,7 +21,7 @@ use Rattle.calendar.proofs.Lending.{calendars-at}
 use Rattle.rows.specs.Class.{id-c, t-c, g-c}
 use Rattle.rows.specs.Ranges.{within, isNone, inRange, inClass}
 use Rattle.rows.specs.Cells.{rowCount, num, is}
-use Rattle.sheet.specs.Refusals.{Refusal, refuse, refusalOf, verdictOf}
+use Rattle.sheet.specs.Refusals.{refusalOf, verdictOf}
 use Rattle.sheet.specs.declared.Verdict.{Verdict}
 use Rattle.sheet.specs.declared.Verdict.the-variants as verdict
 use Rattle.sheet.specs.Places.{placeOf}
