@@ -19,6 +19,7 @@ use Rattle.sheet.proofs.Lookups.{and-left}
 use Rattle.model.specs.Sheet.{sheet}
 use Rattle.model.specs.Activity.{Activity}
 use Rattle.model.specs.Schedule.{Assignment, assignmentAt, assignmentsBelow}
+use Rattle.model.specs.Records.{activityOf, assignmentOf}
 use Rattle.model.proofs.RowLaws.{assignment-row, assignment-none}
 use Rattle.model.proofs.OwnedLaws.{of-activity}
 use Rattle.checks.specs.Pieces.{indexOf, sameIndex, ofPiece, isHeld}
@@ -27,7 +28,6 @@ use Rattle.pieces.specs.Bookings.{inPiece, keyAt}
 use Rattle.pieces.specs.Held.{heldAt}
 use Rattle.pieces.proofs.Chains.{blind-if, piece-owned, piece-kind}
 use Rattle.pieces.proofs.Companions.{of-piece}
-use Rattle.times.specs.Rows.{bookingOf, activityOf}
 use Rattle.assignments.specs.Bookings.{Booked, takesUnit}
 use Rattle.assignments.proofs.Placing.{own-row}
 
@@ -47,7 +47,7 @@ one-counted false = refl
 
 module _ (rows : List ℤ) (a k : ℕ) where
   taking : Assignment ℤ → Bool
-  taking x = ofPiece (bookingOf rows k) x && (not (misplaced (sheet rows) (activityOf rows a) x) && not (isHeld (sheet rows) x))
+  taking x = ofPiece (assignmentOf rows k) x && (not (misplaced (sheet rows) (activityOf rows a) x) && not (isHeld (sheet rows) x))
 
   taking-at : (j : ℕ) → countOf taking (assignmentAt (sheet rows) j) ≡ cond (takesUnit rows a k j) 1 0
   unfolding takesUnit countOf anyOf taking
@@ -55,15 +55,15 @@ module _ (rows : List ℤ) (a k : ℕ) where
     where
       go : (b : Bool) → is rows j 0 23 ≡ b
           → countOf taking (assignmentAt (sheet rows) j) ≡ cond (anyOf taking (assignmentAt (sheet rows) j)) 1 0
-      go true h = rw (assignment-row rows j h) (one-counted (taking (bookingOf rows j)))
+      go true h = rw (assignment-row rows j h) (one-counted (taking (assignmentOf rows j)))
       go false h = rw (assignment-none rows j h)
 
-  pub uses-counted : uses (sheet rows) (activityOf rows a) (bookingOf rows k) (assignmentsBelow (sheet rows) k) ≡ countBelow (takesUnit rows a k) k
+  pub uses-counted : uses (sheet rows) (activityOf rows a) (assignmentOf rows k) (assignmentsBelow (sheet rows) k) ≡ countBelow (takesUnit rows a k) k
   unfolding uses assignmentsBelow taking
   uses-counted = count-places taking (assignmentAt (sheet rows)) (takesUnit rows a k) taking-at k
 
   pub uses-end : {j x : ℕ} → j ≤ k → k ≤ j → k ≤ 800 → x ≡ countBelow (takesUnit rows a k) j
-      → (x ≡ uses (sheet rows) (activityOf rows a) (bookingOf rows k) (assignmentsBelow (sheet rows) k)) × (x ≤ 800)
+      → (x ≡ uses (sheet rows) (activityOf rows a) (assignmentOf rows k) (assignmentsBelow (sheet rows) k)) × (x ≤ 800)
   uses-end {j} {x} h l m e =
       let z : j ≡ k = omega arith in
       let c = counted-le (takesUnit rows a k) j e in
@@ -72,28 +72,28 @@ module _ (rows : List ℤ) (a k : ℕ) where
   module _ (acc : Accepted rows) (bk : Booked rows a k) where
     -- what the code asks of row j
     pub takes-at : (j : ℕ) → j < rowCount rows
-        → takesUnit rows a k j ≡ (inPiece rows k j && (not (misplaced (sheet rows) (activityOf rows a) (bookingOf rows j)) && not (heldAt rows j)))
+        → takesUnit rows a k j ≡ (inPiece rows k j && (not (misplaced (sheet rows) (activityOf rows a) (assignmentOf rows j)) && not (heldAt rows j)))
     unfolding takesUnit heldAt anyOf
     takes-at j l = go (is rows j 0 23) refl
       where
         go : (b : Bool) → is rows j 0 23 ≡ b
-            → takesUnit rows a k j ≡ (inPiece rows k j && (not (misplaced (sheet rows) (activityOf rows a) (bookingOf rows j)) && not (anyOf (isHeld (sheet rows)) (assignmentAt (sheet rows) j))))
+            → takesUnit rows a k j ≡ (inPiece rows k j && (not (misplaced (sheet rows) (activityOf rows a) (assignmentOf rows j)) && not (anyOf (isHeld (sheet rows)) (assignmentAt (sheet rows) j))))
         go true h =
             rw (assignment-row rows j h)
-            (or-false (ofPiece (bookingOf rows k) (bookingOf rows j) && (not (misplaced (sheet rows) (activityOf rows a) (bookingOf rows j)) && not (isHeld (sheet rows) (bookingOf rows j))))
-            ∙ ap₂ (λ x y. x && (not (misplaced (sheet rows) (activityOf rows a) (bookingOf rows j)) && not y)) (of-piece rows acc j k l (bk .within) h (bk .kind))
-            (sym (or-false (isHeld (sheet rows) (bookingOf rows j)))))
+            (or-false (ofPiece (assignmentOf rows k) (assignmentOf rows j) && (not (misplaced (sheet rows) (activityOf rows a) (assignmentOf rows j)) && not (isHeld (sheet rows) (assignmentOf rows j))))
+            ∙ ap₂ (λ x y. x && (not (misplaced (sheet rows) (activityOf rows a) (assignmentOf rows j)) && not y)) (of-piece rows acc j k l (bk .within) h (bk .kind))
+            (sym (or-false (isHeld (sheet rows) (assignmentOf rows j)))))
         go false h = rw (assignment-none rows j h) (unfold inPiece in rw h)
 
     pub takes-apart : {r : Bool} (j : ℕ) → j < rowCount rows → r ≡ inPiece rows k j → r ≡ false → false ≡ takesUnit rows a k j
-    takes-apart j l e f = sym (takes-at j l ∙ ap (λ x. x && (not (misplaced (sheet rows) (activityOf rows a) (bookingOf rows j)) && not (heldAt rows j))) (sym e ∙ f))
+    takes-apart j l e f = sym (takes-at j l ∙ ap (λ x. x && (not (misplaced (sheet rows) (activityOf rows a) (assignmentOf rows j)) && not (heldAt rows j))) (sym e ∙ f))
 
     pub takes-misplaced : {r m : Bool} (j : ℕ) → j < rowCount rows → r ≡ inPiece rows k j → r ≡ true
-        → m ≡ misplaced (sheet rows) (activityOf rows a) (bookingOf rows j) → m ≡ true → false ≡ takesUnit rows a k j
+        → m ≡ misplaced (sheet rows) (activityOf rows a) (assignmentOf rows j) → m ≡ true → false ≡ takesUnit rows a k j
     takes-misplaced j l e f g i = sym (takes-at j l ∙ ap₂ (λ x y. x && (not y && not (heldAt rows j))) (sym e ∙ f) (sym g ∙ i))
 
     pub takes-free : {r m d : Bool} (j : ℕ) → j < rowCount rows → r ≡ inPiece rows k j → r ≡ true
-        → m ≡ misplaced (sheet rows) (activityOf rows a) (bookingOf rows j) → m ≡ false → d ≡ heldAt rows j → not d ≡ takesUnit rows a k j
+        → m ≡ misplaced (sheet rows) (activityOf rows a) (assignmentOf rows j) → m ≡ false → d ≡ heldAt rows j → not d ≡ takesUnit rows a k j
     takes-free {d = d} j l e f g i q = ap not q ∙ sym (takes-at j l ∙ ap₂ (λ x y. x && (not y && not (heldAt rows j))) (sym e ∙ f) (sym g ∙ i))
 
   other : (j : ℕ) → is rows j 1 (num rows k 1) ≡ false → eqb (num rows j 1) (num rows k 1) ≡ false
@@ -114,6 +114,6 @@ module _ (rows : List ℤ) (a k : ℕ) where
       go j e true h =
           let z : is rows j 1 (num rows k 1) ≡ false = sym (ap (λ x. x && is rows j 1 (num rows k 1)) h) ∙ sym (owned-is j) ∙ e in
           rw (assignment-row rows j h)
-          (off (eqb (num rows j 1) (num rows k 1)) (sameIndex (indexOf (bookingOf rows j .part)) (indexOf (bookingOf rows k .part)))
-          (not (misplaced (sheet rows) (activityOf rows a) (bookingOf rows j)) && not (isHeld (sheet rows) (bookingOf rows j))) (other j z))
+          (off (eqb (num rows j 1) (num rows k 1)) (sameIndex (indexOf (assignmentOf rows j .part)) (indexOf (assignmentOf rows k .part)))
+          (not (misplaced (sheet rows) (activityOf rows a) (assignmentOf rows j)) && not (isHeld (sheet rows) (assignmentOf rows j))) (other j z))
       go j e false h = rw (assignment-none rows j h)

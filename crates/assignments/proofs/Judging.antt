@@ -30,14 +30,13 @@ use Rattle.model.specs.Sheet.{sheet, maybeAt, read, asInstant}
 use Rattle.model.specs.Task.{Task, findTask}
 use Rattle.model.specs.Activity.{Activity, findActivity, neededMs}
 use Rattle.model.specs.Schedule.{Assignment, assignmentAt, assignmentsBelow, unknownActivity, durationTooShort, earlyStart, violation}
+use Rattle.model.specs.Records.{taskOf, activityOf, assignmentOf}
 use Rattle.model.proofs.RowLaws.{assignment-row, assignment-none}
-use Rattle.model.specs.Records.{taskOf}
 use Rattle.model.proofs.Accepting.{has-owner}
 use Rattle.model.proofs.Finds.{find-task, find-activity, own-task}
 use Rattle.checks.specs.Pieces.{isHeld, runsOn}
 use Rattle.checks.specs.CheckAssignments.{misplaced, units, uses, earlyAssignment, checkKnown, checkAssignment, checkAssignmentAt, checkAssignments}
 use Rattle.pieces.specs.Held.{heldAt}
-use Rattle.times.specs.Rows.{bookingOf, activityOf}
 use Rattle.times.specs.Times.{Needs}
 use Rattle.assignments.specs.Bookings.{Booked}
 use Rattle.assignments.proofs.Placing.{activity-named, activity-kind}
@@ -50,25 +49,25 @@ module _ (rows : List ℤ) where
   early-cell b s e (pos n) = rw e
   early-cell b s e (negsuc n) = rw (le-ltb s 0 (omega arith))
 
-  early-is : (k r c : ℕ) → earlyAssignment clock (sheet rows) (bookingOf rows k) (maybeAt rows r c) ≡ given (ltb (num rows k 4) (num rows r c)) (earlyStart 1 (num rows k 1))
-  early-is k r c = early-cell (bookingOf rows k) (num rows k 4) refl (cell rows r c)
+  early-is : (k r c : ℕ) → earlyAssignment clock (sheet rows) (assignmentOf rows k) (maybeAt rows r c) ≡ given (ltb (num rows k 4) (num rows r c)) (earlyStart 1 (num rows k 1))
+  early-is k r c = early-cell (assignmentOf rows k) (num rows k 4) refl (cell rows r c)
 
   task-there : (a : ℕ) → lacks task-c rows a 2 ≡ false → placeOf rows 1 (num rows a 2) ≡ none → ⊥
   unfolding lacks
   task-there a e q = true≢false (rw q at e)
 
   early-task : (acc : Accepted rows) (a k t : ℕ) → Booked rows a k → t ≡ ownPlace rows a
-      → earlyAssignment clock (sheet rows) (bookingOf rows k) (option (findTask (sheet rows) (num rows a 2)) none (λ x. x .release))
+      → earlyAssignment clock (sheet rows) (assignmentOf rows k) (option (findTask (sheet rows) (num rows a 2)) none (λ x. x .release))
       ≡ given (ltb (num rows k 4) (num rows t 3)) (earlyStart 1 (num rows k 1))
   early-task acc a k t b e =
-      ap (λ x. earlyAssignment clock (sheet rows) (bookingOf rows k) (option x none (λ y. y .release))) (find-task rows (num rows a 2))
+      ap (λ x. earlyAssignment clock (sheet rows) (assignmentOf rows k) (option x none (λ y. y .release))) (find-task rows (num rows a 2))
       ∙ go (placeOf rows 1 (num rows a 2)) refl
     where
       absent : placeOf rows 1 (num rows a 2) ≡ none → ⊥
       absent q = task-there a (has-owner rows acc a 2 2 (activity-named rows a k b .within) (activity-kind rows a k b)) q
 
       go : (x : Option ℕ) → placeOf rows 1 (num rows a 2) ≡ x
-          → earlyAssignment clock (sheet rows) (bookingOf rows k) (option (option x none (λ j. some (taskOf rows j))) none (λ y. y .release))
+          → earlyAssignment clock (sheet rows) (assignmentOf rows k) (option (option x none (λ j. some (taskOf rows j))) none (λ y. y .release))
           ≡ given (ltb (num rows k 4) (num rows t 3)) (earlyStart 1 (num rows k 1))
       go none q = absurd (absent q)
       go (some j) q =
@@ -88,51 +87,51 @@ module _ (rows : List ℤ) where
 
   module _ (a k : ℕ) where
     abbrev known : List Violation
-    known = checkKnown clock (sheet rows) (assignmentsBelow (sheet rows) k) (bookingOf rows k) (activityOf rows a)
+    known = checkKnown clock (sheet rows) (assignmentsBelow (sheet rows) k) (assignmentOf rows k) (activityOf rows a)
 
-    misplaced-is : misplaced (sheet rows) (activityOf rows a) (bookingOf rows k) ≡ true → known ≡ unknownActivity 1 (num rows k 1) ∷ []
+    misplaced-is : misplaced (sheet rows) (activityOf rows a) (assignmentOf rows k) ≡ true → known ≡ unknownActivity 1 (num rows k 1) ∷ []
     unfolding checkKnown
     misplaced-is h = cond-yes _ _ h
 
-    held-is : misplaced (sheet rows) (activityOf rows a) (bookingOf rows k) ≡ false → isHeld (sheet rows) (bookingOf rows k) ≡ true → known ≡ []
+    held-is : misplaced (sheet rows) (activityOf rows a) (assignmentOf rows k) ≡ false → isHeld (sheet rows) (assignmentOf rows k) ≡ true → known ≡ []
     unfolding checkKnown
     held-is h g = cond-no _ _ h ∙ cond-yes _ _ g
 
-    judged-is : misplaced (sheet rows) (activityOf rows a) (bookingOf rows k) ≡ false → isHeld (sheet rows) (bookingOf rows k) ≡ false
+    judged-is : misplaced (sheet rows) (activityOf rows a) (assignmentOf rows k) ≡ false → isHeld (sheet rows) (assignmentOf rows k) ≡ false
         → known
         ≡ given
-        (ltZ (units (sheet rows) (num rows a 1)) (pos (suc (uses (sheet rows) (activityOf rows a) (bookingOf rows k) (assignmentsBelow (sheet rows) k)))))
+        (ltZ (units (sheet rows) (num rows a 1)) (pos (suc (uses (sheet rows) (activityOf rows a) (assignmentOf rows k) (assignmentsBelow (sheet rows) k)))))
         (unknownActivity 1 (num rows k 1))
-        ++ given (ltb (num rows k 5) (num rows k 4 + neededMs (sheet rows) (activityOf rows a) (bookingOf rows k) (runsOn (sheet rows) (bookingOf rows k)))) (durationTooShort 1 (num rows k 1))
-        ++ earlyAssignment clock (sheet rows) (bookingOf rows k) (maybeAt rows a 8)
-        ++ earlyAssignment clock (sheet rows) (bookingOf rows k) (option (findTask (sheet rows) (num rows a 2)) none (λ t. t .release))
+        ++ given (ltb (num rows k 5) (num rows k 4 + neededMs (sheet rows) (activityOf rows a) (assignmentOf rows k) (runsOn (sheet rows) (assignmentOf rows k)))) (durationTooShort 1 (num rows k 1))
+        ++ earlyAssignment clock (sheet rows) (assignmentOf rows k) (maybeAt rows a 8)
+        ++ earlyAssignment clock (sheet rows) (assignmentOf rows k) (option (findTask (sheet rows) (num rows a 2)) none (λ t. t .release))
     unfolding checkKnown
     judged-is h g = cond-no _ _ h ∙ cond-no _ _ g
 
-    pub misplaced-told : {m : Bool} {id : ℕ} (s : Sink) {s′ : Sink} → m ≡ misplaced (sheet rows) (activityOf rows a) (bookingOf rows k) → m ≡ true → id ≡ num rows k 1
+    pub misplaced-told : {m : Bool} {id : ℕ} (s : Sink) {s′ : Sink} → m ≡ misplaced (sheet rows) (activityOf rows a) (assignmentOf rows k) → m ≡ true → id ≡ num rows k 1
         → s′ ≡ emit s (given true (violation 1 9 id 95)) → s′ ≡ emit s known
     misplaced-told s e f i q = q ∙ ap (emit s) (ap (λ x. unknownActivity 1 x ∷ []) i ∙ sym (misplaced-is (sym e ∙ f)))
 
-    held-row : is rows k 0 23 ≡ true → heldAt rows k ≡ isHeld (sheet rows) (bookingOf rows k)
+    held-row : is rows k 0 23 ≡ true → heldAt rows k ≡ isHeld (sheet rows) (assignmentOf rows k)
     unfolding heldAt anyOf
-    held-row h = rw (assignment-row rows k h) (or-false (isHeld (sheet rows) (bookingOf rows k)))
+    held-row h = rw (assignment-row rows k h) (or-false (isHeld (sheet rows) (assignmentOf rows k)))
       where
         or-false : (b : Bool) → (b || false) ≡ b
         or-false true = refl
         or-false false = refl
 
-    pub is-held : {d b : Bool} → is rows k 0 23 ≡ true → d ≡ heldAt rows k → d ≡ b → isHeld (sheet rows) (bookingOf rows k) ≡ b
+    pub is-held : {d b : Bool} → is rows k 0 23 ≡ true → d ≡ heldAt rows k → d ≡ b → isHeld (sheet rows) (assignmentOf rows k) ≡ b
     is-held h e f = sym (held-row h) ∙ sym e ∙ f
 
-    pub held-told : {m d : Bool} (s : Sink) → is rows k 0 23 ≡ true → m ≡ misplaced (sheet rows) (activityOf rows a) (bookingOf rows k) → m ≡ false
+    pub held-told : {m d : Bool} (s : Sink) → is rows k 0 23 ≡ true → m ≡ misplaced (sheet rows) (activityOf rows a) (assignmentOf rows k) → m ≡ false
         → d ≡ heldAt rows k → d ≡ true → s ≡ emit s known
     held-told s h e f i j = sym (emit-none s) ∙ ap (emit s) (sym (held-is (sym e ∙ f) (is-held h i j)))
 
     pub judged-told : Accepted rows → Booked rows a k → (need : List ℕ) → Needs rows need
-        → misplaced (sheet rows) (activityOf rows a) (bookingOf rows k) ≡ false → isHeld (sheet rows) (bookingOf rows k) ≡ false
+        → misplaced (sheet rows) (activityOf rows a) (assignmentOf rows k) ≡ false → isHeld (sheet rows) (assignmentOf rows k) ≡ false
         → {id used setup t : ℕ} {over short early late : Bool} (s₀ : Sink) {s₁ s₂ s₃ s₄ : Sink}
         → id ≡ num rows k 1
-        → used ≡ uses (sheet rows) (activityOf rows a) (bookingOf rows k) (assignmentsBelow (sheet rows) k)
+        → used ≡ uses (sheet rows) (activityOf rows a) (assignmentOf rows k) (assignmentsBelow (sheet rows) k)
         → over ≡ ltZ (units (sheet rows) (num rows a 1)) (pos (used + 1))
         → s₁ ≡ emit s₀ (given over (violation 1 9 id 95))
         → setup ≡ num rows k 6
@@ -151,7 +150,7 @@ module _ (rows : List ℤ) where
         (ap₂ _++_
         (ap₂ _++_
         (ap₂ (λ x y. given x (unknownActivity 1 y)) (o ∙ ap (λ x. ltZ (units (sheet rows) (num rows a 1)) (pos x)) (add-one used ∙ ap suc u)) i)
-        (ap₂ (λ x y. given x (durationTooShort 1 y)) (w ∙ ap (λ x. ltb (num rows k 5) (num rows k 4 + x)) (ap (λ x. x + getD need k 0) r ∙ sym (nd .at k (bookingOf rows k) (activityOf rows a) (b .within) (assignment-row rows k (b .kind)) (found a k b)))) i))
+        (ap₂ (λ x y. given x (durationTooShort 1 y)) (w ∙ ap (λ x. ltb (num rows k 5) (num rows k 4 + x)) (ap (λ x. x + getD need k 0) r ∙ sym (nd .at k (assignmentOf rows k) (activityOf rows a) (b .within) (assignment-row rows k (b .kind)) (found a k b)))) i))
         (ap₂ (λ x y. given x (earlyStart 1 y)) e i ∙ sym (early-is k a 8)))
         (ap₂ (λ x y. given x (earlyStart 1 y)) l i ∙ sym (early-task acc a k t b z))
         ∙ sym (judged-is h g))
@@ -159,7 +158,7 @@ module _ (rows : List ℤ) where
   -- ---- any booking
 
   module _ (k : ℕ) (h : is rows k 0 23 ≡ true) where
-    booking-is : checkAssignmentAt clock (sheet rows) k ≡ checkAssignment clock (sheet rows) (assignmentsBelow (sheet rows) k) (bookingOf rows k)
+    booking-is : checkAssignmentAt clock (sheet rows) k ≡ checkAssignment clock (sheet rows) (assignmentsBelow (sheet rows) k) (assignmentOf rows k)
     unfolding checkAssignmentAt each
     booking-is = rw (assignment-row rows k h) (append-nil _)
 
@@ -168,7 +167,7 @@ module _ (rows : List ℤ) where
     known-is a q =
         booking-is
         ∙ ap
-        (λ x. option x (given (isSome (findTask (sheet rows) (num rows k 2))) (unknownActivity 1 (num rows k 1))) (checkKnown clock (sheet rows) (assignmentsBelow (sheet rows) k) (bookingOf rows k)))
+        (λ x. option x (given (isSome (findTask (sheet rows) (num rows k 2))) (unknownActivity 1 (num rows k 1))) (checkKnown clock (sheet rows) (assignmentsBelow (sheet rows) k) (assignmentOf rows k)))
         (find-activity rows (num rows k 1) ∙ ap (λ x. option x none (λ j. some (activityOf rows j))) q)
 
     unknown-is : placeOf rows 2 (num rows k 1) ≡ none
@@ -177,7 +176,7 @@ module _ (rows : List ℤ) where
     unknown-is q =
         booking-is
         ∙ ap
-        (λ x. option x (given (isSome (findTask (sheet rows) (num rows k 2))) (unknownActivity 1 (num rows k 1))) (checkKnown clock (sheet rows) (assignmentsBelow (sheet rows) k) (bookingOf rows k)))
+        (λ x. option x (given (isSome (findTask (sheet rows) (num rows k 2))) (unknownActivity 1 (num rows k 1))) (checkKnown clock (sheet rows) (assignmentsBelow (sheet rows) k) (assignmentOf rows k)))
         (find-activity rows (num rows k 1) ∙ ap (λ x. option x none (λ j. some (activityOf rows j))) q)
 
     pub known-told : (s : Sink) {s′ : Sink} (a : ℕ) → Booked rows a k → s′ ≡ emit s (known a k) → s′ ≡ emit s (checkAssignmentAt clock (sheet rows) k)

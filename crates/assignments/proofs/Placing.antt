@@ -21,13 +21,13 @@ use Rattle.sheet.proofs.Lookups.{Named, placed, num-is}
 use Rattle.model.specs.Sheet.{sheet}
 use Rattle.model.specs.Activity.{Activity, split}
 use Rattle.model.specs.Schedule.{Part, Assignment}
+use Rattle.model.specs.Records.{activityOf, assignmentOf}
 use Rattle.model.proofs.OwnedLaws.{own-activity}
 use Rattle.checks.specs.Pieces.{indexOf, beforeIndex}
 use Rattle.checks.specs.CheckAssignments.{misplaced}
 use Rattle.pieces.specs.Bookings.{indexKey, keyAt}
 use Rattle.pieces.proofs.Indices.{indexIn, before-key}
 use Rattle.pieces.proofs.Companions.{index-class, booked-index}
-use Rattle.times.specs.Rows.{bookingOf, activityOf}
 use Rattle.assignments.specs.Bookings.{Booked}
 
 -- ---- whether a booking names a part
@@ -60,10 +60,10 @@ index-some x e =
     ∙ ap (λ z. ltb z (indexKey x)) none-key
 
 module _ (rows : List ℤ) (acc : Accepted rows) (a k : ℕ) (l : k < rowCount rows) (h : is rows k 0 23 ≡ true) where
-  part-some : isSome (bookingOf rows k .part) ≡ ltb 0 (keyAt rows k)
+  part-some : isSome (assignmentOf rows k .part) ≡ ltb 0 (keyAt rows k)
   unfolding keyAt
   part-some =
-      part-index (bookingOf rows k .part)
+      part-index (assignmentOf rows k .part)
       ∙ ap isSome (booked-index rows acc k l h)
       ∙ index-some (cell rows k 7) (index-class rows acc k h)
 
@@ -73,18 +73,18 @@ module _ (rows : List ℤ) (acc : Accepted rows) (a k : ℕ) (l : k < rowCount r
   same-task b e = e
 
   pub in-part : {p : Bool} → is rows k 2 (num rows a 2) ≡ true → 0 < keyAt rows k → p ≡ isSome (split (sheet rows) (num rows a 1))
-      → not p ≡ misplaced (sheet rows) (activityOf rows a) (bookingOf rows k)
+      → not p ≡ misplaced (sheet rows) (activityOf rows a) (assignmentOf rows k)
   in-part {p} e m q =
       ap not q
       ∙ sym (ap₂ (λ x y. not x || (y && not (isSome (split (sheet rows) (num rows a 1))))) (same-task true e) (part-some ∙ lt-ltb 0 (keyAt rows k) m))
 
-  pub whole : is rows k 2 (num rows a 2) ≡ true → keyAt rows k ≤ 0 → false ≡ misplaced (sheet rows) (activityOf rows a) (bookingOf rows k)
+  pub whole : is rows k 2 (num rows a 2) ≡ true → keyAt rows k ≤ 0 → false ≡ misplaced (sheet rows) (activityOf rows a) (assignmentOf rows k)
   whole e m =
       sym (ap₂ (λ x y. not x || (y && not (isSome (split (sheet rows) (num rows a 1))))) (same-task true e) (part-some ∙ le-ltb 0 (keyAt rows k) m))
 
-  pub other-task : is rows k 2 (num rows a 2) ≡ false → true ≡ misplaced (sheet rows) (activityOf rows a) (bookingOf rows k)
+  pub other-task : is rows k 2 (num rows a 2) ≡ false → true ≡ misplaced (sheet rows) (activityOf rows a) (assignmentOf rows k)
   other-task e =
-      sym (ap (λ x. not x || (isSome (bookingOf rows k .part) && not (isSome (split (sheet rows) (num rows a 1))))) (same-task false e))
+      sym (ap (λ x. not x || (isSome (assignmentOf rows k .part) && not (isSome (split (sheet rows) (num rows a 1))))) (same-task false e))
 
 -- ---- the activity's row
 

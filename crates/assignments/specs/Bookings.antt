@@ -11,9 +11,9 @@ use Rattle.sheet.specs.Places.{placeOf}
 use Rattle.model.specs.Sheet.{sheet}
 use Rattle.model.specs.Activity.{requirements}
 use Rattle.model.specs.Schedule.{assignmentAt}
+use Rattle.model.specs.Records.{activityOf, assignmentOf}
 use Rattle.checks.specs.Pieces.{ofPiece, isHeld}
 use Rattle.checks.specs.CheckAssignments.{misplaced}
-use Rattle.times.specs.Rows.{bookingOf, activityOf}
 
 -- row k is a booking of the activity of row a
 pub record Booked (rows : List ℤ) (a k : ℕ) : Type 0 where
@@ -29,5 +29,5 @@ quantities rows a = foldl _+ℤ_ (pos 0) (map (λ q. q .quantity) (requirements 
 unfoldable pub takesUnit : List ℤ → ℕ → ℕ → ℕ → Bool
 takesUnit rows a k j =
     anyOf
-    (λ x. ofPiece (bookingOf rows k) x && (not (misplaced (sheet rows) (activityOf rows a) x) && not (isHeld (sheet rows) x)))
+    (λ x. ofPiece (assignmentOf rows k) x && (not (misplaced (sheet rows) (activityOf rows a) x) && not (isHeld (sheet rows) x)))
     (assignmentAt (sheet rows) j)

@@ -20,11 +20,11 @@ ghost use Rattle.model.specs.Task.{findTask};
 ghost use Rattle.model.specs.Activity.{split};
 ghost use Rattle.model.specs.Schedule.{assignmentsBelow, violation};
 ghost use Rattle.model.specs.Indexed.{Indexed};
+ghost use Rattle.model.specs.Records.{activityOf, assignmentOf};
 ghost use Rattle.checks.specs.Pieces.{isHeld};
 ghost use Rattle.checks.specs.CheckAssignments.{misplaced, units, uses, checkKnown, checkAssignmentAt, checkAssignments};
 ghost use Rattle.pieces.specs.Bookings.{indexKey};
 ghost use Rattle.pieces.specs.Held.{Held};
-ghost use Rattle.times.specs.Rows.{bookingOf, activityOf};
 ghost use Rattle.times.specs.Times.{Needs};
 ghost use Rattle.assignments.specs.Bookings.{Booked, quantities, takesUnit};
 use findings::Violation;
@@ -43,7 +43,7 @@ fn is_split(rows: &[i64], owned: &[u16; 8810], a: usize) -> bool
 // Whether booking k names another task than its activity's, of row a, or a part where that is not split.
 fn is_misplaced(rows: &[i64], a: usize, parts: bool, k: usize) -> bool
     requires { ⌜ Accepted (now rows) × (k < rowCount (now rows)) × (is (now rows) k 0 23 ≡ true) × (parts ≡ isSome (split (sheet (now rows)) (num (now rows) a 1))) ⌝ }
-    ensures { λ r. ⌜ r ≡ misplaced (sheet (now (rows .entry))) (activityOf (now (rows .entry)) a) (bookingOf (now (rows .entry)) k) ⌝ }
+    ensures { λ r. ⌜ r ≡ misplaced (sheet (now (rows .entry))) (activityOf (now (rows .entry)) a) (assignmentOf (now (rows .entry)) k) ⌝ }
 {
     if rows::is_at(rows, k, 2, rows::num_at(rows, a, 2)) {
         if 0 < pieces::key_at(rows, k) {
@@ -137,7 +137,7 @@ fn uses_before(
     k: usize,
 ) -> u64
     requires { ⌜ Accepted (now rows) × Owned (now rows) (now owned) × Held (now rows) (now held) × Booked (now rows) a k × (parts ≡ isSome (split (sheet (now rows)) (num (now rows) a 1))) ⌝ }
-    ensures count { λ r. ⌜ r ≡ uses (sheet (now (rows .entry))) (activityOf (now (rows .entry)) a) (bookingOf (now (rows .entry)) k) (assignmentsBelow (sheet (now (rows .entry))) k) ⌝ }
+    ensures count { λ r. ⌜ r ≡ uses (sheet (now (rows .entry))) (activityOf (now (rows .entry)) a) (assignmentOf (now (rows .entry)) k) (assignmentsBelow (sheet (now (rows .entry))) k) ⌝ }
     ensures bound { λ r. ⌜ r ≤ 800 ⌝ }
 {
     let mut used = 0;
@@ -195,8 +195,8 @@ fn check_judged(
     out: &mut [i64],
     n: usize,
 ) -> usize
-    requires { ⌜ Accepted (now rows) × Linked (now rows) (now links) × Owned (now rows) (now owned) × Held (now rows) (now held) × Needs (now rows) (now need) × Booked (now rows) a k × (parts ≡ isSome (split (sheet (now rows)) (num (now rows) a 1))) × (misplaced (sheet (now rows)) (activityOf (now rows) a) (bookingOf (now rows) k) ≡ false) × (isHeld (sheet (now rows)) (bookingOf (now rows) k) ≡ false) ⌝ }
-    ensures { λ r. ⌜ sink (now (out .exit)) r ≡ emit (sink (now (out .entry)) n) (checkKnown clock (sheet (now (rows .entry))) (assignmentsBelow (sheet (now (rows .entry))) k) (bookingOf (now (rows .entry)) k) (activityOf (now (rows .entry)) a)) ⌝ }
+    requires { ⌜ Accepted (now rows) × Linked (now rows) (now links) × Owned (now rows) (now owned) × Held (now rows) (now held) × Needs (now rows) (now need) × Booked (now rows) a k × (parts ≡ isSome (split (sheet (now rows)) (num (now rows) a 1))) × (misplaced (sheet (now rows)) (activityOf (now rows) a) (assignmentOf (now rows) k) ≡ false) × (isHeld (sheet (now rows)) (assignmentOf (now rows) k) ≡ false) ⌝ }
+    ensures { λ r. ⌜ sink (now (out .exit)) r ≡ emit (sink (now (out .entry)) n) (checkKnown clock (sheet (now (rows .entry))) (assignmentsBelow (sheet (now (rows .entry))) k) (assignmentOf (now (rows .entry)) k) (activityOf (now (rows .entry)) a)) ⌝ }
 {
     let id = rows::id_at(rows, k, 1);
     let used = uses_before(rows, owned, held, a, parts, k);
@@ -222,7 +222,7 @@ fn check_known(
     n: usize,
 ) -> usize
     requires { ⌜ Accepted (now rows) × Linked (now rows) (now links) × Owned (now rows) (now owned) × Held (now rows) (now held) × Needs (now rows) (now need) × Booked (now rows) a k ⌝ }
-    ensures { λ r. ⌜ sink (now (out .exit)) r ≡ emit (sink (now (out .entry)) n) (checkKnown clock (sheet (now (rows .entry))) (assignmentsBelow (sheet (now (rows .entry))) k) (bookingOf (now (rows .entry)) k) (activityOf (now (rows .entry)) a)) ⌝ }
+    ensures { λ r. ⌜ sink (now (out .exit)) r ≡ emit (sink (now (out .entry)) n) (checkKnown clock (sheet (now (rows .entry))) (assignmentsBelow (sheet (now (rows .entry))) k) (assignmentOf (now (rows .entry)) k) (activityOf (now (rows .entry)) a)) ⌝ }
 {
     let parts = is_split(rows, owned, a);
     if is_misplaced(rows, a, parts, k) {

@@ -1,7 +1,7 @@
 -- Each resource of a piece once: the rows of the resources that its bookings are on work when those of all its bookings do. Assumes nothing.
 use Prim.Native.Nat.{ℕ, zero, suc, _<_}
 use mathlib.Core.Path.{_≡_, refl, ap, sym, _∙_}
-use mathlib.Core.Bool.{Bool, true, false, cond, not, _&&_, _||_, true≢false}
+use mathlib.Core.Bool.{Bool, true, false, not, _&&_, _||_, true≢false}
 use mathlib.Core.List.{List, []}
 use mathlib.Core.Option.{Option, none, some}
 use native.Mathlib.Omega.{arith}
@@ -9,26 +9,22 @@ use lib.Dec.{eqb}
 use lib.IntN.{ℤ}
 use borrow.Author.Tests.{eqb-true, eq-eqb}
 use Rattle.loops.specs.Lists.{anyOf}
-use Rattle.loops.specs.Range.{collect}
 use Rattle.loops.specs.Search.{anyBelow}
 use Rattle.loops.proofs.SearchLaws.{any-hit}
 use Rattle.calendar.specs.Clock.{clock}
-use Rattle.calendar.specs.Calendar.{Window, isWorkingTime}
+use Rattle.calendar.specs.Calendar.{isWorkingTime}
 use Rattle.rows.specs.Cells.{rowCount, num, is}
-use Rattle.rows.specs.Class.{resource-c}
 use Rattle.sheet.specs.Accepted.{Accepted}
-use Rattle.sheet.specs.Refusals.{lacks}
 use Rattle.sheet.specs.Places.{placeOf}
 use Rattle.sheet.specs.Index.{orEnd, resPlace}
 use Rattle.sheet.proofs.Lookups.{and-left, and-right, placed}
-use Rattle.model.specs.Sheet.{sheet, rowAt, numAt, timeAt, with2}
+use Rattle.model.specs.Sheet.{sheet}
 use Rattle.model.specs.Resource.{windows}
-use Rattle.model.proofs.RowLaws.{kind-is, row-none, row-here}
 use Rattle.model.proofs.OwnedLaws.{own-resource}
-use Rattle.model.proofs.Accepting.{has-owner}
 use Rattle.model.proofs.Finds.{linked-some, found-self}
 use Rattle.pieces.specs.Bookings.{inPiece}
 use Rattle.pieces.proofs.Chains.{piece-kind}
+use Rattle.windows.proofs.WindowRows.{windows-none}
 use Rattle.piece_calendars.specs.Taken.{takenBelow, taken}
 use Rattle.piece_calendars.proofs.Joint.{restsAt}
 
@@ -71,82 +67,54 @@ taken-place rows k r m e =
     let q = eqb-true _ _ (and-right (inPiece rows k (j .place)) _ (j .passes)) in
     found-self rows 11 _ r (resource-place rows (j .place) r (piece-kind rows k (j .place) p) m q)
 
--- ---- a resource that is not in the sheet has no windows
+-- ---- each resource once
 
-empty-collect : {A : Type 0} (f : ℕ → List A) (n : ℕ) → ((k : ℕ) → k < n → f k ≡ []) → collect f n ≡ []
-unfolding collect
-empty-collect f zero h = refl
-empty-collect f (suc n) h = rw (empty-collect f n (λ k l. h k (omega arith)), h n (omega arith))
-
+-- a calendar with no window works always
 never-rests : (t : ℤ) → isWorkingTime clock [] t ≡ true
 unfolding isWorkingTime anyOf
 never-rests t = refl
 
-module _ (rows : List ℤ) (acc : Accepted rows) where
-  there : (k : ℕ) → lacks resource-c rows k 1 ≡ false → placeOf rows 11 (num rows k 1) ≡ none → ⊥
-  unfolding lacks
-  there k e q = true≢false (rw q at e)
+module _ (rows : List ℤ) (acc : Accepted rows) (k : ℕ) (l : k < rowCount rows) (h : is rows k 0 23 ≡ true) (t : ℤ) where
+  -- a resource that is taken is at rest
+  unfoldable pub takenRests : ℕ → Bool
+  takenRests r = taken rows k r && not (isWorkingTime clock (windows (sheet rows) 15 (num rows r 1)) t)
 
-  abbrev windowIn : ℕ → ℕ → List (Window ℤ)
-  windowIn id i =
-      cond (eqb (numAt (sheet rows) i 1) id)
-      (with2 (timeAt (sheet rows) i 3) (timeAt (sheet rows) i 4) λ a e. record { closed = numAt (sheet rows) i 2; start = a; end = e }) []
+  to-booking : anyBelow takenRests (rowCount rows) ≡ true → anyBelow (restsAt rows acc k l h t) (rowCount rows) ≡ true
+  unfolding takenRests takenBelow restsAt
+  to-booking e =
+      let r = hit takenRests (rowCount rows) e in
+      let u = and-left (taken rows k (r .place)) _ (r .passes) in
+      let v = and-right (taken rows k (r .place)) _ (r .passes) in
+      let j = hit (λ i. inPiece rows k i && eqb (resPlace rows i) (r .place)) (rowCount rows) u in
+      let p = and-left (inPiece rows k (j .place)) _ (j .passes) in
+      let q = eqb-true _ _ (and-right (inPiece rows k (j .place)) _ (j .passes)) in
+      let i = placed rows 11 _ _ (resource-place rows (j .place) (r .place) (piece-kind rows k (j .place) p) (r .below) q) .id-is in
+      sym
+      (any-hit (restsAt rows acc k l h t) (j .place) (rowCount rows) (rowCount rows) (j .below) refl
+      (and-both (inPiece rows k (j .place)) _ p (rw i at v)))
 
-  named-there : (id : ℕ) → placeOf rows 11 id ≡ none → (k : ℕ) → k < rowCount rows → is rows k 0 15 ≡ true → (b : Bool) → eqb (num rows k 1) id ≡ b → b ≡ false
-  named-there id q k l h true e = absurd (there k (has-owner rows acc k 15 1 l h) (ap (placeOf rows 11) (eqb-true (num rows k 1) id e) ∙ q))
-  named-there id q k l h false e = refl
+  to-resource : anyBelow (restsAt rows acc k l h t) (rowCount rows) ≡ true → anyBelow takenRests (rowCount rows) ≡ true
+  unfolding takenRests takenBelow restsAt
+  to-resource e =
+      let j = hit (restsAt rows acc k l h t) (rowCount rows) e in
+      let p = and-left (inPiece rows k (j .place)) _ (j .passes) in
+      go (j .place) (j .below) p (and-right (inPiece rows k (j .place)) _ (j .passes)) (placeOf rows 11 (num rows (j .place) 3)) refl
+    where
+      go : (j : ℕ) → j < rowCount rows → inPiece rows k j ≡ true → not (isWorkingTime clock (windows (sheet rows) 15 (num rows j 3)) t) ≡ true
+          → (x : Option ℕ) → placeOf rows 11 (num rows j 3) ≡ x → anyBelow takenRests (rowCount rows) ≡ true
+      go j m p v none q =
+          absurd (true≢false (sym v ∙ ap not (ap (λ c. isWorkingTime clock c t) (windows-none rows acc (num rows j 3) q) ∙ never-rests t)))
+      go j m p v (some r) q =
+          let d = placed rows 11 (num rows j 3) r q in
+          let w : resPlace rows j ≡ r = own-resource rows j (piece-kind rows k j p) ∙ ap (orEnd rows) q ∙ (unfold orEnd in refl) in
+          sym
+          (any-hit takenRests r (rowCount rows) (rowCount rows) (d .within) refl
+          (and-both (taken rows k r) _
+          (sym
+          (any-hit (λ i. inPiece rows k i && eqb (resPlace rows i) r) j (rowCount rows) (rowCount rows) m refl
+          (and-both (inPiece rows k j) _ p (eq-eqb (resPlace rows j) r w))))
+          (ap (λ i. not (isWorkingTime clock (windows (sheet rows) 15 i) t)) (d .id-is) ∙ v)))
 
-  window-none : (id : ℕ) → placeOf rows 11 id ≡ none → (k : ℕ) → k < rowCount rows → (b : Bool) → is rows k 0 15 ≡ b → rowAt (sheet rows) 15 (windowIn id) k ≡ []
-  window-none id q k l true h =
-      let z : eqb (num rows k 1) id ≡ false = named-there id q k l h (eqb (num rows k 1) id) refl in
-      row-here rows k 15 (windowIn id) h ∙ rw (kind-is rows k 15 h, z)
-  window-none id q k l false h = row-none rows k 15 (windowIn id) h
-
-  windows-none : (id : ℕ) → placeOf rows 11 id ≡ none → windows (sheet rows) 15 id ≡ []
-  unfolding windows
-  windows-none id q = empty-collect (rowAt (sheet rows) 15 (windowIn id)) (rowCount rows) (λ k l. window-none id q k l (is rows k 0 15) refl)
-
-  module _ (k : ℕ) (l : k < rowCount rows) (h : is rows k 0 23 ≡ true) (t : ℤ) where
-    -- a resource that is taken is at rest
-    unfoldable pub takenRests : ℕ → Bool
-    takenRests r = taken rows k r && not (isWorkingTime clock (windows (sheet rows) 15 (num rows r 1)) t)
-
-    to-booking : anyBelow takenRests (rowCount rows) ≡ true → anyBelow (restsAt rows acc k l h t) (rowCount rows) ≡ true
-    unfolding takenRests takenBelow restsAt
-    to-booking e =
-        let r = hit takenRests (rowCount rows) e in
-        let u = and-left (taken rows k (r .place)) _ (r .passes) in
-        let v = and-right (taken rows k (r .place)) _ (r .passes) in
-        let j = hit (λ i. inPiece rows k i && eqb (resPlace rows i) (r .place)) (rowCount rows) u in
-        let p = and-left (inPiece rows k (j .place)) _ (j .passes) in
-        let q = eqb-true _ _ (and-right (inPiece rows k (j .place)) _ (j .passes)) in
-        let i = placed rows 11 _ _ (resource-place rows (j .place) (r .place) (piece-kind rows k (j .place) p) (r .below) q) .id-is in
-        sym
-        (any-hit (restsAt rows acc k l h t) (j .place) (rowCount rows) (rowCount rows) (j .below) refl
-        (and-both (inPiece rows k (j .place)) _ p (rw i at v)))
-
-    to-resource : anyBelow (restsAt rows acc k l h t) (rowCount rows) ≡ true → anyBelow takenRests (rowCount rows) ≡ true
-    unfolding takenRests takenBelow restsAt
-    to-resource e =
-        let j = hit (restsAt rows acc k l h t) (rowCount rows) e in
-        let p = and-left (inPiece rows k (j .place)) _ (j .passes) in
-        go (j .place) (j .below) p (and-right (inPiece rows k (j .place)) _ (j .passes)) (placeOf rows 11 (num rows (j .place) 3)) refl
-      where
-        go : (j : ℕ) → j < rowCount rows → inPiece rows k j ≡ true → not (isWorkingTime clock (windows (sheet rows) 15 (num rows j 3)) t) ≡ true
-            → (x : Option ℕ) → placeOf rows 11 (num rows j 3) ≡ x → anyBelow takenRests (rowCount rows) ≡ true
-        go j m p v none q =
-            absurd (true≢false (sym v ∙ ap not (ap (λ c. isWorkingTime clock c t) (windows-none (num rows j 3) q) ∙ never-rests t)))
-        go j m p v (some r) q =
-            let d = placed rows 11 (num rows j 3) r q in
-            let w : resPlace rows j ≡ r = own-resource rows j (piece-kind rows k j p) ∙ ap (orEnd rows) q ∙ (unfold orEnd in refl) in
-            sym
-            (any-hit takenRests r (rowCount rows) (rowCount rows) (d .within) refl
-            (and-both (taken rows k r) _
-            (sym
-            (any-hit (λ i. inPiece rows k i && eqb (resPlace rows i) r) j (rowCount rows) (rowCount rows) m refl
-            (and-both (inPiece rows k j) _ p (eq-eqb (resPlace rows j) r w))))
-            (ap (λ i. not (isWorkingTime clock (windows (sheet rows) 15 i) t)) (d .id-is) ∙ v)))
-
-    -- so each resource need be asked once
-    pub once-each : anyBelow takenRests (rowCount rows) ≡ anyBelow (restsAt rows acc k l h t) (rowCount rows)
-    once-each = both-ways _ _ to-booking to-resource
+  -- so each resource need be asked once
+  pub once-each : anyBelow takenRests (rowCount rows) ≡ anyBelow (restsAt rows acc k l h t) (rowCount rows)
+  once-each = both-ways _ _ to-booking to-resource

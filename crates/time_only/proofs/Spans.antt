@@ -11,11 +11,11 @@ use lib.Dec.{eqb, leb}
 use lib.IntN.{ℤ}
 use Rattle.loops.specs.Lists.{given, anyOf, option, isEmpty, isSome}
 use Rattle.loops.specs.Range.{collect}
-use Rattle.loops.specs.Search.{anyBelow, countBelow}
+use Rattle.loops.specs.Search.{anyBelow}
 use Rattle.loops.specs.Chain.{First, Stands, Blind}
 use Rattle.loops.proofs.ListLaws.{any-collect}
 use Rattle.loops.proofs.RangeLaws.{collect-ext}
-use Rattle.loops.proofs.SearchLaws.{any-hit, count-le}
+use Rattle.loops.proofs.SearchLaws.{any-hit}
 use Rattle.loops.proofs.PlaceLaws.{any-same}
 use Rattle.loops.proofs.Walks.{any-first}
 use Rattle.rows.specs.Cells.{rowCount, num, is}
@@ -37,9 +37,6 @@ use Rattle.time_only.specs.Known.{Known}
 
 pub itself : (p : ℕ → Bool) → Blind p p
 itself p = record { still = λ k e. e }
-
-pub few-windows : (rows : List ℤ) (o x : ℕ) → rowCount rows ≤ 800 → 0 + countBelow (ownedBy rows o x) (rowCount rows) ≤ 800
-few-windows rows o x l = let c = count-le (ownedBy rows o x) (rowCount rows) in omega arith
 
 pub is-activity : (rows : List ℤ) (id a : ℕ) → placeOf rows 2 id ≡ some a → is rows a 0 2 ≡ true
 is-activity rows id a q = num-is rows a 0 2 (placed rows 2 id a q .kind)

@@ -27,13 +27,14 @@ use Rattle.timing.specs.Limits.{known}
 use Rattle.model.specs.Sheet.{sheet}
 use Rattle.model.specs.Activity.{Activity, pieceOf, timing, durationOn}
 use Rattle.model.specs.Schedule.{Assignment, assignmentAt, assignmentsBelow, assignments}
+use Rattle.model.specs.Records.{activityOf, assignmentOf}
 use Rattle.model.proofs.RowLaws.{assignment-row, assignment-none}
 use Rattle.checks.specs.Pieces.{ofPiece, heldAmong, notHeld, assignedWith, runsOn}
 use Rattle.pieces.specs.Bookings.{inPiece, names, holdsFor}
 use Rattle.pieces.specs.Held.{heldAt}
 use Rattle.pieces.proofs.Chains.{piece-activity, piece-kind, piece-owned, pieces-same}
 use Rattle.pieces.proofs.Companions.{of-piece, held-among, held-booking}
-use Rattle.times.specs.Rows.{columnsOf, activityOf, partAt, bookingOf, timedBy, timingOf, timedAt}
+use Rattle.times.specs.Rows.{columnsOf, partAt, timedBy, timingOf, timedAt}
 use Rattle.times.specs.Times.{derived}
 use Rattle.times.proofs.Finds.{timing-is}
 use Rattle.times.proofs.Parts.{activity-id, timed-row, untimed-row}
@@ -58,7 +59,7 @@ module _ (rows : List ℤ) where
 
   -- who is held among them does not hang on which of them is asked
   held-in-piece : Accepted rows → (k j : ℕ) → k < rowCount rows → j < rowCount rows → is rows k 0 23 ≡ true → inPiece rows k j ≡ true
-      → heldAmong (sheet rows) (assignedWith (sheet rows) (bookingOf rows k)) (num rows j 3) ≡ heldAt rows j
+      → heldAmong (sheet rows) (assignedWith (sheet rows) (assignmentOf rows k)) (num rows j 3) ≡ heldAt rows j
   held-in-piece acc k j l m h p =
       held-among rows acc k (num rows j 3) l h
       ∙ any-same _ _ (rowCount rows) (λ i z. holds-same k j i p)
@@ -81,8 +82,8 @@ module _ (rows : List ℤ) where
     module _ (acc : Accepted rows) (l : k < rowCount rows) (h : is rows k 0 23 ≡ true) (a : ℕ) (e : a ≡ num rows k 1) where
       abbrev of-booking : Assignment ℤ → List ResourceTiming
       of-booking x =
-          cond (ofPiece (bookingOf rows k) x)
-          (cond (not (heldAmong (sheet rows) (assignedWith (sheet rows) (bookingOf rows k)) (x .resource))) (timingOn a (x .resource)) [])
+          cond (ofPiece (assignmentOf rows k) x)
+          (cond (not (heldAmong (sheet rows) (assignedWith (sheet rows) (assignmentOf rows k)) (x .resource))) (timingOn a (x .resource)) [])
           []
 
       turn : (c : Found) (j : ℕ) → j < rowCount rows → foldl Step c (each of-booking (assignmentAt (sheet rows) j)) ≡ timedAt rows k piece c j
@@ -97,19 +98,19 @@ module _ (rows : List ℤ) where
               run false = rw e (taken c (timing (sheet rows) (num rows k 1) (num rows j 3)))
 
               at : (b : Bool) → inPiece rows k j ≡ b
-                  → foldl Step c (cond b (cond (not (heldAmong (sheet rows) (assignedWith (sheet rows) (bookingOf rows k)) (num rows j 3))) (timingOn a (num rows j 3)) []) [] ++ [])
+                  → foldl Step c (cond b (cond (not (heldAmong (sheet rows) (assignedWith (sheet rows) (assignmentOf rows k)) (num rows j 3))) (timingOn a (num rows j 3)) []) [] ++ [])
                   ≡ timedAt rows k piece c j
               at true p = rw (held-in-piece acc k j l m h p) (run (heldAt rows j) ∙ sym (unfold timedAt in (rw p)))
               at false p = unfold timedAt in (rw p)
 
-      pub fold-is : foldl timedOn start (map (pieceTiming piece) (each (timingOn a) (runsOn (sheet rows) (bookingOf rows k)))) ≡ fold (timedAt rows k piece) start (rowCount rows)
+      pub fold-is : foldl timedOn start (map (pieceTiming piece) (each (timingOn a) (runsOn (sheet rows) (assignmentOf rows k)))) ≡ fold (timedAt rows k piece) start (rowCount rows)
       unfolding runsOn notHeld assignedWith assignments assignmentsBelow
       fold-is =
-          foldl-map timedOn (pieceTiming piece) start (each (timingOn a) (runsOn (sheet rows) (bookingOf rows k)))
+          foldl-map timedOn (pieceTiming piece) start (each (timingOn a) (runsOn (sheet rows) (assignmentOf rows k)))
           ∙ ap (foldl Step start)
-          (each-keep (timingOn a) (λ r. not (heldAmong (sheet rows) (assignedWith (sheet rows) (bookingOf rows k)) r)) (map (λ x. x .resource) (keep (ofPiece (bookingOf rows k)) (collect (assignmentAt (sheet rows)) (rowCount rows))))
-          ∙ each-map _ (λ x. x .resource) (keep (ofPiece (bookingOf rows k)) (collect (assignmentAt (sheet rows)) (rowCount rows)))
-          ∙ each-keep _ (ofPiece (bookingOf rows k)) (collect (assignmentAt (sheet rows)) (rowCount rows))
+          (each-keep (timingOn a) (λ r. not (heldAmong (sheet rows) (assignedWith (sheet rows) (assignmentOf rows k)) r)) (map (λ x. x .resource) (keep (ofPiece (assignmentOf rows k)) (collect (assignmentAt (sheet rows)) (rowCount rows))))
+          ∙ each-map _ (λ x. x .resource) (keep (ofPiece (assignmentOf rows k)) (collect (assignmentAt (sheet rows)) (rowCount rows)))
+          ∙ each-keep _ (ofPiece (assignmentOf rows k)) (collect (assignmentAt (sheet rows)) (rowCount rows))
           ∙ each-collect of-booking (assignmentAt (sheet rows)) (rowCount rows))
           ∙ foldl-collect Step start _ (rowCount rows)
           ∙ fold-rel (λ x y. x ≡ y) _ _ start start (rowCount rows) refl (λ x y j m q. ap (λ z. foldl Step z (each of-booking (assignmentAt (sheet rows) j))) q ∙ turn y j m)
@@ -151,11 +152,11 @@ module _ (rows : List ℤ) where
   pub derived-is : Accepted rows → (k o : ℕ) (piece : Piece) → k < rowCount rows → is rows k 0 23 ≡ true → placeOf rows 2 (num rows k 1) ≡ some o
       → piece ≡ pieceOf (sheet rows) (activityOf rows o) (partAt rows k)
       → timed (pieceDuration piece (columnsOf rows o 4)) (fold (timedAt rows k piece) start (rowCount rows))
-      ≡ derived (sheet rows) (bookingOf rows k) (activityOf rows o)
+      ≡ derived (sheet rows) (assignmentOf rows k) (activityOf rows o)
   unfolding derived durationOn timedDuration
   derived-is acc k o piece l h e p =
       ap (timed (pieceDuration piece (columnsOf rows o 4))) (sym (fold-is k piece acc l h (num rows o 1) (activity-id rows (num rows k 1) o e)))
-      ∙ ap (λ z. timed (pieceDuration z (columnsOf rows o 4)) (foldl timedOn start (map (pieceTiming z) (each (λ r. option (timing (sheet rows) (num rows o 1) r) [] (λ t. t ∷ [])) (runsOn (sheet rows) (bookingOf rows k)))))) p
+      ∙ ap (λ z. timed (pieceDuration z (columnsOf rows o 4)) (foldl timedOn start (map (pieceTiming z) (each (λ r. option (timing (sheet rows) (num rows o 1) r) [] (λ t. t ∷ [])) (runsOn (sheet rows) (assignmentOf rows k)))))) p
 
 -- ---- a loop whose value is known as far as it is below 2^53
 

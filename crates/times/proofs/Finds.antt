@@ -1,31 +1,31 @@
 -- What a lookup of the typed sheet finds, by the place of its row. Assumes nothing.
-use Prim.Native.Nat.{ℕ, zero, suc, _+_, _<_, _≤_}
+use Prim.Native.Nat.{ℕ, zero, suc, _<_, _≤_}
 use mathlib.Core.Path.{_≡_, refl, sym, ap, ap₂, _∙_}
 use mathlib.Core.Bool.{Bool, true, false, cond, _&&_, _||_, true≢false}
-use mathlib.Core.List.{List, [], _∷_, _++_}
+use mathlib.Core.List.{List, [], _++_}
 use mathlib.Core.Option.{Option, none, some}
 use native.Mathlib.Omega.{arith}
 use native.Mathlib.Decide.{decLt}
 use lib.Dec.{eqb}
 use lib.IntN.{ℤ}
 use lib.Ieee.{binary64, ofBits}
-use Rattle.loops.specs.Lists.{given, keep, head, option}
+use Rattle.loops.specs.Lists.{given, head, option}
 use Rattle.loops.specs.Range.{collect}
 use Rattle.loops.specs.Search.{orElse, someIf, first, firstPlace}
 use Rattle.loops.specs.Chain.{First}
-use Rattle.loops.proofs.ListLaws.{keep-collect, head-collect}
+use Rattle.loops.proofs.ListLaws.{head-collect}
 use Rattle.loops.proofs.PlaceLaws.{found-at, place-none}
 use Rattle.rows.specs.Cells.{rowCount, cell, num, is}
 use Rattle.sheet.specs.Places.{named, placeOf}
 use Rattle.sheet.specs.Index.{orEnd}
 use Rattle.timing.specs.declared.ResourceTiming.{ResourceTiming}
 use Rattle.timing.specs.declared.ResourceTiming.the-variants.{Speed, Duration}
-use Rattle.model.specs.Sheet.{Sheet, sheet, rowAt, numAt, intAt, isKind}
-use Rattle.model.specs.Activity.{Activity, Split, activityAt, activities, findActivity, split, timingAt, timing}
-use Rattle.model.proofs.RowLaws.{kind-is, row-none, row-here, activity-row, activity-none}
+use Rattle.model.specs.Sheet.{sheet, rowAt, numAt, intAt}
+use Rattle.model.specs.Activity.{Split, split, timingAt, timing}
+use Rattle.model.proofs.RowLaws.{kind-is, row-none, row-here}
 use Rattle.pieces.specs.Bookings.{names}
 use Rattle.pieces.proofs.Chains.{first-below}
-use Rattle.times.specs.Rows.{columnsOf, activityOf, timedBy, timingOf}
+use Rattle.times.specs.Rows.{columnsOf, timedBy, timingOf}
 
 -- ---- what the first place gives
 
@@ -49,25 +49,11 @@ pub head-of : {A : Type 0} (q : ℕ → Bool) (g : ℕ → A) (f : ℕ → List 
     → head (collect f n) ≡ option (firstPlace q n) none (λ i. some (g i))
 head-of q g f n h = head-collect f n ∙ first-ext _ _ n h ∙ first-of q g n
 
-one : {A : Type 0} (b : Bool) (x : A) → head (given b x ++ []) ≡ cond b (some x) none
-one true x = refl
-one false x = refl
-
 here : {A : Type 0} (b : Bool) (x : A) → head (given b x) ≡ cond b (some x) none
 here true x = refl
 here false x = refl
 
 module _ (rows : List ℤ) where
-  pub find-activity : (x : ℕ) → findActivity (sheet rows) x ≡ option (placeOf rows 2 x) none (λ i. some (activityOf rows i))
-  unfolding findActivity activities placeOf
-  find-activity x =
-      ap head (keep-collect (λ a. eqb (a .id) x) (activityAt (sheet rows)) (rowCount rows))
-      ∙ head-of (named rows 2 x) (activityOf rows) _ (rowCount rows) (λ k. at k (is rows k 0 2) refl)
-    where
-      at : (k : ℕ) (b : Bool) → is rows k 0 2 ≡ b → head (keep (λ a. eqb (a .id) x) (activityAt (sheet rows) k)) ≡ cond (named rows 2 x k) (some (activityOf rows k)) none
-      at k true h = rw (activity-row rows k h) (unfold keep named is in (rw h (one (eqb (num rows k 1) x) (activityOf rows k))))
-      at k false h = rw (activity-none rows k h) (unfold keep named in (rw h))
-
   abbrev pub splitOf : ℕ → Split
   splitOf k = record { maxParts = cell rows k 2; minPart = num rows k 3; overhead = num rows k 4 }
 

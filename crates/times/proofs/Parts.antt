@@ -34,6 +34,7 @@ use Rattle.timing.specs.Limits.{Amount, Amounts, PartAmounts, PieceAmounts, Tim
 use Rattle.model.specs.Sheet.{Sheet, sheet, Cell, number, nothing}
 use Rattle.model.specs.Activity.{Activity, split, pieceOf}
 use Rattle.model.specs.Schedule.{Part, asPart}
+use Rattle.model.specs.Records.{activityOf}
 use Rattle.model.proofs.RowLaws.{kind-is}
 use Rattle.model.proofs.Accepting.{at-most}
 use Rattle.model.proofs.OwnedLaws.{of-activity, own-activity}
@@ -41,7 +42,7 @@ use Rattle.pieces.specs.Bookings.{names}
 use Rattle.pieces.proofs.Chains.{names-kind, timings-blind, no-place}
 use Rattle.pieces.proofs.Marks.{Filled}
 use Rattle.pieces.proofs.Companions.{both-parts}
-use Rattle.times.specs.Rows.{columnsOf, activityOf, partAt, timedBy, timingOf, timingPlace, Timings}
+use Rattle.times.specs.Rows.{columnsOf, partAt, timedBy, timingOf, timingPlace, Timings}
 use Rattle.times.specs.Times.{restAt, Times}
 use Rattle.times.proofs.Finds.{splitOf, split-is, place-is, first-place, first-least, first-swap, place-below}
 

@@ -26,11 +26,11 @@ use Rattle.timing.specs.Limits.{within}
 use Rattle.model.specs.Sheet.{sheet}
 use Rattle.model.specs.Activity.{Activity, findActivity, durationOn, neededMs}
 use Rattle.model.specs.Schedule.{Assignment, assignmentAt}
+use Rattle.model.specs.Records.{activityOf, assignmentOf}
 use Rattle.model.proofs.RowLaws.{assignment-row, assignment-none}
+use Rattle.model.proofs.Finds.{find-activity}
 use Rattle.checks.specs.Pieces.{runsOn}
-use Rattle.times.specs.Rows.{activityOf, bookingOf}
 use Rattle.times.specs.Times.{tooLarge, derived, isTooLarge, timeFault, timeRefusal, restMs, restAt, Times, Needs}
-use Rattle.times.proofs.Finds.{find-activity}
 
 -- ---- one derived time
 
@@ -71,7 +71,7 @@ module _ (rows : List ℤ) where
   rest-unknown k h e = rw (assignment-row rows k h, find-activity rows (num rows k 1), e)
 
   pub rest-known : (k o : ℕ) → is rows k 0 23 ≡ true → placeOf rows 2 (num rows k 1) ≡ some o
-      → restMs (within (derived (sheet rows) (bookingOf rows k) (activityOf rows o))) ≡ restAt rows k
+      → restMs (within (derived (sheet rows) (assignmentOf rows k) (activityOf rows o))) ≡ restAt rows k
   unfolding restAt
   rest-known k o h e = rw (assignment-row rows k h, find-activity rows (num rows k 1), e)
 
@@ -83,10 +83,10 @@ module _ (rows : List ℤ) where
       go true h = unfold restAt anyOf isTooLarge in (rw (assignment-row rows k h) (known (findActivity (sheet rows) (num rows k 1))))
         where
           known : (x : Option (Activity ℤ))
-              → leb 9007199254740992 (option x 0 (λ a. restMs (within (derived (sheet rows) (bookingOf rows k) a))))
-              ≡ (option x false (λ a. tooLarge (derived (sheet rows) (bookingOf rows k) a)) || false)
+              → leb 9007199254740992 (option x 0 (λ a. restMs (within (derived (sheet rows) (assignmentOf rows k) a))))
+              ≡ (option x false (λ a. tooLarge (derived (sheet rows) (assignmentOf rows k) a)) || false)
           known none = lt-leb 9007199254740992 0 (omega arith)
-          known (some a) = large-is (derived (sheet rows) (bookingOf rows k) a) ∙ sym (or-false (tooLarge (derived (sheet rows) (bookingOf rows k) a)))
+          known (some a) = large-is (derived (sheet rows) (assignmentOf rows k) a) ∙ sym (or-false (tooLarge (derived (sheet rows) (assignmentOf rows k) a)))
 
   -- ---- the search
 

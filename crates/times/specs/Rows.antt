@@ -1,11 +1,10 @@
--- Activities, bookings, splits and timings as rows, and one booking's step of a derived time. Assumes nothing.
+-- Timings and the parts of bookings as rows, and one booking's step of a derived time. Assumes nothing.
 use Prim.Native.Nat.{ℕ, _+_, _<_, _≤_}
 use mathlib.Core.Path.{_≡_}
 use mathlib.Core.Bool.{Bool, cond, not, _&&_, _||_}
 use mathlib.Core.List.{List}
 use mathlib.Core.Option.{Option}
-use lib.Dec.{eqb}
-use lib.IntN.{ℤ, pos}
+use lib.IntN.{ℤ}
 use lib.Ieee.{binary64, ofBits}
 use lib.ListN.{getD}
 use Rattle.loops.specs.Lists.{option}
@@ -17,9 +16,9 @@ use Rattle.timing.specs.declared.ResourceTiming.{ResourceTiming}
 use Rattle.timing.specs.declared.ResourceTiming.the-variants.{Speed, Duration}
 use Rattle.timing.specs.declared.Piece.{Piece}
 use Rattle.timing.specs.Durations.{Found, timedOn, pieceTiming}
-use Rattle.model.specs.Sheet.{sheet, maybeAt}
-use Rattle.model.specs.Activity.{Activity, Split, timing}
-use Rattle.model.specs.Schedule.{Part, Assignment, asPart}
+use Rattle.model.specs.Sheet.{sheet}
+use Rattle.model.specs.Activity.{timing}
+use Rattle.model.specs.Schedule.{Part, asPart}
 use Rattle.pieces.specs.Bookings.{inPiece, names}
 use Rattle.pieces.specs.Held.{heldAt}
 
@@ -27,29 +26,8 @@ module _ (rows : List ℤ) where
   abbrev pub columnsOf : ℕ → ℕ → ActivityDuration
   columnsOf k c = record { «setup_ms» = num rows k c; «process_ms» = num rows k (c + 1); «teardown_ms» = num rows k (c + 2) }
 
-  abbrev pub activityOf : ℕ → Activity ℤ
-  activityOf k = record {
-    id = num rows k 1;
-    task = num rows k 2;
-    sequence = cell rows k 3;
-    duration = columnsOf k 4;
-    resumable = eqb (num rows k 7) 1;
-    release = maybeAt rows k 8;
-  }
-
   abbrev pub partAt : ℕ → Option Part
   partAt k = asPart (sheet rows .cell k 7) (sheet rows .cell k 8)
-
-  abbrev pub bookingOf : ℕ → Assignment ℤ
-  bookingOf k = record {
-    activity = num rows k 1;
-    task = num rows k 2;
-    resource = num rows k 3;
-    start = pos (num rows k 4);
-    end = pos (num rows k 5);
-    setup = num rows k 6;
-    part = partAt k;
-  }
 
   -- row i is a timing of activity a on resource r
   unfoldable pub timedBy : ℕ → ℕ → ℕ → Bool

@@ -16,8 +16,9 @@ ghost use Rattle.timing.specs.Limits.{within, known, PieceAmounts};
 ghost use Rattle.model.specs.Sheet.{sheet};
 ghost use Rattle.model.specs.Activity.{pieceOf};
 ghost use Rattle.model.specs.Schedule.{assignmentAt};
+ghost use Rattle.model.specs.Records.{activityOf, assignmentOf};
 ghost use Rattle.pieces.specs.Held.{Held};
-ghost use Rattle.times.specs.Rows.{columnsOf, activityOf, partAt, bookingOf, timingOf, timingPlace, timedAt, Timings};
+ghost use Rattle.times.specs.Rows.{columnsOf, partAt, timingOf, timingPlace, timedAt, Timings};
 ghost use Rattle.times.specs.Times.{derived, isTooLarge, timeRefusal, restMs, restAt, Times};
 use sheet::Verdict;
 use timing::ActivityDuration;
@@ -177,7 +178,7 @@ pub fn duration_on(
     k: usize,
 ) -> Derived
     requires { ⌜ Accepted (now rows) × Owned (now rows) (now owned) × Held (now rows) (now held) × Timings (now rows) (now t) × (k < rowCount (now rows)) × (is (now rows) k 0 23 ≡ true) × (placeOf (now rows) 2 (num (now rows) k 1) ≡ some o) ⌝ }
-    ensures { λ r. ⌜ r ≡ within (derived (sheet (now (rows .entry))) (bookingOf (now (rows .entry)) k) (activityOf (now (rows .entry)) o)) ⌝ }
+    ensures { λ r. ⌜ r ≡ within (derived (sheet (now (rows .entry))) (assignmentOf (now (rows .entry)) k) (activityOf (now (rows .entry)) o)) ⌝ }
 {
     let piece = piece_at(rows, owned, o, k);
     let f = timed_of(rows, owned, held, t, o, k, piece);

@@ -1,15 +1,15 @@
 -- Windows are laid out row by row along the chain of their owner. Assumes nothing.
 use Prim.Native.Nat.{ℕ, zero, suc, _+_, _*_, _/_, _<_, _≤_, min}
 use mathlib.Core.Path.{_≡_, refl, ap, ap₂, sym, _∙_}
-use mathlib.Core.Logic.{_⊎_, inl, inr, ⊎-elim}
-use mathlib.Core.Bool.{Bool, true, false, cond, _&&_}
+use mathlib.Core.Logic.{⊎-elim}
+use mathlib.Core.Bool.{true, false, _&&_}
 use mathlib.Core.List.{List, [], _∷_, _++_, map, append-nil}
-use mathlib.Core.Option.{Option, none, some}
+use mathlib.Core.Option.{some}
 use native.Mathlib.Omega.{arith}
 use borrow.Author.Tests.{le-leb, lt-leb}
-use lib.Dec.{eqb, leb}
+use lib.Dec.{leb}
 use lib.IntN.{ℤ, pos}
-use lib.ListN.{length, getD}
+use lib.ListN.{length}
 use Rattle.loops.specs.Lists.{given}
 use Rattle.loops.specs.Range.{collect}
 use Rattle.loops.specs.Search.{countBelow}
@@ -19,17 +19,17 @@ use Rattle.loops.proofs.RangeLaws.{collect-step, collect-ext}
 use Rattle.loops.proofs.Walks.{over, stands-end}
 use Rattle.triples.specs.Triples.{setTriple}
 use Rattle.triples.proofs.TripleLaws.{triple-length, first-is, second-is, third-is, below-kept}
-use Rattle.calendar.specs.Calendar.{Window, Calendar}
+use Rattle.calendar.specs.Calendar.{Window}
 use Rattle.calendar.specs.Layout.{windowsIn, windowAt, windowOf, windowsOf, calendarOf}
 use Rattle.rows.specs.Cells.{rowCount, num, is}
 use Rattle.sheet.specs.Places.{placeOf}
 use Rattle.sheet.specs.Index.{ownerKind, ownedBy}
-use Rattle.model.specs.Sheet.{sheet, numAt, timeAt, with2, rowAt}
+use Rattle.model.specs.Sheet.{sheet}
 use Rattle.model.specs.Resource.{windows}
-use Rattle.model.proofs.RowLaws.{kind-is}
 use Rattle.model.proofs.OwnedLaws.{of-activity, of-resource}
 use Rattle.model.proofs.Requiring.{count-less}
 use Rattle.windows.specs.Laid.{Holder, Laid}
+use Rattle.windows.proofs.WindowRows.{windowRow, windowNaming, resource-windows, activity-windows}
 
 -- ---- one window more
 
@@ -93,7 +93,7 @@ same-triple w i p q r h = rw (← p, ← q, ← r) h
 module _ (rows : List ℤ) (o x : ℕ) where
   -- the window of row k, if it is one of row o
   unfoldable pub windowBy : ℕ → List (Window ℤ)
-  windowBy k = given (ownedBy rows o x k) (record { closed = num rows k 2; start = pos (num rows k 3); end = pos (num rows k 4) })
+  windowBy k = given (ownedBy rows o x k) (windowRow rows k)
 
   -- what the loop knows at row k
   pub record Laying (w₀ w : List ℕ) (at to k : ℕ) : Type 0 where
@@ -133,7 +133,7 @@ module _ (rows : List ℤ) (o x : ℕ) where
         count = unfold countBelow in rw h (omega (arith, g .count));
         list =
             one-more w to (num rows k 2) (num rows k 3) (num rows k 4) (g .size) l at m
-            ∙ ap (λ y. y ++ (record { closed = num rows k 2; start = pos (num rows k 3); end = pos (num rows k 4) } ∷ [])) (g .list)
+            ∙ ap (λ y. y ++ windowRow rows k ∷ []) (g .list)
             ∙ (unfold collect windowBy in rw h);
         kept = λ from j q. before-kept w to (num rows k 2) (num rows k 3) (num rows k 4) from j (omega arith) ∙ g .kept from j q;
       })
@@ -148,67 +148,20 @@ module _ (rows : List ℤ) (o x : ℕ) where
       counts : (m k : ℕ) → k < m → ownedBy rows o x k ≡ true → countBelow (ownedBy rows o x) k < countBelow (ownedBy rows o x) m
       counts m k q e = count-less (ownedBy rows o x) k m q e
 
-  -- ---- the windows of the definition
-
-  module _ (id : ℕ) where
-    window-at-16 : (k : ℕ)
-        → rowAt (sheet rows) {A = Window ℤ} 16
-        (λ k. cond (eqb (numAt (sheet rows) k 1) id) (with2 (timeAt (sheet rows) k 3) (timeAt (sheet rows) k 4) λ a e. record { closed = numAt (sheet rows) k 2; start = a; end = e }) [])
-        k
-        ≡ given (is rows k 0 16 && is rows k 1 id) (record { closed = num rows k 2; start = pos (num rows k 3); end = pos (num rows k 4) })
-    unfolding is
-    window-at-16 k = go (is rows k 0 16) refl
-      where
-        pick : (b : Bool) (y : Window ℤ) → cond b (y ∷ []) [] ≡ given b y
-        pick true y = refl
-        pick false y = refl
-
-        go : (b : Bool) → is rows k 0 16 ≡ b
-            → rowAt (sheet rows) {A = Window ℤ} 16
-            (λ k. cond (eqb (numAt (sheet rows) k 1) id) (with2 (timeAt (sheet rows) k 3) (timeAt (sheet rows) k 4) λ a e. record { closed = numAt (sheet rows) k 2; start = a; end = e }) [])
-            k
-            ≡ given (is rows k 0 16 && is rows k 1 id) (record { closed = num rows k 2; start = pos (num rows k 3); end = pos (num rows k 4) })
-        go true h = rw (kind-is rows k 16 h) (pick (eqb (num rows k 1) id) (record { closed = num rows k 2; start = pos (num rows k 3); end = pos (num rows k 4) }))
-        go false h = rw h
-
-    window-at-15 : (k : ℕ)
-        → rowAt (sheet rows) {A = Window ℤ} 15
-        (λ k. cond (eqb (numAt (sheet rows) k 1) id) (with2 (timeAt (sheet rows) k 3) (timeAt (sheet rows) k 4) λ a e. record { closed = numAt (sheet rows) k 2; start = a; end = e }) [])
-        k
-        ≡ given (is rows k 0 15 && is rows k 1 id) (record { closed = num rows k 2; start = pos (num rows k 3); end = pos (num rows k 4) })
-    unfolding is
-    window-at-15 k = go (is rows k 0 15) refl
-      where
-        pick : (b : Bool) (y : Window ℤ) → cond b (y ∷ []) [] ≡ given b y
-        pick true y = refl
-        pick false y = refl
-
-        go : (b : Bool) → is rows k 0 15 ≡ b
-            → rowAt (sheet rows) {A = Window ℤ} 15
-            (λ k. cond (eqb (numAt (sheet rows) k 1) id) (with2 (timeAt (sheet rows) k 3) (timeAt (sheet rows) k 4) λ a e. record { closed = numAt (sheet rows) k 2; start = a; end = e }) [])
-            k
-            ≡ given (is rows k 0 15 && is rows k 1 id) (record { closed = num rows k 2; start = pos (num rows k 3); end = pos (num rows k 4) })
-        go true h = rw (kind-is rows k 15 h) (pick (eqb (num rows k 1) id) (record { closed = num rows k 2; start = pos (num rows k 3); end = pos (num rows k 4) }))
-        go false h = rw h
+  -- they are those of the definition
+  by-owner : (id : ℕ) → ((k : ℕ) → ownedBy rows o x k ≡ (is rows k 0 x && is rows k 1 id)) → collect windowBy (rowCount rows) ≡ collect (windowNaming rows x id) (rowCount rows)
+  unfolding windowBy
+  by-owner id h = collect-ext _ _ (rowCount rows) (λ k l. ap (λ b. given b (windowRow rows k)) (h k))
 
   pub windows-are : Holder rows o x → collect windowBy (rowCount rows) ≡ windows (sheet rows) x (num rows o 1)
-  unfolding windows windowBy
   windows-are h =
       ⊎-elim
       (λ (q : (x ≡ 16) × (placeOf rows 2 (num rows o 1) ≡ some o)).
-      rw (q .0)
-      (collect-ext _ _ (rowCount rows)
-      (λ k l.
-      ap (λ b. given b (record { closed = num rows k 2; start = pos (num rows k 3); end = pos (num rows k 4) }))
-      (of-activity rows 16 o (num rows o 1) (unfold ownerKind in refl) (q .1) k)
-      ∙ sym (window-at-16 (num rows o 1) k))))
+      by-owner (num rows o 1) (rw (q .0) (of-activity rows 16 o (num rows o 1) (unfold ownerKind in refl) (q .1)))
+      ∙ rw (q .0) (sym (activity-windows rows (num rows o 1))))
       (λ (q : (x ≡ 15) × (placeOf rows 11 (num rows o 1) ≡ some o)).
-      rw (q .0)
-      (collect-ext _ _ (rowCount rows)
-      (λ k l.
-      ap (λ b. given b (record { closed = num rows k 2; start = pos (num rows k 3); end = pos (num rows k 4) }))
-      (of-resource rows 15 o (num rows o 1) (unfold ownerKind in refl) (q .1) k)
-      ∙ sym (window-at-15 (num rows o 1) k))))
+      by-owner (num rows o 1) (rw (q .0) (of-resource rows 15 o (num rows o 1) (unfold ownerKind in refl) (q .1)))
+      ∙ rw (q .0) (sym (resource-windows rows (num rows o 1))))
       h
 
   pub laid : {N i : ℕ} {w₀ w : List ℕ} {at to : ℕ} → Holder rows o x → N ≤ i → N ≡ rowCount rows → Stands (ownedBy rows o x) (rowCount rows) i

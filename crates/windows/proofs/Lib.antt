@@ -1,2 +1,3 @@
 pub mod Fitting
 pub mod Laying
+pub mod WindowRows

@@ -1,21 +1,18 @@
 -- Work that is started in a sheet ends, if it does, within the numbers of 64 bits. Assumes nothing.
 use Prim.Native.Nat.{ℕ, zero, suc, _+_, _^_, _<_, _≤_, max}
-use mathlib.Core.Path.{_≡_, refl, sym, ap, subst, _∙_}
-use mathlib.Core.Bool.{Bool, true, false, cond, not, _&&_, _||_, true≢false}
+use mathlib.Core.Path.{_≡_, refl, sym, ap, _∙_}
+use mathlib.Core.Bool.{Bool, true, false, cond, _&&_, _||_, true≢false}
 use mathlib.Core.List.{List, [], _∷_, _++_}
-use mathlib.Core.Option.{Option, none, some}
+use mathlib.Core.Option.{none, some}
 use native.Mathlib.Omega.{arith}
 use borrow.Author.Tests.{leb-true, lt-ltb}
-use lib.Dec.{ltb}
 use lib.IntN.{ℤ, pos, negsuc}
-use lib.ListN.{length, getD}
 use lib.Signed.{leZ}
 use Rattle.loops.specs.Numbers.{toNat}
 use Rattle.loops.specs.Range.{collect}
-use Rattle.loops.specs.Lists.{option}
-use Rattle.loops.specs.Search.{orElse}
-use Rattle.calendar.specs.Clock.{clock, amountOf, ahead}
-use Rattle.calendar.specs.Calendar.{Window, Calendar, jointWorking}
+use Rattle.loops.specs.Lists.{given}
+use Rattle.calendar.specs.Clock.{clock, amountOf}
+use Rattle.calendar.specs.Calendar.{Calendar, jointWorking}
 use Rattle.calendar.specs.Amount.{since}
 use Rattle.calendar.specs.WorkEnd.{Ending, endsAt, pauses, never, mapEnding, after, endIn, reach, reaches, endAfter, endFrom, jointWorkEnd}
 use Rattle.calendar.specs.Layout as layout
@@ -24,16 +21,15 @@ use Rattle.calendar.proofs.Lending.{calendars-at}
 use Rattle.rows.specs.Class.{id-c, t-c, g-c}
 use Rattle.rows.specs.Ranges.{within, isNone, inRange, inClass}
 use Rattle.rows.specs.Cells.{rowCount, num, is}
-use Rattle.sheet.specs.Refusals.{Refusal, refuse, refusalOf, verdictOf}
+use Rattle.sheet.specs.Refusals.{refusalOf, verdictOf}
 use Rattle.sheet.specs.declared.Verdict.{Verdict}
 use Rattle.sheet.specs.declared.Verdict.the-variants as verdict
-use Rattle.sheet.proofs.Lookups.{and-left, and-right}
+use Rattle.sheet.specs.Places.{placeOf}
+use Rattle.sheet.proofs.Lookups.{and-left, and-right, placed}
 use Rattle.model.specs.Sheet.{sheet}
 use Rattle.model.specs.Resource.{windows}
-use Rattle.model.proofs.RowLaws.{row-none}
 use Rattle.model.proofs.Accepting.{accepted, at-most}
-use Rattle.resource_windows.specs.Gathered.{windowRow}
-use Rattle.resource_windows.proofs.WindowRows.{windowIf, windowOn, resource-window}
+use Rattle.windows.proofs.WindowRows.{windowRow, windowNaming, resource-windows}
 use Rattle.calendar.specs.declared.Answer as calendar
 use Rattle.work_end.specs.declared.Answer.{Answer}
 use Rattle.work_end.specs.Inquiry.{Outcome, ends, refused, said, outcomeOf, inOrder, inquiryRefusal, resourceCalendar, inquiry}
@@ -56,26 +52,16 @@ module _ (s b : ℕ) where
   reach-collect f h (suc n) = reach-append (collect f n) (f n) (reach-collect f h n) (h n)
 
 module _ (rows : List ℤ) (ok : refusalOf rows ≡ none) (s : ℕ) where
-  reach-row : (k : ℕ) → num rows k 4 ≤ most → (b : Bool) → reach clock (pos s) (cond b (windowRow rows k) []) ≤ most
+  reach-row : (id k : ℕ) → reach clock (pos s) (windowNaming rows 15 id k) ≤ most
   unfolding reach
-  reach-row k l true = omega (arith, gap s (num rows k 4))
-  reach-row k l false = omega arith
-
-  reach-on : (id k : ℕ) → reach clock (pos s) (windowOn rows 15 id k) ≤ most
-  reach-on id k = go (is rows k 0 15) refl
+  reach-row id k = go (is rows k 0 15 && is rows k 1 id) refl
     where
-      nothing : reach clock (pos s) [] ≤ most
-      nothing = unfold reach in omega arith
-
-      go : (b : Bool) → is rows k 0 15 ≡ b → reach clock (pos s) (windowOn rows 15 id k) ≤ most
-      go true e =
-          subst (λ l. reach clock (pos s) l ≤ most) (sym (resource-window rows id k e))
-          (reach-row k (at-most rows (accepted rows ok) k 15 4 e) (is rows k 1 id))
-      go false e = subst (λ l. reach clock (pos s) l ≤ most) (sym (row-none rows k 15 (windowIf rows id) e)) nothing
+      go : (b : Bool) → (is rows k 0 15 && is rows k 1 id) ≡ b → reach clock (pos s) (given b (windowRow rows k)) ≤ most
+      go true e = omega (arith, gap s (num rows k 4), at-most rows (accepted rows ok) k 15 4 (and-left (is rows k 0 15) (is rows k 1 id) e))
+      go false e = omega arith
 
   reach-windows : (id : ℕ) → reach clock (pos s) (windows (sheet rows) 15 id) ≤ most
-  unfolding windows
-  reach-windows id = reach-collect s most (windowOn rows 15 id) (reach-on id) (rowCount rows)
+  reach-windows id = rw (resource-windows rows id) (reach-collect s most (windowNaming rows 15 id) (reach-row id) (rowCount rows))
 
   reach-calendar : (resource : ℤ) → reach clock (pos s) (resourceCalendar rows resource) ≤ most
   unfolding resourceCalendar reach
@@ -156,6 +142,9 @@ module _ (rows : List ℤ) {resource z : ℤ} {a : Bool} (p : z ≡ resource) (e
   pub calendar-unknown : a ≡ false → [] ≡ resourceCalendar rows resource
   unfolding resourceCalendar
   calendar-unknown f = rw (sym (ap (inClass id-c) p) ∙ sym e ∙ f)
+
+pub calendar-found : (rows : List ℤ) (o id : ℕ) {c : Calendar ℤ} → placeOf rows 11 id ≡ some o → c ≡ windows (sheet rows) 15 (num rows o 1) → c ≡ windows (sheet rows) 15 id
+calendar-found rows o id q e = e ∙ ap (windows (sheet rows) 15) (placed rows 11 id o q .id-is)
 
 -- ---- the answers
 

@@ -11,7 +11,10 @@ ghost use Rattle.calendar.specs.WorkEnd.{jointWorkEnd};
 ghost use Rattle.calendar.specs.Layout.{calendarOf};
 ghost use Rattle.sheet.specs.Index.{Kinds, Owned};
 ghost use Rattle.sheet.specs.Refusals.{refusalOf};
+ghost use Rattle.model.specs.Sheet.{sheet};
+ghost use Rattle.model.specs.Resource.{windows};
 ghost use Rattle.work_end.specs.Inquiry.{ends, said, outcomeOf, inOrder, resourceCalendar, inquiry};
+use sheet::Found;
 use sheet::Verdict;
 
 // The classes of an id, of an instant and of an amount that may be negative.
@@ -38,7 +41,26 @@ fn in_order(start: i64, work: i64) -> bool
     false
 }
 
-// The calendar of a resource, from place 0 of w on; the place past its last window.
+// The calendar of the resource of that id, from place 0 of w on, and the place past its last window: none where the sheet has no such resource.
+fn resource_windows(
+    rows: &[i64],
+    kinds: &[u16; 832],
+    owned: &[u16; 8810],
+    id: u64,
+    w: &mut [u64; 2400],
+) -> usize
+    requires { ⌜ (refusalOf (now rows) ≡ none) × Kinds (now rows) (now kinds) × Owned (now rows) (now owned) × (length (now w) ≡ 2400) ⌝ }
+    ensures calendar { λ r. ⌜ calendarOf (now (w .exit)) 0 r ≡ windows (sheet (now (rows .entry))) 15 id ⌝ }
+    ensures size { λ r. ⌜ length (now (w .exit)) ≡ 2400 ⌝ }
+{
+    let f = sheet::find_resource(rows, kinds, id);
+    let Found::At(o) = f else {
+        return 0;
+    };
+    windows::gather_windows(rows, owned, o, 15, w, 0)
+}
+
+// The calendar of the resource that a number names, in the same way: none where it is no id.
 fn resource_calendar(
     rows: &[i64],
     kinds: &[u16; 832],
@@ -51,7 +73,7 @@ fn resource_calendar(
     ensures size { λ r. ⌜ length (now (w .exit)) ≡ 2400 ⌝ }
 {
     if rows::in_class(ID, resource) {
-        return resource_windows::resource_windows(rows, kinds, owned, rows::nat(resource), w);
+        return resource_windows(rows, kinds, owned, rows::nat(resource), w);
     }
     0
 }

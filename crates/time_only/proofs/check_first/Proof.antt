@@ -1,6 +1,6 @@
 use borrow.Author.Needs.{needs}
 use Rattle.time_only.proofs.Told.{first-told, task-found}
-use Rattle.time_only.proofs.Spans.{few-windows, is-activity}
+use Rattle.time_only.proofs.Spans.{is-activity}
 use native.Mathlib.Omega.{arith}
 use Prim.Native.Nat.{ℕ}
 use mathlib.Core.Path.{refl}
@@ -8,6 +8,7 @@ use mathlib.Core.Logic.{inl}
 use lib.ListN.{length-replicate}
 use Rattle.sheet.proofs.Lookups.{placed}
 use Rattle.model.proofs.Finds.{found-self}
+use Rattle.windows.proofs.WindowRows.{all-fit}
 use Rattle.time_only.proofs.check_first.Statement.{statement}
 use Rattle.time_only.proofs.check_first.Tie as tie
 use Rattle.time_only.proofs.check_first.Reads as reads
@@ -23,7 +24,7 @@ use Rattle.windows.proofs.gather_windows.Reads as gather-windows-reads
 
 -- src/lib.rt:155:9
 gather-windows-requires : tie.Need-gather-windows-requires
-gather-windows-requires c κs = let h = placed _ _ _ _ ((c .before .pre .4)) .within in ((c .before .pre .1), omega (arith, h), inl (refl, found-self _ _ _ _ ((c .before .pre .4))), length-replicate {A = ℕ} 2400 0, few-windows _ _ _ ((c .before .pre .1 .short)))
+gather-windows-requires c κs = let h = placed _ _ _ _ ((c .before .pre .4)) .within in ((c .before .pre .1), omega (arith, h), inl (refl, found-self _ _ _ _ ((c .before .pre .4))), length-replicate {A = ℕ} 2400 0, all-fit _ _ _ ((c .before .pre .1 .short)))
 
 -- src/lib.rt:156:9
 is-short-requires : tie.Need-is-short-requires

@@ -6,35 +6,35 @@ use Rattle.work_end.proofs.answer_of.Tie as tie
 use Rattle.work_end.proofs.answer_of.Reads as reads
 use Rattle.work_end.proofs.answer_of.Lts as lts
 
--- src/lib.rt:64:31
+-- src/lib.rt:86:31
 enum-known-a : tie.Need-enum-known-a
 enum-known-a c = search needs
 
--- src/lib.rt:65:36
+-- src/lib.rt:87:36
 enum-told : tie.Need-enum-told
 enum-told c = search needs
 
--- src/lib.rt:66:36
+-- src/lib.rt:88:36
 enum-told-2 : tie.Need-enum-told-2
 enum-told-2 c = search needs
 
--- src/lib.rt:67:37
+-- src/lib.rt:89:37
 enum-told-3 : tie.Need-enum-told-3
 enum-told-3 c = search needs
 
--- src/lib.rt:60:1
+-- src/lib.rt:82:1
 returns : tie.Need-returns
 returns c = sym (ap said (c .before .a .given .1))
 
--- src/lib.rt:60:1
+-- src/lib.rt:82:1
 returns-2 : tie.Need-returns-2
 returns-2 c = search needs
 
--- src/lib.rt:60:1
+-- src/lib.rt:82:1
 returns-3 : tie.Need-returns-3
 returns-3 c = search needs
 
--- src/lib.rt:60:1
+-- src/lib.rt:82:1
 returns-4 : tie.Need-returns-4
 returns-4 c = search needs
 
