@@ -1,6 +1,6 @@
 //! Times the product's call and the reference on the same sheets, one after the other, in one run. Reads lines
-//! "GROUP|NAME|N N ..", writes lines "GROUP|NAME|ROWS|FINDINGS|MODEL AND CHECK|CHECK ALONE|PRODUCT", times in nanoseconds:
-//! the median of the rounds. PRODUCT is 0 where the static library has no call.
+//! "GROUP|NAME|N N ..", writes lines "GROUP|NAME|ROWS|FINDINGS|MODEL AND CHECK|CHECK ALONE|PRODUCT|VALIDATION", times in
+//! nanoseconds: the median of the rounds; VALIDATION is the product's refusals 1 to 5 with the index, which its call begins with. PRODUCT is 0 where the static library has no call.
 
 use std::hint::black_box;
 use std::io::BufRead;
@@ -42,7 +42,7 @@ fn main() {
                 parts[1]
             );
         }
-        let (mut whole, mut alone, mut ours) = (Vec::new(), Vec::new(), Vec::new());
+        let (mut whole, mut alone, mut ours, mut first) = (Vec::new(), Vec::new(), Vec::new(), Vec::new());
         let start = Instant::now();
         while whole.is_empty()
             || whole.len() < MOST && (start.elapsed().as_nanos() as u64) < BUDGET_NS
@@ -57,6 +57,9 @@ fn main() {
                     &mut findings,
                 ));
             }));
+            first.push(timed(|| {
+                black_box(product::validate(black_box(&rows)));
+            }));
             let model = reference::model::model(&rows);
             alone.push(timed(|| {
                 black_box(reference::violations(black_box(&model)));
@@ -67,12 +70,13 @@ fn main() {
             None => 0,
         };
         println!(
-            "{}|{}|{}|{count}|{}|{}|{ours}",
+            "{}|{}|{}|{count}|{}|{}|{ours}|{}",
             parts[0],
             parts[1],
             rows.len() / 10,
             median(whole),
-            median(alone)
+            median(alone),
+            median(first)
         );
     }
 }
