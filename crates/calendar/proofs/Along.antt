@@ -7,7 +7,8 @@ use native.Mathlib.Nat.{add-zero, add-suc, suc-add}
 use native.Mathlib.Omega.{arith}
 use lib.Dec.{T, ltb, ltb→lt}
 use lib.IntN.{ℤ, pos, negsuc, _-ℤ_}
-use Rattle.calendar.specs.Clock.{clock, amountOf, ahead}
+use Rattle.loops.specs.Numbers.{toNat}
+use Rattle.calendar.specs.Clock.{clock, ahead}
 use Rattle.calendar.specs.Calendar.{Calendar, jointWorking}
 use Rattle.calendar.specs.Amount.{one, count, since, jointAvailableMs}
 use Rattle.calendar.specs.WorkEnd.{Ending, endsAt, pauses, never, mapEnding, after, endIn, endAfter, endFrom}
@@ -19,7 +20,7 @@ pub gap : (a e : ℕ) → ahead clock (pos a) (pos e) ≡ e - a
 gap zero e = omega arith
 gap (suc a) e = go (ltb e (suc a)) refl
   where
-    go : (b : Bool) → ltb e (suc a) ≡ b → amountOf (cond b (negsuc (suc a - suc e)) (pos (e - suc a))) ≡ e - suc a
+    go : (b : Bool) → ltb e (suc a) ≡ b → toNat (cond b (negsuc (suc a - suc e)) (pos (e - suc a))) ≡ e - suc a
     go true h = let k : e < suc a = ltb→lt e (suc a) (subst T (sym h) tt) in omega arith
     go false h = refl
 

@@ -6,7 +6,8 @@ use mathlib.Core.List.{List}
 use native.Mathlib.Omega.{arith}
 use lib.IntN.{ℤ, pos}
 use lib.ListN.{getD}
-use Rattle.calendar.specs.Clock.{clock, amountOf}
+use Rattle.loops.specs.Numbers.{toNat}
+use Rattle.calendar.specs.Clock.{clock}
 use Rattle.calendar.specs.Calendar.{jointWorking}
 use Rattle.calendar.specs.WorkEnd.{Ending, endsAt, pauses, never, mapEnding, after, endIn, endFrom, jointWorkEnd}
 use Rattle.calendar.specs.Layout.{calendarsOf}
@@ -16,7 +17,7 @@ use Rattle.calendar.proofs.Along.{walk-along}
 
 -- an end, if it is one, is at most m
 abbrev pub EndsBy : ℕ → Ending ℤ → Type 0
-EndsBy m (endsAt e) = amountOf e ≤ m
+EndsBy m (endsAt e) = toNat e ≤ m
 EndsBy m pauses = Unit
 EndsBy m never = Unit
 
@@ -34,10 +35,10 @@ module _ (w cs : List ℕ) (b : ℕ) (h : (k : ℕ) → getD w k 0 ≤ b) (start
       subst (EndsBy (start + (b + work))) (walk-along (calendarsOf w cs) b (settled-at w cs b h) start work)
       (ends-by (jointAt w cs) (b + work) start work (start + (b + work)) (omega arith))
 
-  pub work-end-by : (work : ℤ) → EndsBy (start + (b + amountOf work)) (jointWorkEnd clock (calendarsOf w cs) (pos start) work)
+  pub work-end-by : (work : ℤ) → EndsBy (start + (b + toNat work)) (jointWorkEnd clock (calendarsOf w cs) (pos start) work)
   unfolding jointWorkEnd
   work-end-by work = go (jointWorking clock (calendarsOf w cs) (pos start))
     where
-      go : (v : Bool) → EndsBy (start + (b + amountOf work)) (cond v (endFrom clock (calendarsOf w cs) (pos start) (amountOf work)) pauses)
-      go true = end-from-by (amountOf work)
+      go : (v : Bool) → EndsBy (start + (b + toNat work)) (cond v (endFrom clock (calendarsOf w cs) (pos start) (toNat work)) pauses)
+      go true = end-from-by (toNat work)
       go false = tt

@@ -9,7 +9,8 @@ use native.Mathlib.Nat.{not-suc-le-zero, sub-self}
 use native.Mathlib.Numerals.{add-one}
 use native.Mathlib.Omega.{arith}
 use lib.IntN.{ℤ, pos, negsuc, _+ℤ_}
-use Rattle.calendar.specs.Clock.{Clock, clock, amountOf}
+use Rattle.loops.specs.Numbers.{toNat}
+use Rattle.calendar.specs.Clock.{Clock, clock}
 use Rattle.calendar.specs.Calendar.{Calendar, jointWorking}
 use Rattle.calendar.specs.Amount.{one, count, since}
 use Rattle.calendar.specs.WorkEnd.{Ending, endsAt, pauses, never, mapEnding, after, endIn, reaches, endAfter, endFrom, jointWorkEnd}
@@ -177,11 +178,11 @@ pub endFrom-tells : (cs : List (Calendar ℤ)) (t : ℤ) (work : ℕ) → Tells 
 unfolding endFrom
 endFrom-tells cs t work = told clock cs t work (endAfter clock cs t work) (end-means cs t work)
 
-pub workEnd-says : (cs : List (Calendar ℤ)) (t work : ℤ) → Says clock cs t (amountOf work) (jointWorkEnd clock cs t work)
+pub workEnd-says : (cs : List (Calendar ℤ)) (t work : ℤ) → Says clock cs t (toNat work) (jointWorkEnd clock cs t work)
 unfolding jointWorkEnd
-workEnd-says cs t work = go (jointWorking clock cs t) refl (endFrom clock cs t (amountOf work)) (endFrom-tells cs t (amountOf work))
+workEnd-says cs t work = go (jointWorking clock cs t) refl (endFrom clock cs t (toNat work)) (endFrom-tells cs t (toNat work))
   where
-    go : (v : Bool) → jointWorking clock cs t ≡ v → (x : Ending ℤ) → Tells clock cs t (amountOf work) x → Says clock cs t (amountOf work) (cond v x pauses)
+    go : (v : Bool) → jointWorking clock cs t ≡ v → (x : Ending ℤ) → Tells clock cs t (toNat work) x → Says clock cs t (toNat work) (cond v x pauses)
     go true e (endsAt s) h = (e, h)
     go true e pauses h = absurd h
     go true e never h = (e, h)
@@ -225,24 +226,24 @@ module _ (cs : List (Calendar ℤ)) (t work : ℤ) where
       (jointWorkEnd clock cs t work ≡ pauses → jointWorking clock cs t ≡ false)
       × (jointWorking clock cs t ≡ false → jointWorkEnd clock cs t work ≡ pauses)
   pause-exactly = (
-    λ e. subst (Says clock cs t (amountOf work)) e (workEnd-says cs t work),
-    λ h. says-unique clock cs t (amountOf work) (jointWorkEnd clock cs t work) pauses (workEnd-says cs t work) h,
+    λ e. subst (Says clock cs t (toNat work)) e (workEnd-says cs t work),
+    λ h. says-unique clock cs t (toNat work) (jointWorkEnd clock cs t work) pauses (workEnd-says cs t work) h,
   )
 
   -- never exactly if the start is one and, however far one looks, too little working time follows
   pub never-exactly :
-      (jointWorkEnd clock cs t work ≡ never → (jointWorking clock cs t ≡ true) × ((n : ℕ) → count (since clock cs t) 0 n < amountOf work))
-      × ((jointWorking clock cs t ≡ true) × ((n : ℕ) → count (since clock cs t) 0 n < amountOf work) → jointWorkEnd clock cs t work ≡ never)
+      (jointWorkEnd clock cs t work ≡ never → (jointWorking clock cs t ≡ true) × ((n : ℕ) → count (since clock cs t) 0 n < toNat work))
+      × ((jointWorking clock cs t ≡ true) × ((n : ℕ) → count (since clock cs t) 0 n < toNat work) → jointWorkEnd clock cs t work ≡ never)
   never-exactly = (
-    λ e. subst (Says clock cs t (amountOf work)) e (workEnd-says cs t work),
-    λ h. says-unique clock cs t (amountOf work) (jointWorkEnd clock cs t work) never (workEnd-says cs t work) h,
+    λ e. subst (Says clock cs t (toNat work)) e (workEnd-says cs t work),
+    λ h. says-unique clock cs t (toNat work) (jointWorkEnd clock cs t work) never (workEnd-says cs t work) h,
   )
 
   -- an end n milliseconds after the start exactly if the start is one and by then, and not before, that much working time has passed
   pub end-exactly : (e : ℤ)
-      → (jointWorkEnd clock cs t work ≡ endsAt e → (jointWorking clock cs t ≡ true) × ((n : ℕ) × ((e ≡ t +ℤ pos n) × EndsAfter (since clock cs t) (amountOf work) n)))
-      × ((jointWorking clock cs t ≡ true) × ((n : ℕ) × ((e ≡ t +ℤ pos n) × EndsAfter (since clock cs t) (amountOf work) n)) → jointWorkEnd clock cs t work ≡ endsAt e)
+      → (jointWorkEnd clock cs t work ≡ endsAt e → (jointWorking clock cs t ≡ true) × ((n : ℕ) × ((e ≡ t +ℤ pos n) × EndsAfter (since clock cs t) (toNat work) n)))
+      × ((jointWorking clock cs t ≡ true) × ((n : ℕ) × ((e ≡ t +ℤ pos n) × EndsAfter (since clock cs t) (toNat work) n)) → jointWorkEnd clock cs t work ≡ endsAt e)
   end-exactly e = (
-    λ q. subst (Says clock cs t (amountOf work)) q (workEnd-says cs t work),
-    λ h. says-unique clock cs t (amountOf work) (jointWorkEnd clock cs t work) (endsAt e) (workEnd-says cs t work) h,
+    λ q. subst (Says clock cs t (toNat work)) q (workEnd-says cs t work),
+    λ h. says-unique clock cs t (toNat work) (jointWorkEnd clock cs t work) (endsAt e) (workEnd-says cs t work) h,
   )

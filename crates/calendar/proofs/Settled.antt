@@ -8,13 +8,14 @@ use lib.IntN.{ℤ, pos, negsuc, _+ℤ_, _-ℤ_, negℤ, +ℤ-comm, +ℤ-negℤ-c
 use lib.Dec.{eqb}
 use lib.Signed.{ltZ}
 use borrow.Author.Tests.{le-ltb}
-use Rattle.calendar.specs.Clock.{Clock, clock, amountOf, ahead}
+use Rattle.loops.specs.Numbers.{toNat}
+use Rattle.calendar.specs.Clock.{Clock, clock, ahead}
 use Rattle.loops.specs.Lists.{anyOf, allOf}
 use Rattle.calendar.specs.Calendar.{Window, Calendar, contains, isWorkingTime, jointWorking}
 use Rattle.calendar.specs.WorkEnd.{reach, reaches}
 use Rattle.calendar.proofs.Moving.{ltZ-add}
 
-not-before : (z : ℤ) (n : ℕ) → amountOf z ≤ n → ltZ (pos n) z ≡ false
+not-before : (z : ℤ) (n : ℕ) → toNat z ≤ n → ltZ (pos n) z ≡ false
 not-before (pos z) n h = le-ltb n z h
 not-before (negsuc z) n h = refl
 

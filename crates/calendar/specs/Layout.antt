@@ -5,12 +5,12 @@ use mathlib.Core.List.{List, map}
 use lib.IntN.{ℤ, pos}
 use lib.ListN.{length, getD}
 use lib.Dec.{leb, ltb}
+use Rattle.loops.specs.Numbers.{toNat}
 use Rattle.loops.specs.Lists.{given}
 use Rattle.loops.specs.Range.{collect}
 use Rattle.calendar.specs.declared.TimeWindow.{TimeWindow}
 use Rattle.calendar.specs.declared.Answer.{Answer}
 use Rattle.calendar.specs.declared.Answer.the-variants.{End, Pause, Never, Beyond}
-use Rattle.calendar.specs.Clock.{amountOf}
 use Rattle.calendar.specs.Calendar.{Window, Calendar}
 use Rattle.calendar.specs.WorkEnd.{Ending, endsAt, pauses, never}
 
@@ -41,6 +41,6 @@ calendarsOf w cs = map (map windowOf) (listsOf w cs)
 
 -- the answer that says so: an end past the last number of 64 bits is beyond
 abbrev pub answerOf : Ending ℤ → Answer
-answerOf (endsAt e) = cond (ltb (amountOf e) (2 ^ 64)) (End (amountOf e)) Beyond
+answerOf (endsAt e) = cond (ltb (toNat e) (2 ^ 64)) (End (toNat e)) Beyond
 answerOf pauses = Pause
 answerOf never = Never

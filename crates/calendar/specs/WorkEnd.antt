@@ -3,7 +3,8 @@ use Prim.Native.Nat.{ℕ, zero, suc, _+_, max}
 use mathlib.Core.Bool.{Bool, true, false, cond}
 use mathlib.Core.List.{List, [], _∷_}
 use lib.IntN.{ℤ, pos}
-use Rattle.calendar.specs.Clock.{Clock, amountOf, ahead}
+use Rattle.loops.specs.Numbers.{toNat}
+use Rattle.calendar.specs.Clock.{Clock, ahead}
 use Rattle.calendar.specs.Calendar.{Window, Calendar, jointWorking}
 use Rattle.calendar.specs.Amount.{since}
 
@@ -51,4 +52,4 @@ module _ {T : Type 0} (K : Clock T) where
 
   -- the work end: pause where the start is no working time; work below zero counts as none
   unfoldable pub jointWorkEnd : List (Calendar T) → T → ℤ → Ending T
-  jointWorkEnd cs t work = cond (jointWorking K cs t) (endFrom cs t (amountOf work)) pauses
+  jointWorkEnd cs t work = cond (jointWorking K cs t) (endFrom cs t (toNat work)) pauses

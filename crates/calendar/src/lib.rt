@@ -8,7 +8,8 @@ ghost use mathlib.Core.Bool.{Bool, true, false, cond};
 ghost use Prim.Native.Nat.{ℕ, _+_, _-_, _*_, _/_, _<_, _≤_, max, min};
 ghost use lib.ListN.{length, getD};
 ghost use lib.IntN.{ℤ, pos};
-ghost use Rattle.calendar.specs.Clock.{clock, amountOf};
+ghost use Rattle.loops.specs.Numbers.{toNat};
+ghost use Rattle.calendar.specs.Clock.{clock};
 ghost use Rattle.calendar.specs.Calendar.{contains, holds, hits, isWorkingTime, intervalFits, jointWorking};
 ghost use Rattle.calendar.specs.Amount.{jointAvailableMs};
 ghost use Rattle.calendar.specs.WorkEnd.{endFrom, jointWorkEnd};
@@ -295,7 +296,7 @@ pub fn end_from(cs: &[usize], w: &[u64], start: u64, work: u64) -> Answer
 
 // An amount of work that may be below zero, which counts as none.
 fn amount(work: i64) -> u64
-    ensures { λ r. ⌜ r ≡ amountOf work ⌝ }
+    ensures { λ r. ⌜ r ≡ toNat work ⌝ }
 {
     if work <= 0 {
         return 0;

@@ -3,10 +3,10 @@ use Prim.Native.Nat.{ℕ}
 use mathlib.Core.Path.{_≡_}
 use mathlib.Core.List.{List}
 use lib.IntN.{ℤ}
+use Rattle.loops.specs.Numbers.{toNat}
 use Rattle.text.specs.declared.Answer.{Answer}
 use Rattle.text.specs.declared.Answer.the-variants.{Accepted, Refused}
 use mathlib.Core.Option.{Option, none, some}
-use Rattle.calendar.specs.Clock.{amountOf}
 use Rattle.calendar.specs.WorkEnd.{endsAt, pauses, never}
 use Rattle.sheet.specs.Refusals.{Refusal}
 use Rattle.work_end.specs.Inquiry as inquiry
@@ -26,7 +26,7 @@ ofRefusal (some x) = record { number = x .number; place = x .place }
 -- the inquiry's answer as four numbers: a refusal's number and place; or 0, 0, the outcome (0 an end, 1 pause, 2 never) and the instant of an end
 abbrev pub ofInquiry : inquiry.Outcome → WorkEnd
 ofInquiry (inquiry.refused x) = record { number = x .number; place = x .place; outcome = 0; instant = 0 }
-ofInquiry (inquiry.ends (endsAt e)) = record { number = 0; place = 0; outcome = 0; instant = amountOf e }
+ofInquiry (inquiry.ends (endsAt e)) = record { number = 0; place = 0; outcome = 0; instant = toNat e }
 ofInquiry (inquiry.ends pauses) = record { number = 0; place = 0; outcome = 1; instant = 0 }
 ofInquiry (inquiry.ends never) = record { number = 0; place = 0; outcome = 2; instant = 0 }
 

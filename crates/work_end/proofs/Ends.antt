@@ -11,7 +11,7 @@ use lib.Signed.{leZ}
 use Rattle.loops.specs.Numbers.{toNat}
 use Rattle.loops.specs.Range.{collect}
 use Rattle.loops.specs.Lists.{given}
-use Rattle.calendar.specs.Clock.{clock, amountOf}
+use Rattle.calendar.specs.Clock.{clock}
 use Rattle.calendar.specs.Calendar.{Calendar, jointWorking}
 use Rattle.calendar.specs.Amount.{since}
 use Rattle.calendar.specs.WorkEnd.{Ending, endsAt, pauses, never, mapEnding, after, endIn, reach, reaches, endAfter, endFrom, jointWorkEnd}
@@ -92,12 +92,12 @@ module _ (l : Calendar ℤ) (s work : ℕ) (h : reach clock (pos s) l ≤ most) 
   unfolding endFrom endAfter reaches
   fits-from = fits-in (since clock (l ∷ []) (pos s)) s (max (reach clock (pos s) l) 0 + work) 0 work (omega arith)
 
-fits-end : (l : Calendar ℤ) (s : ℕ) (work : ℤ) → reach clock (pos s) l ≤ most → s ≤ most → amountOf work ≤ most → Fits (jointWorkEnd clock (l ∷ []) (pos s) work)
+fits-end : (l : Calendar ℤ) (s : ℕ) (work : ℤ) → reach clock (pos s) l ≤ most → s ≤ most → toNat work ≤ most → Fits (jointWorkEnd clock (l ∷ []) (pos s) work)
 unfolding jointWorkEnd
 fits-end l s work h a b = go (jointWorking clock (l ∷ []) (pos s))
   where
-    go : (v : Bool) → Fits (cond v (endFrom clock (l ∷ []) (pos s) (amountOf work)) pauses)
-    go true = fits-from l s (amountOf work) h a b
+    go : (v : Bool) → Fits (cond v (endFrom clock (l ∷ []) (pos s) (toNat work)) pauses)
+    go true = fits-from l s (toNat work) h a b
     go false = tt
 
 -- what fits is said as it is
@@ -118,7 +118,7 @@ unfolding inClass inRange within
 start-in (pos n) e = (refl, leb-true n most (and-right (leZ (pos 0) (pos n)) (leZ (pos n) (pos most)) (in-range (inRange t-c (pos n)) (isNone (pos n)) e)))
 start-in (negsuc n) e = absurd (true≢false (sym e))
 
-work-in : (x : ℤ) → inClass g-c x ≡ true → amountOf x ≤ most
+work-in : (x : ℤ) → inClass g-c x ≡ true → toNat x ≤ most
 unfolding inClass inRange within
 work-in (pos n) e = leb-true n most (and-right (leZ (negsuc 3999999999999) (pos n)) (leZ (pos n) (pos most)) (in-range (inRange g-c (pos n)) (isNone (pos n)) e))
 work-in (negsuc n) e = omega arith
