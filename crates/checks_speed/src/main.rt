@@ -123,7 +123,17 @@ fn timed(
         return 0;
     };
     let mut out = no_findings();
-    repeated(rows, kinds, links, owned, &held, &need, check, count, &mut out)
+    repeated(
+        rows,
+        kinds,
+        links,
+        owned,
+        &held,
+        &need,
+        check,
+        count,
+        &mut out,
+    )
 }
 
 // 0 where the text is refused.
