@@ -45,6 +45,9 @@ def sheets():
     yield "resumable parts, 530 windows", filled(
         [TASK, activity(process=264, resumable=1), row(4, 1, 1000, 0, 0), needs(), machine(1, capacity=900)] + many(530, lambda i: window(1, i)),
         lambda i: book(1, index=i, work=1, **long))
+    yield "resumable parts, 496 windows, and more findings than the first pass holds", filled(
+        [TASK, activity(process=240, resumable=1), row(4, 1, 1000, 0, 0), needs(), machine(1, capacity=900), row(20, 1), external(1, 3)]
+        + many(50, lambda i: row(22, 0, 3)) + many(496, lambda i: window(1, i)), lambda i: book(1, index=i, work=1, **long))
     for windows in (395, 530, 700):
         yield f"resumable piece, {windows} windows", filled(
             [TASK, activity(resumable=1), needs(), machine(1, capacity=900)] + many(windows, lambda i: window(1, i)), lambda i: book(1, **long))
@@ -68,7 +71,7 @@ def sheets():
     yield "395 parts after 395 parts", [TASK, activity(1, process=395), activity(2, sequence=1, process=395), row(4, 1, 1000, 0, 0), row(4, 2, 1000, 0, 0), needs(1), needs(2)] + many(395, lambda i: book(1, 1, index=i, work=1)) + many(395, lambda i: book(1, 2, 100, 200, index=394 - i, work=1))
     yield "a no-overlap of 700 members", [row(20, 1), machine(1, capacity=900)] + many(700, lambda i: row(22, 0, i % 49)) + many(49, lambda i: external(1, i, i * 10, i * 10 + 10))
     yield "a no-overlap of 265 activities", [TASK, row(20, 1), machine(1, capacity=900)] + many(265, lambda i: row(22, 0, i)) + many(265, lambda i: external(1, i, i * 10, i * 10 + 10)) + many(265, lambda i: activity(i, sequence=i))
-    yield "a no-overlap of 40 members that overlap", [row(20, 1), machine(1, capacity=900)] + many(60, lambda i: row(22, 0, 3)) + [external(1, 3)]
+    yield "a no-overlap of 60 members that overlap", [row(20, 1), machine(1, capacity=900)] + many(60, lambda i: row(22, 0, 3)) + [external(1, 3)]
     yield "395 capacities, 400 resources", many(395, lambda i: row(18, i, 1)) + many(400, lambda i: external(i, 3))
     yield "799 bookings of one resource", [machine(1, capacity=900)] + many(799, lambda i: external(1, i, i, i + 400))
     yield "799 bookings of 799 resources", many(799, lambda i: external(i, 3))
