@@ -45,9 +45,8 @@ def sheets():
     yield "resumable parts, 530 windows", filled(
         [TASK, activity(process=264, resumable=1), row(4, 1, 1000, 0, 0), needs(), machine(1, capacity=900)] + many(530, lambda i: window(1, i)),
         lambda i: book(1, index=i, work=1, **long))
-    yield "resumable parts, 496 windows, and more findings than the first pass holds", filled(
-        [TASK, activity(process=240, resumable=1), row(4, 1, 1000, 0, 0), needs(), machine(1, capacity=900), row(20, 1), external(1, 3)]
-        + many(50, lambda i: row(22, 0, 3)) + many(496, lambda i: window(1, i)), lambda i: book(1, index=i, work=1, **long))
+    yield "resumable piece, 530 windows, five findings to a booking", filled(
+        [row(1, 1, NONE, 5), row(2, 1, 1, 0, 0, 10**6, 0, 1, 5), needs(), machine(1, capacity=900)] + many(530, lambda i: window(1, i)), lambda i: book(1, **long))
     for windows in (395, 530, 700):
         yield f"resumable piece, {windows} windows", filled(
             [TASK, activity(resumable=1), needs(), machine(1, capacity=900)] + many(windows, lambda i: window(1, i)), lambda i: book(1, **long))
