@@ -2,15 +2,15 @@
 // resumable work starts in the joint working time of its piece, and that time within its span covers it.
 ghost use mathlib.Core.Path.{_≡_};
 ghost use Prim.Native.Nat.{ℕ, _+_, _<_, _≤_};
-ghost use mathlib.Core.Bool.{Bool, true, not, _&&_, _||_};
+ghost use mathlib.Core.Bool.{Bool, true, not, cond, _&&_, _||_};
 ghost use mathlib.Core.Option.{Option, some};
 ghost use lib.Dec.{ltb};
 ghost use lib.IntN.{pos};
-ghost use lib.ListN.{getD};
+ghost use lib.ListN.{getD, set};
 ghost use Rattle.loops.specs.Lists.{given};
 ghost use Rattle.rows.specs.Cells.{rowCount, num, is};
 ghost use Rattle.sheet.specs.Places.{placeOf};
-ghost use Rattle.sheet.specs.Index.{Owned, ownPlace};
+ghost use Rattle.sheet.specs.Index.{Linked, Owned, ownPlace};
 ghost use Rattle.sheet.specs.Accepted.{Accepted};
 ghost use Rattle.calendar.specs.Clock.{clock};
 ghost use Rattle.calendar.specs.Calendar.{intervalFits, jointWorking};
@@ -26,6 +26,7 @@ ghost use Rattle.model.specs.Indexed.{Indexed};
 ghost use Rattle.checks.specs.CheckCalendars.{calendarsOf, checkResumable, checkPlain, checkBooking, checkCalendars};
 ghost use Rattle.windows.specs.Laid.{Holder};
 ghost use Rattle.times.specs.Times.{Needs};
+ghost use Rattle.calendars.specs.Lacking.{lacksTime, Lacking};
 use findings::Violation;
 
 fn tell(out: &mut [i64], n: usize, yes: bool, kind: u8, entity: u64, severity: u8) -> usize
@@ -145,27 +146,6 @@ fn lacks_time(
     is_uncovered(&cs[..2 * c], &w, start, end, needed)
 }
 
-// Booking k, that may pause, of the activity of row a.
-fn check_resumable(
-    rows: &[i64],
-    kinds: &[u16; 832],
-    links: &[u16; 1600],
-    owned: &[u16; 8810],
-    need: &[u64; 800],
-    a: usize,
-    k: usize,
-    out: &mut [i64],
-    n: usize,
-) -> usize
-    requires { ⌜ Indexed (now rows) (now kinds) (now links) (now owned) × Needs (now rows) (now need) × (k < rowCount (now rows)) × (is (now rows) k 0 23 ≡ true) × (a ≡ ownPlace (now rows) k) × (a < rowCount (now rows)) ⌝ }
-    ensures { λ r. ⌜ sink (now (out .exit)) r ≡ emit (sink (now (out .entry)) n) (checkResumable clock (sheet (now (rows .entry))) (assignmentOf (now (rows .entry)) k) (activityOf (now (rows .entry)) a)) ⌝ }
-{
-    let bad = lacks_time(rows, kinds, links, owned, need, a, k);
-    tell(out, n, bad, 4, rows::id_at(rows, k, 3), 85)
-}
-
-// ---- the check
-
 // Whether the activity of row a, if that is in the sheet, is resumable.
 fn is_resumable(rows: &[i64], a: usize) -> bool
     ensures { λ r. ⌜ r ≡ (ltb a (rowCount (now (rows .entry))) && is (now (rows .entry)) a 7 1) ⌝ }
@@ -176,18 +156,86 @@ fn is_resumable(rows: &[i64], a: usize) -> bool
     false
 }
 
-// Booking k, if its resource is in the sheet.
-fn check_booking(
+// 1 where row k is a booking of a resumable activity that lacks working time, else 0.
+fn lacks_at(
     rows: &[i64],
     kinds: &[u16; 832],
     links: &[u16; 1600],
     owned: &[u16; 8810],
     need: &[u64; 800],
     k: usize,
+) -> u8
+    requires { ⌜ Indexed (now rows) (now kinds) (now links) (now owned) × Needs (now rows) (now need) × (k < rowCount (now rows)) ⌝ }
+    ensures { λ r. ⌜ r ≡ cond (lacksTime (now (rows .entry)) k) 1 0 ⌝ }
+{
+    if rows::is_at(rows, k, 0, 23) {
+        let a = sheet::owner_of(rows, links, k);
+        if is_resumable(rows, a) {
+            if lacks_time(rows, kinds, links, owned, need, a, k) {
+                return 1;
+            }
+        }
+    }
+    0
+}
+
+fn set_lacking(t: &mut [u8; 800], k: usize, v: u8)
+    requires { ⌜ k < 800 ⌝ }
+    ensures { λ _. ⌜ now (t .exit) ≡ set (now (t .entry)) k v ⌝ }
+{
+    t[k] = v;
+}
+
+// Which bookings of resumable activities lack working time. Found once for a sheet, since it is the dearest question of all checks.
+pub fn lacking_of(
+    rows: &[i64],
+    kinds: &[u16; 832],
+    links: &[u16; 1600],
+    owned: &[u16; 8810],
+    need: &[u64; 800],
+) -> [u8; 800]
+    requires { ⌜ Indexed (now rows) (now kinds) (now links) (now owned) × Needs (now rows) (now need) ⌝ }
+    ensures { λ r. ⌜ Lacking (now (rows .entry)) r ⌝ }
+{
+    let n = rows::row_count(rows);
+    let mut t = [0u8; 800];
+    let mut k = 0;
+    while k < n {
+        set_lacking(&mut t, k, lacks_at(rows, kinds, links, owned, need, k));
+        k += 1;
+    }
+    t
+}
+
+// Booking k, that may pause, of the activity of row a.
+fn check_resumable(
+    rows: &[i64],
+    lacking: &[u8; 800],
+    a: usize,
+    k: usize,
     out: &mut [i64],
     n: usize,
 ) -> usize
-    requires { ⌜ Indexed (now rows) (now kinds) (now links) (now owned) × Needs (now rows) (now need) × (k < rowCount (now rows)) × (is (now rows) k 0 23 ≡ true) ⌝ }
+    requires { ⌜ Lacking (now rows) (now lacking) × (k < rowCount (now rows)) × (is (now rows) k 0 23 ≡ true) × (a ≡ ownPlace (now rows) k) × ((ltb a (rowCount (now rows)) && is (now rows) a 7 1) ≡ true) ⌝ }
+    ensures { λ r. ⌜ sink (now (out .exit)) r ≡ emit (sink (now (out .entry)) n) (checkResumable clock (sheet (now (rows .entry))) (assignmentOf (now (rows .entry)) k) (activityOf (now (rows .entry)) a)) ⌝ }
+{
+    let bad = lacking[k] == 1;
+    tell(out, n, bad, 4, rows::id_at(rows, k, 3), 85)
+}
+
+// ---- the check
+
+// Booking k, if its resource is in the sheet.
+fn check_booking(
+    rows: &[i64],
+    links: &[u16; 1600],
+    owned: &[u16; 8810],
+    lacking: &[u8; 800],
+    k: usize,
+    out: &mut [i64],
+    n: usize,
+) -> usize
+    requires { ⌜ Linked (now rows) (now links) × Owned (now rows) (now owned) × Lacking (now rows) (now lacking) × (k < rowCount (now rows)) × (is (now rows) k 0 23 ≡ true) ⌝ }
     ensures { λ r. ⌜ sink (now (out .exit)) r ≡ emit (sink (now (out .entry)) n) (checkBooking clock (sheet (now (rows .entry))) (assignmentOf (now (rows .entry)) k)) ⌝ }
 {
     let count = rows::row_count(rows);
@@ -197,7 +245,7 @@ fn check_booking(
     }
     let a = sheet::owner_of(rows, links, k);
     if is_resumable(rows, a) {
-        return check_resumable(rows, kinds, links, owned, need, a, k, out, n);
+        return check_resumable(rows, lacking, a, k, out, n);
     }
     check_plain(rows, owned, a, o, k, out, n)
 }
@@ -207,18 +255,18 @@ pub fn check_calendars(
     kinds: &[u16; 832],
     links: &[u16; 1600],
     owned: &[u16; 8810],
-    need: &[u64; 800],
+    lacking: &[u8; 800],
     out: &mut [i64],
     n: usize,
 ) -> usize
-    requires { ⌜ Indexed (now rows) (now kinds) (now links) (now owned) × Needs (now rows) (now need) ⌝ }
+    requires { ⌜ Indexed (now rows) (now kinds) (now links) (now owned) × Lacking (now rows) (now lacking) ⌝ }
     ensures { λ r. ⌜ sink (now (out .exit)) r ≡ emit (sink (now (out .entry)) n) (checkCalendars clock (sheet (now (rows .entry)))) ⌝ }
 {
     let count = rows::row_count(rows);
     let mut m = n;
     let mut k = sheet::first_of(rows, kinds, 23);
     while k < count {
-        m = check_booking(rows, kinds, links, owned, need, k, out, m);
+        m = check_booking(rows, links, owned, lacking, k, out, m);
         k = sheet::next_of(rows, kinds, 23, k);
     }
     m

@@ -1,4 +1,5 @@
-use Rattle.calendars.proofs.Booking.{resource-found, absent-told, is-there, resumable-booked, plain-booked}
+use mathlib.Core.Path.{sym, _∙_}
+use Rattle.calendars.proofs.Booking.{resource-found, absent-told, resumable-booked, plain-booked}
 use borrow.Author.Needs.{needs}
 use Rattle.calendars.proofs.check_booking.Statement.{statement}
 use Rattle.calendars.proofs.check_booking.Tie as tie
@@ -11,49 +12,49 @@ use Rattle.rows.proofs.row_count.Reads as row-count-reads
 use Rattle.sheet.proofs.owner_of.Reads as owner-of-reads
 use Rattle.sheet.proofs.resource_of.Reads as resource-of-reads
 
--- src/lib.rt:212:9
+-- src/lib.rt:241:9
 row-count-requires : tie.Need-row-count-requires
 row-count-requires c κs = search needs
 
--- src/lib.rt:213:9
+-- src/lib.rt:242:9
 resource-of-requires : tie.Need-resource-of-requires
 resource-of-requires c κs = search needs
 
--- src/lib.rt:215:9
+-- src/lib.rt:244:9
 returns : tie.Need-returns
-returns c = absent-told _ _ ((c .before .before .before .pre .3)) _ (c .before .resource-of .ensures) (c .if1 .taken) (c .before .before .row-count .ensures)
+returns c = absent-told _ _ ((c .before .before .before .pre .4)) _ ((c .before .resource-of .ensures)) ((c .if1 .taken)) ((c .before .before .row-count .ensures))
 
--- src/lib.rt:217:9
+-- src/lib.rt:246:9
 owner-of-requires : tie.Need-owner-of-requires
 owner-of-requires c κs = search needs
 
--- src/lib.rt:218:8
+-- src/lib.rt:247:8
 is-resumable-requires : tie.Need-is-resumable-requires
 is-resumable-requires c κs = search needs
 
--- src/lib.rt:219:9
+-- src/lib.rt:248:9
 check-resumable-requires : tie.Need-check-resumable-requires
-check-resumable-requires c κs = ((c .before .before .before .before .before .before .before .pre .0), (c .before .before .before .before .before .before .before .pre .1), (c .before .before .before .before .before .before .before .pre .2), (c .before .before .before .before .before .before .before .pre .3), (c .before .before .before .owner-of .ensures), is-there _ _ ((c .before .before .before .before .before .before .before .pre .3)) (c .before .before .is-resumable .ensures) (c .before .if2 .taken))
+check-resumable-requires c κs = (((c .before .before .before .before .before .before .before .pre .2)), ((c .before .before .before .before .before .before .before .pre .3)), ((c .before .before .before .before .before .before .before .pre .4)), ((c .before .before .before .owner-of .ensures)), sym ((c .before .before .is-resumable .ensures)) ∙ ((c .before .if2 .taken)))
 
--- src/lib.rt:219:9
+-- src/lib.rt:248:9
 same-length : tie.Need-same-length
 same-length c = search needs
 
--- src/lib.rt:219:9
+-- src/lib.rt:248:9
 returns-2 : tie.Need-returns-2
-returns-2 c = resumable-booked _ _ ((c .before .before .before .before .before .before .before .before .before .pre .3)) _ (c .before .before .before .before .before .before .before .resource-of .ensures) (c .before .before .before .before .before .before .if1 .left) (c .before .before .before .before .before .before .before .before .row-count .ensures) (c .before .before .before .before .before .owner-of .ensures) (c .before .before .before .before .is-resumable .ensures) (c .before .before .before .if2 .taken) (c .before .check-resumable .ensures)
+returns-2 c = resumable-booked _ _ ((c .before .before .before .before .before .before .before .before .before .pre .4)) _ ((c .before .before .before .before .before .before .before .resource-of .ensures)) ((c .before .before .before .before .before .before .if1 .left)) ((c .before .before .before .before .before .before .before .before .row-count .ensures)) ((c .before .before .before .before .before .owner-of .ensures)) ((c .before .before .before .before .is-resumable .ensures)) ((c .before .before .before .if2 .taken)) ((c .before .check-resumable .ensures))
 
--- src/lib.rt:221:5
+-- src/lib.rt:250:5
 check-plain-requires : tie.Need-check-plain-requires
-check-plain-requires c κs = ((c .before .before .before .before .before .before .before .pre .0) .by-owner, (c .before .before .before .owner-of .ensures), (c .before .before .before .before .before .before .before .pre .3), resource-found _ _ ((c .before .before .before .before .before .before .before .pre .3)) (c .before .before .before .before .before .resource-of .ensures) (c .before .before .before .before .if1 .left) (c .before .before .before .before .before .before .row-count .ensures))
+check-plain-requires c κs = (((c .before .before .before .before .before .before .before .pre .1)), ((c .before .before .before .owner-of .ensures)), ((c .before .before .before .before .before .before .before .pre .4)), resource-found _ _ ((c .before .before .before .before .before .before .before .pre .4)) ((c .before .before .before .before .before .resource-of .ensures)) ((c .before .before .before .before .if1 .left)) ((c .before .before .before .before .before .before .row-count .ensures)))
 
--- src/lib.rt:199:1
+-- src/lib.rt:229:1
 same-length-2 : tie.Need-same-length-2
 same-length-2 c = search needs
 
--- src/lib.rt:199:1
+-- src/lib.rt:229:1
 returns-3 : tie.Need-returns-3
-returns-3 c = plain-booked _ _ ((c .before .before .before .before .before .before .before .before .before .pre .3)) _ (c .before .before .before .before .before .before .before .resource-of .ensures) (c .before .before .before .before .before .before .if1 .left) (c .before .before .before .before .before .before .before .before .row-count .ensures) (c .before .before .before .before .before .owner-of .ensures) (c .before .before .before .before .is-resumable .ensures) (c .before .before .before .if2 .left) (c .before .check-plain .ensures)
+returns-3 c = plain-booked _ _ ((c .before .before .before .before .before .before .before .before .before .pre .4)) _ ((c .before .before .before .before .before .before .before .resource-of .ensures)) ((c .before .before .before .before .before .before .if1 .left)) ((c .before .before .before .before .before .before .before .before .row-count .ensures)) ((c .before .before .before .before .before .owner-of .ensures)) ((c .before .before .before .before .is-resumable .ensures)) ((c .before .before .before .if2 .left)) ((c .before .check-plain .ensures))
 
 pub check-booking-spec : {M : Type 1} → statement M
 check-booking-spec =

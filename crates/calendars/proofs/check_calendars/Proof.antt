@@ -45,7 +45,7 @@ loop-holds c = (search needs, emit-first _ _ (c .first-of .ensures) (booking-sil
 
 -- src/lib.rt:232:9
 check-booking-requires : tie.Need-check-booking-requires Inv-loop μ-loop
-check-booking-requires c κs = ((c .before .before .before .before .before .pre .0), (c .before .before .before .before .before .pre .1), omega (arith, (c .before .loop-test .taken), (c .before .before .before .before .row-count .ensures)), stands-kind _ _ (c .before .loop-test .taken) (c .before .before .before .before .row-count .ensures) ((c .before .before .loop .inv) .0))
+check-booking-requires c κs = ((c .before .before .before .before .before .pre .0) .linked, (c .before .before .before .before .before .pre .0) .by-owner, (c .before .before .before .before .before .pre .1), omega (arith, (c .before .loop-test .taken), (c .before .before .before .before .row-count .ensures)), stands-kind _ _ (c .before .loop-test .taken) (c .before .before .before .before .row-count .ensures) ((c .before .before .loop .inv) .0))
 
 -- src/lib.rt:233:9
 next-of-requires : tie.Need-next-of-requires Inv-loop μ-loop

@@ -1,0 +1,35 @@
+-- Which bookings of resumable activities lack working time, by row. Assumes nothing.
+use Prim.Native.Nat.{ℕ, _<_, _≤_}
+use mathlib.Core.Path.{_≡_}
+use mathlib.Core.Bool.{Bool, not, cond, _&&_, _||_}
+use mathlib.Core.List.{List}
+use lib.Dec.{ltb}
+use lib.IntN.{ℤ, pos}
+use lib.ListN.{getD}
+use Rattle.calendar.specs.Clock.{clock}
+use Rattle.calendar.specs.Calendar.{jointWorking}
+use Rattle.calendar.specs.Amount.{jointAvailableMs}
+use Rattle.rows.specs.Cells.{rowCount, num, is}
+use Rattle.sheet.specs.Index.{ownPlace}
+use Rattle.model.specs.Sheet.{sheet}
+use Rattle.model.specs.Activity.{neededMs}
+use Rattle.model.specs.Records.{activityOf, assignmentOf}
+use Rattle.checks.specs.Pieces.{runsOn}
+use Rattle.checks.specs.CheckCalendars.{calendarsOf}
+
+-- booking k, of the activity of row a, starts outside the joint working time of its piece, or has too little of it: the test of `checkResumable`
+abbrev pub uncoveredAt : List ℤ → ℕ → ℕ → Bool
+uncoveredAt rows a k =
+    not (jointWorking clock (calendarsOf clock (sheet rows) (assignmentOf rows k) (activityOf rows a)) (pos (num rows k 4)))
+    || ltb (jointAvailableMs clock (calendarsOf clock (sheet rows) (assignmentOf rows k) (activityOf rows a)) (pos (num rows k 4)) (pos (num rows k 5)))
+    (neededMs (sheet rows) (activityOf rows a) (assignmentOf rows k) (runsOn (sheet rows) (assignmentOf rows k)))
+
+-- row k is a booking of a resumable activity, and that is so of it
+unfoldable pub lacksTime : List ℤ → ℕ → Bool
+lacksTime rows k =
+    is rows k 0 23 && ((ltb (ownPlace rows k) (rowCount rows) && is rows (ownPlace rows k) 7 1) && uncoveredAt rows (ownPlace rows k) k)
+
+-- 1 at each row of which that is so, 0 at the others
+pub record Lacking (rows : List ℤ) (t : List ℕ) : Type 0 where
+  pub short : rowCount rows ≤ 800
+  pub at : (k : ℕ) → k < rowCount rows → getD t k 0 ≡ cond (lacksTime rows k) 1 0
