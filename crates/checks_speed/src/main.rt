@@ -47,6 +47,21 @@ fn after(s: &[u8], n: usize) -> &[u8] {
     &s[..0]
 }
 
+// Check 6 with what it asks for: which bookings lack working time.
+fn check_calendars(
+    rows: &[i64],
+    kinds: &[u16; 832],
+    links: &[u16; 1600],
+    owned: &[u16; 8810],
+    need: &[u64; 800],
+    out: &mut [i64],
+) -> usize
+    requires { ⌜ Indexed (now rows) (now kinds) (now links) (now owned) × Needs (now rows) (now need) ⌝ }
+{
+    let lacking = calendars::lacking_of(rows, kinds, links, owned, need);
+    calendars::check_calendars(rows, kinds, links, owned, &lacking, out, 0)
+}
+
 // The findings of a check, in a buffer that holds 1,024 of them.
 fn once(
     rows: &[i64],
@@ -66,7 +81,7 @@ fn once(
         3 => parts::check_parts(rows, kinds, links, owned, out, 0),
         4 => requirements::check_requirements(rows, kinds, links, owned, held, out, 0),
         5 => capacity::check_capacity(rows, kinds, links, owned, out, 0),
-        6 => calendars::check_calendars(rows, kinds, links, owned, need, out, 0),
+        6 => check_calendars(rows, kinds, links, owned, need, out),
         7 => precedence::check_precedence(rows, kinds, links, owned, out, 0),
         8 => deadlines::check_deadlines(rows, kinds, out, 0),
         _ => constraints::check_constraints(rows, kinds, out, 0),

@@ -10,6 +10,7 @@ ghost use Rattle.model.specs.Sheet.{sheet};
 ghost use Rattle.model.specs.Indexed.{Indexed};
 ghost use Rattle.pieces.specs.Held.{Held};
 ghost use Rattle.times.specs.Times.{Needs};
+ghost use Rattle.calendars.specs.Lacking.{Lacking};
 ghost use Rattle.checks.specs.CheckSchedule.{beforeCapacity, afterCapacity, findings};
 ghost use Rattle.shift.specs.Call.{Checked};
 ghost use Rattle.feasibility.specs.Table.{orFull, sheetRefusal, answered};
@@ -47,14 +48,14 @@ fn check_after(
     kinds: &[u16; 832],
     links: &[u16; 1600],
     owned: &[u16; 8810],
-    need: &[u64; 800],
+    lacking: &[u8; 800],
     out: &mut [i64],
     n: usize,
 ) -> usize
-    requires { ⌜ Indexed (now rows) (now kinds) (now links) (now owned) × Needs (now rows) (now need) ⌝ }
+    requires { ⌜ Indexed (now rows) (now kinds) (now links) (now owned) × Lacking (now rows) (now lacking) ⌝ }
     ensures { λ r. ⌜ sink (now (out .exit)) r ≡ emit (sink (now (out .entry)) n) (afterCapacity clock (sheet (now (rows .entry)))) ⌝ }
 {
-    let a = calendars::check_calendars(rows, kinds, links, owned, need, out, n);
+    let a = calendars::check_calendars(rows, kinds, links, owned, lacking, out, n);
     let b = precedence::check_precedence(rows, kinds, links, owned, out, a);
     let c = deadlines::check_deadlines(rows, kinds, out, b);
     constraints::check_constraints(rows, kinds, out, c)
@@ -68,14 +69,15 @@ fn check_all(
     owned: &[u16; 8810],
     held: &[u8; 800],
     need: &[u64; 800],
+    lacking: &[u8; 800],
     out: &mut [i64],
 ) -> usize
-    requires { ⌜ Indexed (now rows) (now kinds) (now links) (now owned) × Held (now rows) (now held) × Needs (now rows) (now need) ⌝ }
+    requires { ⌜ Indexed (now rows) (now kinds) (now links) (now owned) × Held (now rows) (now held) × Needs (now rows) (now need) × Lacking (now rows) (now lacking) ⌝ }
     ensures { λ r. ⌜ sink (now (out .exit)) r ≡ emit (sink (now (out .entry)) 0) (findings (now (rows .entry))) ⌝ }
 {
     let a = check_before(rows, kinds, links, owned, held, need, out, 0);
     let b = capacity::check_capacity(rows, kinds, links, owned, out, a);
-    check_after(rows, kinds, links, owned, need, out, b)
+    check_after(rows, kinds, links, owned, lacking, out, b)
 }
 
 // The first k findings of `from` over those of out; what lies after them is unchanged.
@@ -106,8 +108,9 @@ fn write_findings(
     requires { ⌜ Indexed (now rows) (now kinds) (now links) (now owned) × Held (now rows) (now held) × Needs (now rows) (now need) × (sheetRefusal (now rows) ≡ none) ⌝ }
     ensures { λ r. ⌜ Checked (orFull sheetRefusal) (now (rows .entry)) (now (out .entry)) (answered r) (now (out .exit)) ⌝ }
 {
+    let lacking = calendars::lacking_of(rows, kinds, links, owned, need);
     let mut first = [0i64; 4096];
-    let count = check_all(rows, kinds, links, owned, held, need, &mut first);
+    let count = check_all(rows, kinds, links, owned, held, need, &lacking, &mut first);
     if count > out.len() / 4 {
         return Answer::Refused(7, 0);
     }
@@ -115,7 +118,7 @@ fn write_findings(
         copy_findings(&first, out, count);
         return Answer::Accepted(count);
     }
-    let n = check_all(rows, kinds, links, owned, held, need, out);
+    let n = check_all(rows, kinds, links, owned, held, need, &lacking, out);
     Answer::Accepted(n)
 }
 
