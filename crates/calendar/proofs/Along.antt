@@ -1,28 +1,18 @@
 -- What the walk finds by numbers is what the definitions say of instants. Assumes nothing.
-use Prim.Native.Nat.{ℕ, zero, suc, _+_, _-_, _<_, _≤_}
-use mathlib.Core.Path.{_≡_, refl, sym, ap, ap₂, subst, _∙_}
-use mathlib.Core.Bool.{Bool, true, false, cond}
+use Prim.Native.Nat.{ℕ, zero, suc, _+_, _-_, _≤_}
+use mathlib.Core.Path.{_≡_, refl, sym, ap, _∙_}
+use mathlib.Core.Bool.{Bool}
 use mathlib.Core.List.{List}
-use native.Mathlib.Nat.{add-zero, add-suc, suc-add}
+use native.Mathlib.Nat.{add-zero, add-suc}
 use native.Mathlib.Omega.{arith}
-use lib.Dec.{T, ltb, ltb→lt}
-use lib.IntN.{ℤ, pos, negsuc, _-ℤ_}
-use Rattle.loops.specs.Numbers.{toNat}
-use Rattle.calendar.specs.Clock.{clock, ahead}
+use lib.IntN.{ℤ, pos}
+use Rattle.loops.proofs.NumberLaws.{gap}
+use Rattle.calendar.specs.Clock.{clock}
 use Rattle.calendar.specs.Calendar.{Calendar, jointWorking}
 use Rattle.calendar.specs.Amount.{one, count, since, jointAvailableMs}
-use Rattle.calendar.specs.WorkEnd.{Ending, endsAt, pauses, never, mapEnding, after, endIn, endAfter, endFrom}
+use Rattle.calendar.specs.WorkEnd.{Ending, endsAt, pauses, never, mapEnding, after, endIn, endFrom}
 use Rattle.calendar.proofs.Laws.{Means, settled-means, end-is}
 use Rattle.calendar.proofs.Walk.{availableAt, endAt}
-
--- a difference of two instants, cut at 0
-pub gap : (a e : ℕ) → ahead clock (pos a) (pos e) ≡ e - a
-gap zero e = omega arith
-gap (suc a) e = go (ltb e (suc a)) refl
-  where
-    go : (b : Bool) → ltb e (suc a) ≡ b → toNat (cond b (negsuc (suc a - suc e)) (pos (e - suc a))) ≡ e - suc a
-    go true h = let k : e < suc a = ltb→lt e (suc a) (subst T (sym h) tt) in omega arith
-    go false h = refl
 
 module _ (p : ℕ → Bool) (t : ℕ) where
   count-along : (n b : ℕ) → count (λ k. p (t + k)) b n ≡ count p (t + b) n

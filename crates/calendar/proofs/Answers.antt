@@ -1,19 +1,18 @@
 -- The answers of `end_from`, from what the walk found. Assumes nothing.
-use Prim.Native.Nat.{ℕ, zero, suc, _+_, _-_, _<_, _≤_, _^_}
+use Prim.Native.Nat.{ℕ, zero, suc, _<_, _≤_, _^_}
 use mathlib.Core.Path.{_≡_, refl, sym, ap, _∙_}
 use mathlib.Core.Bool.{Bool, true, false, cond}
 use mathlib.Core.List.{List}
 use native.Mathlib.Omega.{arith}
 use lib.IntN.{pos}
 use lib.ListN.{getD}
-use lib.Dec.{ltb}
 use mir.Syntax.{w64}
 use mir.Val.{Fits}
 use borrow.Author.Tests.{lt-ltb, le-ltb}
 use Rattle.calendar.specs.declared.Answer.the-variants.{End, Never, Beyond}
 use Rattle.calendar.specs.Clock.{clock}
 use Rattle.calendar.specs.WorkEnd.{Ending, endsAt, never, mapEnding, endFrom}
-use Rattle.calendar.specs.Layout.{calendarsOf, answerOf}
+use Rattle.calendar.specs.Layout.{calendarsOf, saying}
 use Rattle.calendar.proofs.Stretches.{jointAt, settled-at}
 use Rattle.calendar.proofs.Walk.{endAt}
 use Rattle.calendar.proofs.Along.{walk-along}
@@ -40,18 +39,18 @@ module _ (w cs : List ℕ) (h : (k : ℕ) → Fits w64 (getD w k 0)) where
 
   module _ (start work : ℕ) where
     answered : (x : Ending ℕ) → x ≡ endAt (jointAt w cs) lastInstant start work
-        → answerOf (mapEnding (λ k. pos k) x) ≡ answerOf (endFrom clock (calendarsOf w cs) (pos start) work)
+        → saying (mapEnding (λ k. pos k) x) ≡ saying (endFrom clock (calendarsOf w cs) (pos start) work)
     answered x e =
-        ap (λ (z : Ending ℕ). answerOf (mapEnding (λ k. pos k) z)) e
-        ∙ ap answerOf (walk-along (calendarsOf w cs) lastInstant settled start work)
+        ap (λ (z : Ending ℕ). saying (mapEnding (λ k. pos k) z)) e
+        ∙ ap saying (walk-along (calendarsOf w cs) lastInstant settled start work)
 
     pub answer-end : (e : ℕ) → e ≤ lastInstant → endsAt e ≡ endAt (jointAt w cs) lastInstant start work
-        → End e ≡ answerOf (endFrom clock (calendarsOf w cs) (pos start) work)
+        → End e ≡ saying (endFrom clock (calendarsOf w cs) (pos start) work)
     answer-end e l q = sym (rw (lt-ltb e (2 ^ 64) (omega arith)) at (sym (answered (endsAt e) q)))
 
     pub answer-beyond : (e : ℕ) → lastInstant < e → endsAt e ≡ endAt (jointAt w cs) lastInstant start work
-        → Beyond ≡ answerOf (endFrom clock (calendarsOf w cs) (pos start) work)
+        → Beyond ≡ saying (endFrom clock (calendarsOf w cs) (pos start) work)
     answer-beyond e l q = sym (rw (le-ltb e (2 ^ 64) (omega arith)) at (sym (answered (endsAt e) q)))
 
-    pub answer-never : never ≡ endAt (jointAt w cs) lastInstant start work → Never ≡ answerOf (endFrom clock (calendarsOf w cs) (pos start) work)
+    pub answer-never : never ≡ endAt (jointAt w cs) lastInstant start work → Never ≡ saying (endFrom clock (calendarsOf w cs) (pos start) work)
     answer-never q = answered never q

@@ -12,11 +12,9 @@ use borrow.Author.Tests.{lt-ltb, le-ltb, ltb-true, ltb-false, not-true}
 use Rattle.loops.specs.Lists.{anyOf}
 use Rattle.calendar.specs.declared.TimeWindow.{TimeWindow}
 use Rattle.calendar.specs.Clock.{clock}
-use Rattle.calendar.specs.Calendar.{Window, isOpen, isClosed, contains, holds, hits, isWorkingTime, intervalFits}
+use Rattle.calendar.specs.Calendar.{Window, isOpen, isClosed, contains, covers, hits, isWorkingTime, intervalFits}
 use Rattle.calendar.specs.Layout.{windowOf}
-use Rattle.calendar.specs.Scan.{standing, standingAt, standingOver, allows}
 use Rattle.calendar.proofs.Tests.{le-or-lt}
-use Rattle.calendar.proofs.Standings.{mostOf, works-most, fits-most}
 
 -- t is before y exactly if y is not before the next millisecond
 tick : (t y : ℕ) → ltb t y ≡ not (ltb y (t + 1))
@@ -31,20 +29,26 @@ tock t y = ⊎-elim
     (λ l. ap not (lt-ltb t y l) ∙ sym (le-ltb y (t + 1) (omega arith)))
     (le-or-lt y t)
 
-standing-tick : (t : ℕ) (x : TimeWindow) → standingAt t x ≡ standingOver t (t + 1) x
-unfolding standingAt standingOver contains holds hits
-standing-tick t x =
-    ap₂ (standing (x .closed))
-    (ap (λ (v : Bool). not (ltb t (x .start)) && v) (tick t (x .end)))
-    (and-comm (not (ltb t (x .start))) (ltb t (x .end)) ∙ ap (λ (v : Bool). ltb t (x .end) && v) (tock t (x .start)))
+module _ (t : ℕ) (x : TimeWindow) where
+  held-tick : contains clock (pos t) (windowOf x) ≡ covers clock (pos t) (pos (t + 1)) (windowOf x)
+  unfolding contains covers
+  held-tick = ap (λ (v : Bool). not (ltb t (x .start)) && v) (tick t (x .end))
 
-most-tick : (t : ℕ) (l : List TimeWindow) → mostOf (standingAt t) l ≡ mostOf (standingOver t (t + 1)) l
-unfolding mostOf
-most-tick t [] = refl
-most-tick t (x ∷ l) = rw (standing-tick t x, most-tick t l)
+  hit-tick : contains clock (pos t) (windowOf x) ≡ hits clock (pos t) (pos (t + 1)) (windowOf x)
+  unfolding contains hits
+  hit-tick = and-comm (not (ltb t (x .start))) (ltb t (x .end)) ∙ ap (λ (v : Bool). ltb t (x .end) && v) (tock t (x .start))
+
+any-same : (k p q : Window ℤ → Bool) → ((x : TimeWindow) → p (windowOf x) ≡ q (windowOf x)) → (l : List TimeWindow) → anyOf (λ x. k x && p x) (map windowOf l) ≡ anyOf (λ x. k x && q x) (map windowOf l)
+unfolding anyOf
+any-same k p q h [] = refl
+any-same k p q h (x ∷ l) = ap₂ (λ v w. (k (windowOf x) && v) || w) (h x) (any-same k p q h l)
 
 pub works-fits : (l : List TimeWindow) (t : ℕ) → isWorkingTime clock (map windowOf l) (pos t) ≡ intervalFits clock (map windowOf l) (pos t) (pos (t + 1))
-works-fits l t = sym (works-most l t) ∙ ap allows (most-tick t l) ∙ fits-most l t (t + 1)
+unfolding isWorkingTime intervalFits
+works-fits l t =
+    ap₂ (λ v w. (not (anyOf isOpen (map windowOf l)) || v) && not w)
+    (any-same isOpen (contains clock (pos t)) (covers clock (pos t) (pos (t + 1))) (held-tick t) l)
+    (any-same isClosed (contains clock (pos t)) (hits clock (pos t) (pos (t + 1))) (hit-tick t) l)
 
 -- ---- throughout
 
@@ -65,8 +69,8 @@ module _ (p q : Window ℤ → Bool) where
   any-weaker (x ∷ l) h e = or-weaker (p (windowOf x)) (q (windowOf x)) (anyOf p (map windowOf l)) (anyOf q (map windowOf l)) (h x) (any-weaker l h) e
 
 module _ (a e u : ℕ) (l : a ≤ u) (l′ : u < e) where
-  held : (x : TimeWindow) → (isOpen (windowOf x) && holds clock (pos a) (pos e) (windowOf x)) ≡ true → (isOpen (windowOf x) && contains clock (pos u) (windowOf x)) ≡ true
-  unfolding holds contains
+  held : (x : TimeWindow) → (isOpen (windowOf x) && covers clock (pos a) (pos e) (windowOf x)) ≡ true → (isOpen (windowOf x) && contains clock (pos u) (windowOf x)) ≡ true
+  unfolding covers contains
   held x h =
       let i = both-of (isOpen (windowOf x)) (not (ltb a (x .start)) && not (ltb (x .end) e)) h in
       let b = both-of (not (ltb a (x .start))) (not (ltb (x .end) e)) (i .1) in
@@ -96,11 +100,11 @@ module _ (a e u : ℕ) (l : a ≤ u) (l′ : u < e) where
   unfolding intervalFits isWorkingTime
   fits-works c h =
       let b = both-of
-      (not (anyOf isOpen (map windowOf c)) || anyOf (λ x. isOpen x && holds clock (pos a) (pos e) x) (map windowOf c))
+      (not (anyOf isOpen (map windowOf c)) || anyOf (λ x. isOpen x && covers clock (pos a) (pos e) x) (map windowOf c))
       (not (anyOf (λ x. isClosed x && hits clock (pos a) (pos e) x) (map windowOf c))) h in
       rw (
         open-still (anyOf isOpen (map windowOf c)) _ (anyOf (λ x. isOpen x && contains clock (pos u) x) (map windowOf c))
-            (any-weaker (λ x. isOpen x && holds clock (pos a) (pos e) x) (λ x. isOpen x && contains clock (pos u) x) c held) (b .0),
+            (any-weaker (λ x. isOpen x && covers clock (pos a) (pos e) x) (λ x. isOpen x && contains clock (pos u) x) c held) (b .0),
         shut-not _ (anyOf (λ x. isClosed x && contains clock (pos u) x) (map windowOf c))
             (any-weaker (λ x. isClosed x && contains clock (pos u) x) (λ x. isClosed x && hits clock (pos a) (pos e) x) c hit) (b .1),
       )

@@ -1,21 +1,20 @@
 -- What the work end means, said of the set of working milliseconds alone: an end is the first instant at which that much working
 -- time has gone by, and never is the answer exactly if it never goes by. One answer only has that meaning. Assumes nothing.
 use Prim.Native.Nat.{ℕ, zero, suc, _+_, _-_, _<_, _≤_}
-use mathlib.Core.Path.{_≡_, refl, sym, ap, ap₂, subst, _∙_}
-use mathlib.Core.Logic.{_⊎_, inl, inr, ⊎-elim}
+use mathlib.Core.Path.{_≡_, refl, sym, ap, subst, _∙_}
+use mathlib.Core.Logic.{⊎-elim}
 use mathlib.Core.Bool.{Bool, true, false, true≢false, cond}
 use mathlib.Core.List.{List}
 use native.Mathlib.Nat.{not-suc-le-zero, sub-self}
-use native.Mathlib.Numerals.{add-one}
 use native.Mathlib.Omega.{arith}
-use lib.IntN.{ℤ, pos, negsuc, _+ℤ_}
+use lib.IntN.{ℤ, pos, _+ℤ_}
 use Rattle.loops.specs.Numbers.{toNat}
 use Rattle.calendar.specs.Clock.{Clock, clock}
 use Rattle.calendar.specs.Calendar.{Calendar, jointWorking}
 use Rattle.calendar.specs.Amount.{one, count, since}
 use Rattle.calendar.specs.WorkEnd.{Ending, endsAt, pauses, never, mapEnding, after, endIn, reaches, endAfter, endFrom, jointWorkEnd}
 use Rattle.calendar.proofs.Tests.{le-or-lt}
-use Rattle.calendar.proofs.Counts.{count-split, count-const, end-suc}
+use Rattle.calendar.proofs.Counts.{count-split, count-const}
 use Rattle.calendar.proofs.Settled.{joint-settled}
 
 -- e is the first instant from t on at which `work` milliseconds that pass the test have gone by

@@ -1,18 +1,15 @@
 -- For a crate that lists its windows for this one: which calendar stands at which places, as the list is filled. Assumes nothing.
-use Prim.Native.Nat.{ℕ, zero, suc, _+_, _*_, _/_, _<_, _≤_, min}
-use mathlib.Core.Path.{_≡_, refl, sym, ap, ap₂, _∙_}
+use Prim.Native.Nat.{ℕ, _+_, _*_, _/_, _<_, _≤_, min}
+use mathlib.Core.Path.{_≡_, sym, ap, _∙_}
 use mathlib.Core.Bool.{true}
 use mathlib.Core.List.{List, [], _∷_, _++_, map}
 use native.Mathlib.Omega.{arith}
-use lib.IntN.{ℤ}
 use lib.Dec.{leb}
 use lib.ListN.{length, getD}
 use Rattle.loops.specs.Lists.{given}
 use Rattle.loops.specs.Range.{collect}
 use Rattle.loops.proofs.ListLaws.{map-append, map-collect}
 use Rattle.loops.proofs.RangeLaws.{collect-ext}
-use Rattle.calendar.specs.declared.TimeWindow.{TimeWindow}
-use Rattle.calendar.specs.Calendar.{Calendar}
 use Rattle.calendar.specs.Layout.{windowsIn, windowAt, windowOf, windowsOf, calendarOf, listsOf, calendarsOf}
 use Rattle.calendar.proofs.Places.{below, below-none, below-more}
 

@@ -1,6 +1,6 @@
 -- Whatever is worked out through a clock alone moves with the instants: if all that goes in moves by d, so do the instants that come out,
 -- and all else stays. One lemma for every definition over `Clock T`. Assumes nothing.
-use Prim.Native.Nat.{ℕ, zero, suc}
+use Prim.Native.Nat.{zero, suc}
 use mathlib.Core.Path.{_≡_, PathP, refl, sym, _∙_, ap, ap₂}
 use mathlib.Core.Bool.{Bool}
 use mathlib.Core.Equiv.{_≃_, Iso, isoToEquiv}
@@ -8,7 +8,7 @@ use lib.IntN.{ℤ, pos, negsuc, _+ℤ_, _-ℤ_, negℤ, +ℤ-assoc, +ℤ-comm, n
 use lib.Signed.{ltZ}
 use lib.Dec.{leb·suc-suc, leb·suc-zero, leb·zero}
 use Rattle.calendar.specs.Clock.{Clock, clock}
-use Rattle.calendar.specs.Moves.{Moves, by}
+use Rattle.calendar.specs.inner.Moves.{Moves, by}
 
 -- f keeps what the clocks tell
 pub record Keeps {A B : Type 0} (K : Clock A) (L : Clock B) (f : A → B) : Type 0 where

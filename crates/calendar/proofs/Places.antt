@@ -1,8 +1,8 @@
 -- The windows at some places, as a loop that counts up goes through them. Assumes nothing.
 use Prim.Native.Nat.{ℕ, zero, suc, _+_, _*_, _<_, _≤_, max, min, _/_}
-use mathlib.Core.Path.{_≡_, refl, sym, ap, ap₂, _∙_}
+use mathlib.Core.Path.{_≡_, refl, sym, ap, _∙_}
 use mathlib.Core.Logic.{⊎-elim}
-use mathlib.Core.Bool.{Bool, true, false}
+use mathlib.Core.Bool.{true}
 use mathlib.Core.List.{List, [], _∷_, _++_, foldl, foldl-append}
 use native.Mathlib.Numerals.{add-one}
 use native.Mathlib.Omega.{arith}
@@ -29,7 +29,7 @@ module _ (w : List ℕ) (from : ℕ) where
   unfolding below collect
   below-more i l = rw (add-one i, le-leb from i l)
 
-  below-end : (n i : ℕ) → from ≤ i → i ≤ max n from → n ≤ i → below w from i ≡ below w from n
+  pub below-end : (n i : ℕ) → from ≤ i → i ≤ max n from → n ≤ i → below w from i ≡ below w from n
   below-end n i l l′ l″ =
       ⊎-elim
       (λ (m : from ≤ n). let z : i ≡ n = omega arith in ap (below w from) z)

@@ -1,7 +1,7 @@
 -- Once every window has ended, working time does not change. For all whole instants. Assumes nothing.
-use Prim.Native.Nat.{ℕ, zero, suc, _+_, _≤_, max}
-use mathlib.Core.Path.{_≡_, refl, sym, ap, ap₂, _∙_}
-use mathlib.Core.Bool.{Bool, true, false, not, _&&_, _||_, and-false}
+use Prim.Native.Nat.{ℕ, _≤_}
+use mathlib.Core.Path.{_≡_, refl, ap, ap₂, _∙_}
+use mathlib.Core.Bool.{false, not, _&&_, and-false}
 use mathlib.Core.List.{List, [], _∷_}
 use native.Mathlib.Omega.{arith}
 use lib.IntN.{ℤ, pos, negsuc, _+ℤ_, _-ℤ_, negℤ, +ℤ-comm, +ℤ-negℤ-cancel}
@@ -9,9 +9,9 @@ use lib.Dec.{eqb}
 use lib.Signed.{ltZ}
 use borrow.Author.Tests.{le-ltb}
 use Rattle.loops.specs.Numbers.{toNat}
-use Rattle.calendar.specs.Clock.{Clock, clock, ahead}
+use Rattle.calendar.specs.Clock.{clock, ahead}
 use Rattle.loops.specs.Lists.{anyOf, allOf}
-use Rattle.calendar.specs.Calendar.{Window, Calendar, contains, isWorkingTime, jointWorking}
+use Rattle.calendar.specs.Calendar.{Calendar, contains, isWorkingTime, jointWorking}
 use Rattle.calendar.specs.WorkEnd.{reach, reaches}
 use Rattle.calendar.proofs.Moving.{ltZ-add}
 

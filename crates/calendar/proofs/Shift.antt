@@ -4,19 +4,19 @@ use mathlib.Core.Path.{_≡_, refl, sym, ap, ap₂, _∙_}
 use mathlib.Core.Bool.{Bool, true, false}
 use mathlib.Core.List.{List, [], _∷_, _++_, map}
 use native.Mathlib.Omega.{arith}
-use lib.IntN.{ℤ, pos, _+ℤ_}
+use lib.IntN.{ℤ, _+ℤ_}
 use lib.Dec.{leb}
 use lib.ListN.{length, getD}
 use Rattle.calendar.specs.declared.TimeWindow.{TimeWindow}
-use Rattle.calendar.specs.Clock.{Clock, clock}
+use Rattle.calendar.specs.Clock.{clock}
 use Rattle.loops.specs.Lists.{given}
 use Rattle.loops.specs.Range.{collect}
 use Rattle.loops.proofs.ListLaws.{map-append}
-use Rattle.calendar.specs.Calendar.{Window, Calendar, isWorkingTime, intervalFits, jointWorking}
+use Rattle.calendar.specs.Calendar.{Calendar, isWorkingTime, intervalFits, jointWorking}
 use Rattle.calendar.specs.Amount.{jointAvailableMs}
-use Rattle.calendar.specs.WorkEnd.{Ending, endsAt, pauses, never, mapEnding, endFrom, jointWorkEnd}
+use Rattle.calendar.specs.WorkEnd.{mapEnding, endFrom, jointWorkEnd}
 use Rattle.calendar.specs.Layout.{windowsIn, windowAt, windowOf, windowsOf, calendarOf, listsOf, calendarsOf}
-use Rattle.calendar.specs.Moves.{by, instant, both, list, mapWindow, calendar, ending, later, laters}
+use Rattle.calendar.specs.inner.Moves.{by, instant, both, list, mapWindow, calendar, ending, later, laters}
 use Rattle.calendar.proofs.Moving.{moved, unmoved}
 
 module _ (d : ℤ) where

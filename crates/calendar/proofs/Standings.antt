@@ -1,17 +1,17 @@
--- The greatest of the windows' standings decides whether an instant is working time, and whether an interval fits. Assumes nothing.
+-- The greatest of the windows' standings decides whether an instant is working time. Assumes nothing.
 use Prim.Native.Nat.{ℕ, _≤_, max}
 use mathlib.Core.Path.{_≡_, refl, sym, ap, ap₂, _∙_}
 use mathlib.Core.Bool.{Bool, true, false, not, _&&_, _||_, cond}
-use mathlib.Core.List.{List, [], _∷_, map, foldl}
+use mathlib.Core.List.{List, [], _∷_, map}
 use native.Mathlib.Omega.{arith}
 use lib.IntN.{ℤ, pos}
 use lib.Dec.{eqb}
 use Rattle.loops.specs.Lists.{anyOf, allOf}
 use Rattle.calendar.specs.declared.TimeWindow.{TimeWindow}
 use Rattle.calendar.specs.Clock.{clock}
-use Rattle.calendar.specs.Calendar.{Window, Calendar, isOpen, isClosed, contains, holds, hits, isWorkingTime, intervalFits, jointWorking}
+use Rattle.calendar.specs.Calendar.{Window, isOpen, isClosed, contains, isWorkingTime, jointWorking}
 use Rattle.calendar.specs.Layout.{windowOf}
-use Rattle.calendar.specs.Scan.{standing, standingAt, standingOver, allows}
+use Rattle.calendar.specs.inner.Scan.{standing, standingAt, allows}
 
 unfoldable pub mostOf : (TimeWindow → ℕ) → List TimeWindow → ℕ
 mostOf f [] = 0
@@ -83,10 +83,6 @@ pub works-most : (l : List TimeWindow) (t : ℕ) → allows (mostOf (standingAt 
 unfolding isWorkingTime standingAt
 works-most l t = most-decides (contains clock (pos t)) (contains clock (pos t)) l
 
-pub fits-most : (l : List TimeWindow) (a e : ℕ) → allows (mostOf (standingOver a e) l) ≡ intervalFits clock (map windowOf l) (pos a) (pos e)
-unfolding intervalFits standingOver
-fits-most l a e = most-decides (holds clock (pos a) (pos e)) (hits clock (pos a) (pos e)) l
-
 -- of several calendars
 unfoldable pub allWork : List (List TimeWindow) → ℕ → Bool
 allWork ls t = allOf (λ l. allows (mostOf (standingAt t) l)) ls
@@ -95,9 +91,3 @@ pub joint-most : (ls : List (List TimeWindow)) (t : ℕ) → allWork ls t ≡ jo
 unfolding allWork jointWorking allOf
 joint-most [] t = refl
 joint-most (l ∷ ls) t = ap₂ _&&_ (works-most l t) (joint-most ls t)
-
--- the greatest, as a loop finds it
-pub fold-most : (g : TimeWindow → ℕ) (k : ℕ) (l : List TimeWindow) → foldl (λ m x. max m (g x)) k l ≡ max k (mostOf g l)
-unfolding mostOf
-fold-most g k [] = omega arith
-fold-most g k (x ∷ l) = fold-most g (max k (g x)) l ∙ omega arith

@@ -1,9 +1,9 @@
 -- What one pass finds holds up to the stop that it names: from the instant up to there no window starts or ends. Assumes nothing.
 use Prim.Native.Nat.{ℕ, zero, suc, _+_, _*_, _/_, _<_, _≤_, max, min}
 use mathlib.Core.Path.{_≡_, refl, sym, ap, ap₂, subst, _∙_}
-use mathlib.Core.Logic.{_⊎_, inl, inr, ⊎-elim}
-use mathlib.Core.Bool.{Bool, true, false, cond, not, _&&_, _||_, and-assoc, and-true}
-use mathlib.Core.List.{List, [], _∷_, _++_, map, foldl}
+use mathlib.Core.Logic.{_⊎_, inl, inr}
+use mathlib.Core.Bool.{Bool, true, false, cond, not, _&&_, and-assoc, and-true}
+use mathlib.Core.List.{List, [], _∷_, _++_, foldl}
 use native.Mathlib.Omega.{arith}
 use lib.IntN.{pos}
 use lib.Dec.{leb, ltb}
@@ -15,10 +15,10 @@ use Rattle.calendar.specs.declared.TimeWindow.{TimeWindow}
 use Rattle.calendar.specs.declared.Here.{Here}
 use Rattle.calendar.specs.declared.Joint.{Joint}
 use Rattle.calendar.specs.Clock.{clock}
-use Rattle.calendar.specs.Calendar.{contains, isWorkingTime, intervalFits, jointWorking}
-use Rattle.calendar.specs.Layout.{windowsIn, windowAt, windowOf, windowsOf, listsOf, calendarOf, calendarsOf}
-use Rattle.calendar.specs.Scan.{standing, standingAt, standingOver, allows, nearer, withWindow, lookAt, withCalendar, jointLook}
-use Rattle.calendar.proofs.Standings.{mostOf, works-most, fits-most, allWork, joint-most, fold-most}
+use Rattle.calendar.specs.Calendar.{contains, isWorkingTime, jointWorking}
+use Rattle.calendar.specs.Layout.{windowsIn, windowAt, windowsOf, listsOf, calendarOf, calendarsOf}
+use Rattle.calendar.specs.inner.Scan.{standingAt, allows, nearer, withWindow, lookAt, withCalendar, jointLook}
+use Rattle.calendar.proofs.Standings.{mostOf, works-most, allWork, joint-most}
 
 -- r is at most b, after t if b is, and x does not lie between t and r
 record Nearer (t x b r : ℕ) : Type 0 where
@@ -155,13 +155,6 @@ joint-stretch ls t b =
 pub works-look : (w : List ℕ) (from to t b : ℕ) → allows (lookAt (windowsOf w from to) t b .most) ≡ isWorkingTime clock (calendarOf w from to) (pos t)
 unfolding calendarOf
 works-look w from to t b = ap allows (look-most (windowsOf w from to) t b) ∙ works-most (windowsOf w from to) t
-
-pub fits-look :
-    (w : List ℕ) (from to a e : ℕ)
-    → allows (foldl (λ m x. max m (standingOver a e x)) 0 (windowsOf w from to)) ≡ intervalFits clock (calendarOf w from to) (pos a) (pos e)
-unfolding calendarOf
-fits-look w from to a e =
-    ap allows (fold-most (standingOver a e) 0 (windowsOf w from to) ∙ omega arith) ∙ fits-most (windowsOf w from to) a e
 
 -- joint working time, as a test of numbers
 abbrev pub jointAt : List ℕ → List ℕ → ℕ → Bool

@@ -26,9 +26,9 @@ module _ {T : Type 0} (K : Clock T) where
   unfoldable pub contains : T → Window T → Bool
   contains t x = upTo K (x .start) t && K .before t (x .end)
 
-  -- the window holds all of [a, e)
-  unfoldable pub holds : T → T → Window T → Bool
-  holds a e x = upTo K (x .start) a && upTo K e (x .end)
+  -- the window covers all of [a, e)
+  unfoldable pub covers : T → T → Window T → Bool
+  covers a e x = upTo K (x .start) a && upTo K e (x .end)
 
   -- the window, as a closure, hits [a, e)
   unfoldable pub hits : T → T → Window T → Bool
@@ -40,10 +40,10 @@ module _ {T : Type 0} (K : Clock T) where
       (not (anyOf isOpen l) || anyOf (λ x. isOpen x && contains t x) l)
       && not (anyOf (λ x. isClosed x && contains t x) l)
 
-  -- [a, e) fits: one open window holds it, or no open window is listed; and no closure hits it
+  -- [a, e) fits: one open window covers it, or no open window is listed; and no closure hits it
   unfoldable pub intervalFits : Calendar T → T → T → Bool
   intervalFits l a e =
-      (not (anyOf isOpen l) || anyOf (λ x. isOpen x && holds a e x) l)
+      (not (anyOf isOpen l) || anyOf (λ x. isOpen x && covers a e x) l)
       && not (anyOf (λ x. isClosed x && hits a e x) l)
 
   -- t is working time of every one of the calendars

@@ -1,4 +1,4 @@
--- Document 01's examples G to L, by computation.
+-- Edges of calendar time, by computation. (The rules' examples G to L stand with A to F in shift/specs/Examples.)
 use Prim.Native.Nat.{ℕ}
 use mathlib.Core.Path.{_≡_, refl}
 use mathlib.Core.Bool.{Bool, true, false}
@@ -7,14 +7,10 @@ use lib.IntN.{pos}
 use Rattle.calendar.specs.Clock.{clock}
 use Rattle.loops.specs.Lists.{anyOf, allOf}
 use Rattle.loops.specs.Range.{collect}
-use Rattle.calendar.specs.Calendar.{contains, holds, hits, isWorkingTime, intervalFits, jointWorking}
+use Rattle.calendar.specs.Calendar.{contains, covers, hits, isWorkingTime, intervalFits, jointWorking}
 use Rattle.calendar.specs.Amount.{count, jointAvailableMs}
-use Rattle.calendar.specs.WorkEnd.{endsAt, pauses, never, endIn, reach, reaches, endAfter, endFrom, jointWorkEnd}
+use Rattle.calendar.specs.WorkEnd.{endsAt, endIn, reach, reaches, endAfter, endFrom, jointWorkEnd}
 use Rattle.calendar.specs.Layout.{windowsOf, calendarOf, listsOf, calendarsOf}
-
--- a calendar with one closure, 5..5
-abbrev pub shut : List ℕ
-shut = 1 ∷ 5 ∷ 5 ∷ []
 
 -- a calendar with windows 0..10 and 20..30
 abbrev pub two : List ℕ
@@ -36,18 +32,8 @@ lunch = 0 ∷ 2 ∷ 9 ∷ 1 ∷ 4 ∷ 6 ∷ []
 abbrev pub both : List ℕ
 both = 0 ∷ 2 ∷ []
 
-pub examples-g-to-l :
-    (intervalFits clock (calendarOf shut 0 1) (pos 0) (pos 10) ≡ false)
-    × (intervalFits clock (calendarOf shut 0 1) (pos 5) (pos 10) ≡ true)
-    × (jointWorkEnd clock (calendarsOf two both) (pos 5) (pos 5) ≡ endsAt (pos 10))
-    × (jointWorkEnd clock (calendarsOf two both) (pos 5) (pos 15) ≡ endsAt (pos 30))
-    × (jointWorkEnd clock (calendarsOf two both) (pos 5) (pos 16) ≡ never)
-    × (jointWorkEnd clock (calendarsOf two both) (pos 10) (pos 0) ≡ pauses)
-unfolding anyOf allOf collect contains holds hits isWorkingTime intervalFits jointWorking endIn reach reaches endAfter endFrom jointWorkEnd windowsOf calendarOf listsOf calendarsOf
-examples-g-to-l = (refl, refl, refl, refl, refl, refl)
-
--- Edges that the examples leave out: adjacent windows are not joined by `interval_fits`, though work runs through them; an open window
--- of length 0 is listed all the same; a window holds its start and not its end, a closure the same.
+-- Adjacent windows are not joined by `interval_fits`, though work runs through them; an open window
+-- of length 0 is listed all the same; a window covers its start and not its end, a closure the same.
 pub edges :
     (intervalFits clock (calendarOf next 0 2) (pos 5) (pos 15) ≡ false)
     × (jointWorkEnd clock (calendarsOf next both) (pos 5) (pos 15) ≡ endsAt (pos 20))
@@ -59,5 +45,5 @@ pub edges :
     × (isWorkingTime clock (calendarOf lunch 1 2) (pos 6) ≡ true)
     × (jointAvailableMs clock (calendarsOf lunch both) (pos 0) (pos 20) ≡ 5)
     × (jointAvailableMs clock (calendarsOf two both) (pos 5) (pos 25) ≡ 10)
-unfolding anyOf allOf collect contains holds hits isWorkingTime intervalFits jointWorking count jointAvailableMs endIn reach reaches endAfter endFrom jointWorkEnd windowsOf calendarOf listsOf calendarsOf
+unfolding anyOf allOf collect contains covers hits isWorkingTime intervalFits jointWorking count jointAvailableMs endIn reach reaches endAfter endFrom jointWorkEnd windowsOf calendarOf listsOf calendarsOf
 edges = (refl, refl, refl, refl, refl, refl, refl, refl, refl, refl)

@@ -40,7 +40,7 @@ unfoldable pub calendarsOf : List ℕ → List ℕ → List (Calendar ℤ)
 calendarsOf w cs = map (map windowOf) (listsOf w cs)
 
 -- the answer that says so: an end past the last number of 64 bits is beyond
-abbrev pub answerOf : Ending ℤ → Answer
-answerOf (endsAt e) = cond (ltb (toNat e) (2 ^ 64)) (End (toNat e)) Beyond
-answerOf pauses = Pause
-answerOf never = Never
+abbrev pub saying : Ending ℤ → Answer
+saying (endsAt e) = cond (ltb (toNat e) (2 ^ 64)) (End (toNat e)) Beyond
+saying pauses = Pause
+saying never = Never

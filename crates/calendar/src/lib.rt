@@ -4,17 +4,19 @@
 // A calendar is the windows at the places from `from` up to, not with, `to`; several calendars are lent as numbers too, two to a
 // calendar: from, to. A place past the last window is the place of none. Any numbers may be handed in.
 ghost use mathlib.Core.Path.{_≡_};
-ghost use mathlib.Core.Bool.{Bool, true, false, cond};
+ghost use mathlib.Core.Bool.{Bool, true, false, cond, _&&_, _||_};
+ghost use mathlib.Core.List.{[], _∷_, _++_};
 ghost use Prim.Native.Nat.{ℕ, _+_, _-_, _*_, _/_, _<_, _≤_, max, min};
 ghost use lib.ListN.{length, getD};
 ghost use lib.IntN.{ℤ, pos};
 ghost use Rattle.loops.specs.Numbers.{toNat};
 ghost use Rattle.calendar.specs.Clock.{clock};
-ghost use Rattle.calendar.specs.Calendar.{contains, holds, hits, isWorkingTime, intervalFits, jointWorking};
+ghost use Rattle.calendar.specs.Calendar.{Calendar, isOpen, isClosed, contains, covers, hits, isWorkingTime, intervalFits, jointWorking};
 ghost use Rattle.calendar.specs.Amount.{jointAvailableMs};
 ghost use Rattle.calendar.specs.WorkEnd.{endFrom, jointWorkEnd};
-ghost use Rattle.calendar.specs.Layout.{windowsIn, windowAt, windowOf, windowsOf, listsOf, calendarOf, calendarsOf, answerOf};
-ghost use Rattle.calendar.specs.Scan.{standing, standingAt, standingOver, allows, nearer, withWindow, lookAt, withCalendar, jointLook};
+ghost use Rattle.calendar.specs.Layout.{windowsIn, windowAt, windowOf, windowsOf, listsOf, calendarOf, calendarsOf, saying};
+ghost use Rattle.calendar.specs.inner.Fit.{fitOf};
+ghost use Rattle.calendar.specs.inner.Scan.{standing, standingAt, allows, nearer, withWindow, lookAt, withCalendar, jointLook};
 
 // A window; `closed` is 0 where it is open, 1 where it is a closure.
 pub struct TimeWindow {
@@ -61,9 +63,9 @@ fn contains(x: TimeWindow, t: u64) -> bool
     t < x.end
 }
 
-// Whether the window holds all of [a, e).
-fn holds(x: TimeWindow, a: u64, e: u64) -> bool
-    ensures { λ r. ⌜ r ≡ holds clock (pos a) (pos e) (windowOf x) ⌝ }
+// Whether the window covers all of [a, e).
+fn covers(x: TimeWindow, a: u64, e: u64) -> bool
+    ensures { λ r. ⌜ r ≡ covers clock (pos a) (pos e) (windowOf x) ⌝ }
 {
     if a < x.start {
         return false;
@@ -104,14 +106,8 @@ fn standing_at(x: TimeWindow, t: u64) -> u64
     standing_of(x.closed, inside, inside)
 }
 
-fn standing_over(x: TimeWindow, a: u64, e: u64) -> u64
-    ensures { λ r. ⌜ r ≡ standingOver a e x ⌝ }
-{
-    standing_of(x.closed, holds(x, a, e), hits(x, a, e))
-}
-
 // Whether the greatest of the windows' standings leaves it working time.
-pub fn is_allowed(most: u64) -> bool
+fn is_allowed(most: u64) -> bool
     ensures { λ r. ⌜ r ≡ allows most ⌝ }
 {
     if most == 0 {
@@ -126,11 +122,76 @@ fn greater(a: u64, b: u64) -> u64
     if a <= b { b } else { a }
 }
 
-// The greatest standing over [a, e) of some windows and of one more.
-pub fn more_standing(most: u64, x: TimeWindow, a: u64, e: u64) -> u64
-    ensures { λ r. ⌜ r ≡ max most (standingOver a e x) ⌝ }
+// ---- whether an interval fits
+
+// Whether it is an open window that covers all of [a, e).
+fn opens(x: TimeWindow, a: u64, e: u64) -> bool
+    ensures { λ r. ⌜ r ≡ (isOpen (windowOf x) && covers clock (pos a) (pos e) (windowOf x)) ⌝ }
 {
-    greater(most, standing_over(x, a, e))
+    if x.closed == 0 {
+        return covers(x, a, e);
+    }
+    false
+}
+
+// Whether it is a closure that hits [a, e).
+fn shuts(x: TimeWindow, a: u64, e: u64) -> bool
+    ensures { λ r. ⌜ r ≡ (isClosed (windowOf x) && hits clock (pos a) (pos e) (windowOf x)) ⌝ }
+{
+    if x.closed == 1 {
+        return hits(x, a, e);
+    }
+    false
+}
+
+fn either(a: bool, b: bool) -> bool
+    ensures { λ r. ⌜ r ≡ (a || b) ⌝ }
+{
+    a || b
+}
+
+// What the windows of a calendar that were looked at say of [start, end): an open one is listed, an open one covers it, a closure hits it.
+pub struct Fit {
+    start: u64,
+    end: u64,
+    listed: bool,
+    held: bool,
+    hit: bool,
+}
+
+impl Fit {
+    // Before the first window.
+    pub fn over(start: u64, end: u64) -> Fit
+        ensures { λ r. ⌜ r ≡ fitOf [] start end ⌝ }
+    {
+        Fit {
+            start: start,
+            end: end,
+            listed: false,
+            held: false,
+            hit: false,
+        }
+    }
+
+    // With one window more.
+    pub fn add(self, x: TimeWindow) -> Fit
+        ensures { λ r. ⌜ ((l : Calendar ℤ) (a e : ℕ) → self ≡ fitOf l a e → r ≡ fitOf (l ++ windowOf x ∷ []) a e) ⌝ }
+    {
+        Fit {
+            start: self.start,
+            end: self.end,
+            listed: either(self.listed, x.closed == 0),
+            held: either(self.held, opens(x, self.start, self.end)),
+            hit: either(self.hit, shuts(x, self.start, self.end)),
+        }
+    }
+
+    // Whether [start, end) fits the calendar whole.
+    pub fn fits(self) -> bool
+        ensures { λ r. ⌜ ((l : Calendar ℤ) (a e : ℕ) → self ≡ fitOf l a e → r ≡ intervalFits clock l (pos a) (pos e)) ⌝ }
+    {
+        either(!self.listed, self.held) && !self.hit
+    }
 }
 
 // Whether [a, e) fits the calendar whole.
@@ -138,14 +199,16 @@ pub fn interval_fits(w: &[u64], from: usize, to: usize, a: u64, e: u64) -> bool
     ensures { λ r. ⌜ r ≡ intervalFits clock (calendarOf (now (w .entry)) from to) (pos a) (pos e) ⌝ }
 {
     let n = last_place(w, to);
-    let mut most = 0;
+    let mut f = Fit::over(a, e);
     let mut i = from;
     while i < n {
-        most = more_standing(most, window_at(w, i), a, e);
+        f = f.add(window_at(w, i));
         i += 1;
     }
-    is_allowed(most)
+    f.fits()
 }
+
+// ---- working time
 
 // x if it lies between t and b, else b.
 fn nearer_of(t: u64, x: u64, b: u64) -> u64
@@ -272,7 +335,7 @@ const LAST: u64 = 18446744073709551615;
 
 // The first instant by which `work` milliseconds of joint working time have passed since `start`. A start in a pause is no obstacle here.
 pub fn end_from(cs: &[usize], w: &[u64], start: u64, work: u64) -> Answer
-    ensures { λ r. ⌜ r ≡ answerOf (endFrom clock (calendarsOf (now (w .entry)) (now (cs .entry))) (pos start) work) ⌝ }
+    ensures { λ r. ⌜ r ≡ saying (endFrom clock (calendarsOf (now (w .entry)) (now (cs .entry))) (pos start) work) ⌝ }
 {
     if work == 0 {
         return Answer::End(start);
@@ -306,7 +369,7 @@ fn amount(work: i64) -> u64
 
 // When `work` milliseconds of work started at `start` end, if it runs only while every one of the calendars works and pauses otherwise.
 pub fn joint_work_end(cs: &[usize], w: &[u64], start: u64, work: i64) -> Answer
-    ensures { λ r. ⌜ r ≡ answerOf (jointWorkEnd clock (calendarsOf (now (w .entry)) (now (cs .entry))) (pos start) work) ⌝ }
+    ensures { λ r. ⌜ r ≡ saying (jointWorkEnd clock (calendarsOf (now (w .entry)) (now (cs .entry))) (pos start) work) ⌝ }
 {
     if !joint_working(cs, w, start) {
         return Answer::Pause;

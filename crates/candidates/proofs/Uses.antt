@@ -1,36 +1,30 @@
 -- Candidates and usages by rows. Assumes nothing.
 use Prim.Native.Nat.{ℕ, _<_, _≤_}
-use mathlib.Core.Path.{_≡_, refl, ap, ap₂, sym, _∙_}
-use mathlib.Core.Bool.{Bool, true, false, cond, not, _&&_}
-use mathlib.Core.List.{List, [], _∷_, _++_}
+use mathlib.Core.Path.{_≡_, refl, ap, sym, _∙_}
+use mathlib.Core.Bool.{Bool, true, false, not, _&&_}
+use mathlib.Core.List.{List}
 use mathlib.Core.Option.{Option, none, some}
 use native.Mathlib.Omega.{arith}
 use lib.Dec.{eqb}
 use lib.IntN.{ℤ}
-use Rattle.loops.specs.Lists.{given, keep, head, option, among, isEmpty}
-use Rattle.loops.specs.Range.{collect}
-use Rattle.loops.specs.Search.{someIf, first, firstPlace, anyBelow}
-use Rattle.loops.specs.Chain.{First, Stands, Blind}
+use Rattle.loops.specs.Lists.{keep, head, option, among, isEmpty}
+use Rattle.loops.specs.Search.{someIf, firstPlace, anyBelow}
+use Rattle.loops.specs.inner.Chain.{First, Stands, Blind}
+use Rattle.loops.proofs.BoolLaws.{and-left}
 use Rattle.loops.proofs.ListLaws.{keep-collect, head-collect}
 use Rattle.loops.proofs.SearchLaws.{any-hit}
-use Rattle.loops.proofs.Walks.{any-first}
+use Rattle.loops.proofs.Walks.{itself, any-first}
 use Rattle.rows.specs.Cells.{rowCount, num, is}
 use Rattle.sheet.specs.Places.{placeOf}
-use Rattle.sheet.specs.Index.{ownerKind, orEnd, ownPlace, resPlace, ownedBy}
+use Rattle.sheet.specs.inner.Index.{ownerKind, ownPlace, ownedBy}
 use Rattle.sheet.specs.Refusals.{refusalOf}
-use Rattle.sheet.proofs.Lookups.{and-left}
 use Rattle.model.specs.Sheet.{sheet}
-use Rattle.model.specs.Activity.{ResourceRequirement, requirementAt, requirements, candidates, isCandidate, usageOn, findActivity}
-use Rattle.model.specs.Resource.{Resource, findResource}
-use Rattle.model.specs.Records.{activityOf, requirementOf, resourceOf, assignmentOf}
+use Rattle.model.specs.Activity.{requirementAt, requirements, candidates, isCandidate, usageOn}
+use Rattle.model.specs.inner.Records.{activityOf, requirementOf, resourceOf}
 use Rattle.model.proofs.Accepting.{accepted, at-most}
-use Rattle.model.proofs.OwnedLaws.{of-activity, own-activity, own-resource}
-use Rattle.model.proofs.Finds.{first-same, first-placed, given-head, find-activity, find-resource, linked-none, linked-some, found-self}
+use Rattle.model.proofs.OwnedLaws.{of-activity}
+use Rattle.model.proofs.Finds.{first-same, first-placed, given-head}
 use Rattle.model.proofs.Requiring.{requirement-row, requirement-none, candidates-are, none-given, among-given}
-use Rattle.checks.specs.CheckCapacity.{usage}
-
-pub itself : (p : ℕ → Bool) → Blind p p
-itself p = record { still = λ k e. e }
 
 -- ---- candidates
 
@@ -126,36 +120,3 @@ module _ (rows : List ℤ) (a k : ℕ) where
 
   pub usage-most : {n N i r : ℕ} → refusalOf rows ≡ none → i < N → N ≡ n → Stands (ownedBy rows a 5) n i → r ≡ num rows i 4 → r ≤ 1000000
   usage-most {i = i} acc l z s e = rw e (at-most rows (accepted rows acc) i 5 4 (is-requirement l z s))
-
--- ---- what a booking takes
-
-module _ (rows : List ℤ) (k : ℕ) (h : is rows k 0 23 ≡ true) where
-  activity-link : {a : ℕ} → a ≡ ownPlace rows k → a ≡ orEnd rows (placeOf rows 2 (num rows k 1))
-  activity-link e = e ∙ own-activity rows 23 k (unfold ownerKind in refl) h
-
-  resource-link : {x : ℕ} → x ≡ resPlace rows k → x ≡ orEnd rows (placeOf rows 11 (num rows k 3))
-  resource-link e = e ∙ own-resource rows k h
-
-  pub unknown-activity : {a N : ℕ} → a ≡ ownPlace rows k → N ≡ rowCount rows → N ≤ a → 1 ≡ usage (sheet rows) (assignmentOf rows k)
-  unfolding usage
-  unknown-activity e z l =
-      let q = linked-none rows 2 (num rows k 1) (activity-link e) (omega arith) in
-      rw (find-activity rows (num rows k 1), q)
-
-  pub activity-found : {a N : ℕ} → a ≡ ownPlace rows k → N ≡ rowCount rows → a < N → placeOf rows 2 (num rows a 1) ≡ some a
-  activity-found {a} e z l = found-self rows 2 (num rows k 1) a (linked-some rows 2 (num rows k 1) (activity-link e) (omega arith))
-
-  pub unknown-resource : {a x N : ℕ} → a ≡ ownPlace rows k → x ≡ resPlace rows k → N ≡ rowCount rows → a < N → N ≤ x → 1 ≡ usage (sheet rows) (assignmentOf rows k)
-  unfolding usage
-  unknown-resource e g z l m =
-      let q = linked-some rows 2 (num rows k 1) (activity-link e) (omega arith) in
-      let p = linked-none rows 11 (num rows k 3) (resource-link g) (omega arith) in
-      rw (find-activity rows (num rows k 1), q, find-resource rows (num rows k 3), p)
-
-  pub known-usage : {a x N r : ℕ} → a ≡ ownPlace rows k → x ≡ resPlace rows k → N ≡ rowCount rows → a < N → x < N
-      → r ≡ usageOn (sheet rows) (activityOf rows a) (resourceOf rows x) → r ≡ usage (sheet rows) (assignmentOf rows k)
-  unfolding usage
-  known-usage e g z l m u =
-      let q = linked-some rows 2 (num rows k 1) (activity-link e) (omega arith) in
-      let p = linked-some rows 11 (num rows k 3) (resource-link g) (omega arith) in
-      rw (find-activity rows (num rows k 1), q, find-resource rows (num rows k 3), p) u

@@ -1,4 +1,4 @@
-// Which resources a requirement takes, and what a booking uses of its resource: `is_candidate` and `usage_on` of models/activity.rs.
+// Which resources a requirement takes, and what an activity uses of a resource: `is_candidate` and `usage_on` of models/activity.rs.
 ghost use mathlib.Core.Path.{_≡_};
 ghost use mathlib.Core.Bool.{Bool, true, false};
 ghost use mathlib.Core.Option.{Option, none, some};
@@ -6,12 +6,11 @@ ghost use Prim.Native.Nat.{ℕ, _<_, _≤_};
 ghost use Rattle.loops.specs.Lists.{among};
 ghost use Rattle.rows.specs.Cells.{rowCount, num, is};
 ghost use Rattle.sheet.specs.Places.{placeOf};
-ghost use Rattle.sheet.specs.Index.{Linked, Owned};
+ghost use Rattle.sheet.specs.inner.Index.{Owned};
 ghost use Rattle.sheet.specs.Refusals.{refusalOf};
 ghost use Rattle.model.specs.Sheet.{sheet};
 ghost use Rattle.model.specs.Activity.{candidates, isCandidate, usageOn};
-ghost use Rattle.model.specs.Records.{activityOf, requirementOf, resourceOf, assignmentOf};
-ghost use Rattle.checks.specs.CheckCapacity.{usage};
+ghost use Rattle.model.specs.inner.Records.{activityOf, requirementOf, resourceOf};
 
 // Whether the requirement of row q lists the resource as a candidate.
 fn is_listed(rows: &[i64], owned: &[u16; 8810], q: usize, id: u64) -> bool
@@ -30,7 +29,7 @@ fn is_listed(rows: &[i64], owned: &[u16; 8810], q: usize, id: u64) -> bool
 }
 
 // Whether the resource of row k may fill the requirement of row q: one of its candidates or, where it lists none, one of its type.
-pub fn is_candidate(rows: &[i64], owned: &[u16; 8810], q: usize, k: usize) -> bool
+fn is_candidate(rows: &[i64], owned: &[u16; 8810], q: usize, k: usize) -> bool
     requires { ⌜ Owned (now rows) (now owned) × (q < rowCount (now rows)) × (is (now rows) q 0 5 ≡ true) ⌝ }
     ensures { λ r. ⌜ r ≡ isCandidate (sheet (now (rows .entry))) (requirementOf (now (rows .entry)) q) (resourceOf (now (rows .entry)) k) ⌝ }
 {
@@ -57,22 +56,4 @@ pub fn usage_on(rows: &[i64], owned: &[u16; 8810], a: usize, k: usize) -> u64
         q = sheet::next_owned(rows, owned, a, 5, q);
     }
     1
-}
-
-// What booking k takes of its resource.
-pub fn usage_of(rows: &[i64], links: &[u16; 1600], owned: &[u16; 8810], k: usize) -> u64
-    requires { ⌜ Linked (now rows) (now links) × Owned (now rows) (now owned) × (refusalOf (now rows) ≡ none) × (k < rowCount (now rows)) × (is (now rows) k 0 23 ≡ true) ⌝ }
-    ensures value { λ r. ⌜ r ≡ usage (sheet (now (rows .entry))) (assignmentOf (now (rows .entry)) k) ⌝ }
-    ensures bound { λ r. ⌜ r ≤ 1000000 ⌝ }
-{
-    let n = rows::row_count(rows);
-    let a = sheet::owner_of(rows, links, k);
-    if n <= a {
-        return 1;
-    }
-    let x = sheet::resource_of(rows, links, k);
-    if n <= x {
-        return 1;
-    }
-    usage_on(rows, owned, a, x)
 }

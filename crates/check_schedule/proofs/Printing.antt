@@ -8,32 +8,32 @@ use native.Mathlib.Omega.{arith}
 use borrow.Author.Tests.{ltb-false}
 use lib.Dec.{ltb}
 use lib.IntN.{ℤ, pos, negsuc, natAbs}
-use lib.ListN.{length, getD, take, drop, length-append, List·getD-append}
-use lib.Seq.{sets, sets-eq, take-at}
+use lib.ListN.{length, getD, take, drop, length-append, length-drop}
+use lib.Seq.{sets, sets-eq, take-at, take-append-le, drop-append-le}
 use mir.Syntax.{w64}
 use mir.Val.{Val}
 use denote.Signed.{SInt}
 use denote.Array.{each}
 use denote.Shadow.{shadow}
-use Rattle.loops.specs.Search.{orElse}
-use Rattle.loops.specs.Range.{collect}
 use Rattle.loops.proofs.RangeLaws.{collect-ext}
 use Rattle.loops.proofs.PlaceLaws.{or-none-right, if-none}
 use Rattle.text.specs.Parts.{parts}
 use Rattle.text.specs.Text.{answerFrom, answerOf, rowsOf, rowsAfter}
-use Rattle.text.specs.declared.Answer.{Answer}
-use Rattle.text.specs.declared.Answer.the-variants.{Accepted, Refused}
+use Rattle.refusals.specs.declared.Answer.{Answer}
+use Rattle.refusals.specs.declared.Answer.the-variants.{Accepted, Refused}
 use Rattle.text.proofs.TextLaws.{accepted-rows}
-use Rattle.sheet.specs.Refusals.{Refusal, refuse}
+use Rattle.refusals.specs.Refusals.{Refusal}
 use Rattle.findings.specs.declared.Violation.{Violation}
-use Rattle.findings.specs.Sink.{flat}
-use Rattle.checks.specs.CheckSchedule.{findings, checkSchedule}
-use Rattle.shift.specs.Call.{accepted, refused, Listed, Written, Ended, Checked}
-use Rattle.feasibility.specs.declared.Answer.{Answer as Call·Answer}
-use Rattle.feasibility.specs.Table.{orFull, sheetRefusal, answered}
-use Rattle.output.specs.Printed.{findingNumber, field, findingLine, printedRefused, printedAccepted}
-use Rattle.output.proofs.FitLaws.{accepted-fits, refused-fits}
-use Rattle.check_schedule.specs.Program.{PrintedLines, PrintedBy, PrintedSheet, PrintedOf, PrintedText}
+use Rattle.findings.specs.Findings.{flat}
+use Rattle.findings.proofs.SinkLaws.{flat-length}
+use Rattle.definition.specs.CheckSchedule.{findings, checkSchedule}
+use Rattle.feasibility.specs.Refusals.{sheetRefusal, refusal}
+use Rattle.feasibility.specs.Call.{Listed, Ended, Checked}
+use Rattle.printing.specs.Decimal.{decimal}
+use Rattle.printing.specs.NumberLines.{numberLine, lineAt, numberLines}
+use Rattle.printing.specs.Printed.{acceptedWord, printedRefused, printedAccepted, printed}
+use Rattle.printing.proofs.FitLaws.{Small, accepted-fits, refused-fits}
+use Rattle.check_schedule.specs.Program.{PrintedBy, PrintedSheet, PrintedText}
 
 -- ---- numbers of 64 bits
 
@@ -44,9 +44,13 @@ each-small (pos n ∷ xs) (u ∷ us) zero p = omega (arith, p .0 .1)
 each-small (negsuc n ∷ xs) (u ∷ us) zero p = omega (arith, p .0 .1)
 each-small (x ∷ xs) (u ∷ us) (suc i) p = each-small xs us i (p .1)
 
-pub small-numbers : (xs : List ℤ) (us : List Val) → shadow (each ℤ (SInt w64 .own) xs us) → (k c : ℕ) → natAbs (findingNumber xs k c) ≤ 2 ^ 63
-unfolding findingNumber
-small-numbers xs us p k c = each-small xs us (k * 4 + c) p
+pub small-numbers : (xs : List ℤ) (us : List Val) → shadow (each ℤ (SInt w64 .own) xs us) → Small xs
+small-numbers xs us p i = each-small xs us i p
+
+-- what an answer of the code holds
+abbrev pub Bounded : Answer → Type 0
+Bounded (Accepted n) = Unit {0}
+Bounded (Refused number place) = (number < 2 ^ 64) × (place < 2 ^ 64)
 
 -- ---- the buffer
 
@@ -65,63 +69,54 @@ stands o p {r = r} h l q e =
 
 -- ---- what is printed of findings is that of their lines, whatever follows them
 
-length-flat : (l : List Violation) → length (flat l) ≡ 4 * length l
-unfolding flat
-length-flat [] = refl
-length-flat (f ∷ l) = omega (arith, length-flat l)
-
 length-listed : (rows : List ℤ) (l : List Violation) → Listed rows l → length l ≡ length (findings rows)
 unfolding findings checkSchedule
 length-listed rows l p = ap length (p .whole) ∙ simp length-append (omega (arith, p .places))
 
 module _ (xs ys : List ℤ) where
-  number-first : (k c : ℕ) → k * 4 + c < length xs → findingNumber (xs ++ ys) k c ≡ findingNumber xs k c
-  unfolding findingNumber
-  number-first k c h = List·getD-append xs ys (pos 0) (k * 4 + c) h
-
-  line-first : (k : ℕ) → k * 4 + 3 < length xs → findingLine (xs ++ ys) k ≡ findingLine xs k
-  unfolding findingLine field
-  line-first k h = rw (number-first k 0 (omega arith), number-first k 1 (omega arith), number-first k 2 (omega arith), number-first k 3 h)
+  line-first : (k : ℕ) → k * 4 + 4 ≤ length xs → numberLine (lineAt 4 (xs ++ ys) k) ≡ numberLine (lineAt 4 xs k)
+  unfolding lineAt
+  line-first k h =
+      let long : 4 ≤ length (drop (k * 4) xs) = simp length-drop (omega arith) in
+      ap numberLine (ap (take 4) (drop-append-le (k * 4) xs ys (omega arith)) ∙ take-append-le 4 (drop (k * 4) xs) ys long)
 
   accepted-first : (n : ℕ) → length xs ≡ 4 * n → printedAccepted n (xs ++ ys) ≡ printedAccepted n xs
-  unfolding printedAccepted
-  accepted-first n h = rw (collect-ext (findingLine (xs ++ ys)) (findingLine xs) n (λ k l. line-first k (omega arith)))
+  unfolding printedAccepted numberLines
+  accepted-first n h = ap (λ l. acceptedWord ++ decimal n ++ 10 ∷ l) (collect-ext _ _ n (λ k l. line-first k (omega arith)))
 
 -- ---- a sheet
 
--- the call's answer, taken apart, and the findings, handed on
-pub checked-as : {rows before found found′ : List ℤ} {a b : Call·Answer} → found′ ≡ found → a ≡ b
-    → Checked (orFull sheetRefusal) rows before (answered a) found → Checked (orFull sheetRefusal) rows before (answered b) found′
-checked-as {rows = rows} {before = before} {found′ = found′} {a = a} p q c =
-    subst (λ x. Checked (orFull sheetRefusal) rows before (answered x) found′) q (subst (λ x. Checked (orFull sheetRefusal) rows before (answered a) x) (sym p) c)
+-- the findings, handed on
+pub checked-kept : {rows before found found′ : List ℤ} {a : Answer} → found′ ≡ found → Checked rows before a found → Checked rows before a found′
+checked-kept {rows = rows} {before = before} {a = a} p c = subst (Checked rows before a) (sym p) c
 
-accepted-inj : (n m : ℕ) → accepted n ≡ accepted m → n ≡ m
+accepted-inj : (n m : ℕ) → Accepted n ≡ Accepted m → n ≡ m
 accepted-inj n m p = cc
 
-not-both : (n m p : ℕ) → accepted n ≡ refused m p → ⊥
+not-both : (n m p : ℕ) → Accepted n ≡ Refused m p → ⊥
 not-both n m p e = let z : _≡_ {A = ℕ} 0 1 = cc in omega arith
 
-few : (rows : List ℤ) → orFull sheetRefusal rows 2000 ≡ none → length (findings rows) ≤ 2000
-unfolding orFull
+few : (rows : List ℤ) → refusal rows 2000 ≡ none → length (findings rows) ≤ 2000
+unfolding refusal
 few rows e = omega (arith, ltb-false 2000 (length (findings rows)) (if-none (ltb 2000 (length (findings rows))) _ (or-none-right (sheetRefusal rows) _ e)))
 
 module _ (rows before : List ℤ) (room : length before ≡ 8000) where
-  entry : {r : _} {found : List ℤ} → Checked (orFull sheetRefusal) rows before r found → Ended (orFull sheetRefusal) (orFull sheetRefusal rows 2000) rows before r found
+  entry : {r : _} {found : List ℤ} → Checked rows before r found → Ended (refusal rows 2000) rows before r found
   entry {r} {found} c =
       let e : length before / 4 ≡ 2000 = omega arith in
-      subst (λ k. Ended (orFull sheetRefusal) (orFull sheetRefusal rows k) rows before r found) e (c .ended)
+      subst (λ k. Ended (refusal rows k) rows before r found) e (c .ended)
 
   module _ (o : List ℕ) (long : length o ≡ 168030) {o′ : List ℕ} {r : ℕ} where
     accepted-by : (t : Option Refusal) (n : ℕ) (found : List ℤ) → (t ≡ none → length (findings rows) ≤ 2000)
-        → Ended (orFull sheetRefusal) t rows before (accepted n) found
-        → ((k c : ℕ) → natAbs (findingNumber found k c) ≤ 2 ^ 63)
+        → Ended t rows before (Accepted n) found
+        → Small found
         → r ≡ min (length (printedAccepted n found)) (length o) → o′ ≡ sets o 0 (printedAccepted n found)
         → (r ≤ 168030) × PrintedBy t rows (take r o′)
     accepted-by (some x) n found h e f q s = absurd (not-both _ _ _ (e .answered))
     accepted-by none n found h e f q s =
         let z : n ≡ length (findings rows) = accepted-inj _ _ (e .counted) in
         let d = stands o (printedAccepted n found) long (accepted-fits found f n (omega (arith, h refl))) q s in
-        let l : length (flat (e .lines)) ≡ 4 * n = length-flat (e .lines) ∙ ap (λ m. 4 * m) (length-listed rows (e .lines) (e .listed) ∙ sym z) in (
+        let l : length (flat (e .lines)) ≡ 4 * n = flat-length (e .lines) ∙ ap (λ m. 4 * m) (length-listed rows (e .lines) (e .listed) ∙ sym z) in (
           d .within,
           record {
             lines = e .lines;
@@ -131,7 +126,7 @@ module _ (rows before : List ℤ) (room : length before ≡ 8000) where
         )
 
     refused-by : (t : Option Refusal) (number place : ℕ) (found : List ℤ)
-        → Ended (orFull sheetRefusal) t rows before (refused number place) found
+        → Ended t rows before (Refused number place) found
         → number < 2 ^ 64 → place < 2 ^ 64
         → r ≡ min (length (printedRefused number place)) (length o) → o′ ≡ sets o 0 (printedRefused number place)
         → (r ≤ 168030) × PrintedBy t rows (take r o′)
@@ -142,20 +137,18 @@ module _ (rows before : List ℤ) (room : length before ≡ 8000) where
         let b : place ≡ x .place = cc (e .answered) in
         (d .within, d .first ∙ λ i. printedRefused (a i) (b i))
 
-    pub sheet-accepted : (n : ℕ) (found : List ℤ) → Checked (orFull sheetRefusal) rows before (accepted n) found
-        → ((k c : ℕ) → natAbs (findingNumber found k c) ≤ 2 ^ 63)
-        → r ≡ min (length (printedAccepted n found)) (length o) → o′ ≡ sets o 0 (printedAccepted n found)
-        → (r ≤ 168030) × PrintedSheet rows (take r o′)
-    sheet-accepted n found c f q s =
-        let p = accepted-by (orFull sheetRefusal rows 2000) n found (few rows) (entry c) f q s in
-        (p .0, record { by-table = p .1 })
+    by-answer : (t : Option Refusal) (a : Answer) (found : List ℤ) → (t ≡ none → length (findings rows) ≤ 2000)
+        → Ended t rows before a found → Small found → Bounded a
+        → r ≡ min (length (printed a found)) (length o) → o′ ≡ sets o 0 (printed a found)
+        → (r ≤ 168030) × PrintedBy t rows (take r o′)
+    by-answer t (Accepted n) found h e f b q s = accepted-by t n found h e f q s
+    by-answer t (Refused number place) found h e f b q s = refused-by t number place found e (b .0) (b .1) q s
 
-    pub sheet-refused : (number place : ℕ) (found : List ℤ) → Checked (orFull sheetRefusal) rows before (refused number place) found
-        → number < 2 ^ 64 → place < 2 ^ 64
-        → r ≡ min (length (printedRefused number place)) (length o) → o′ ≡ sets o 0 (printedRefused number place)
+    pub sheet-printed : (a : Answer) (found : List ℤ) → Checked rows before a found → Small found → Bounded a
+        → r ≡ min (length (printed a found)) (length o) → o′ ≡ sets o 0 (printed a found)
         → (r ≤ 168030) × PrintedSheet rows (take r o′)
-    sheet-refused number place found c h l q s =
-        let p = refused-by (orFull sheetRefusal rows 2000) number place found (entry c) h l q s in
+    sheet-printed a found c f b q s =
+        let p = by-answer (refusal rows 2000) a found (few rows) (entry c) f b q s in
         (p .0, record { by-table = p .1 })
 
 -- ---- a text

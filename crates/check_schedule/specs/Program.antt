@@ -7,15 +7,15 @@ use lib.IntN.{ℤ}
 use lib.ListN.{length}
 use Rattle.text.specs.Parts.{parts}
 use Rattle.text.specs.Text.{answerOf, rowsOf}
-use Rattle.text.specs.declared.Answer.{Answer}
-use Rattle.text.specs.declared.Answer.the-variants.{Accepted, Refused}
-use Rattle.sheet.specs.Refusals.{Refusal}
+use Rattle.refusals.specs.declared.Answer.{Answer}
+use Rattle.refusals.specs.declared.Answer.the-variants.{Accepted, Refused}
+use Rattle.refusals.specs.Refusals.{Refusal}
 use Rattle.findings.specs.declared.Violation.{Violation}
-use Rattle.findings.specs.Sink.{flat}
-use Rattle.checks.specs.CheckSchedule.{findings}
-use Rattle.shift.specs.Call.{Listed}
-use Rattle.feasibility.specs.Table.{orFull, sheetRefusal}
-use Rattle.output.specs.Printed.{printedRefused, printedAccepted}
+use Rattle.findings.specs.Findings.{flat}
+use Rattle.definition.specs.CheckSchedule.{findings}
+use Rattle.feasibility.specs.Refusals.{refusal}
+use Rattle.feasibility.specs.Call.{Listed}
+use Rattle.printing.specs.Printed.{printedRefused, printedAccepted}
 
 -- of an accepted sheet: the count of the definition's findings, and the lines; check 5's order alone is free
 pub record PrintedLines (rows : List ℤ) (bytes : List ℕ) : Type 0 where
@@ -29,7 +29,7 @@ PrintedBy none rows bytes = PrintedLines rows bytes
 PrintedBy (some e) rows bytes = bytes ≡ printedRefused (e .number) (e .place)
 
 pub record PrintedSheet (rows : List ℤ) (bytes : List ℕ) : Type 0 where
-  pub by-table : PrintedBy (orFull sheetRefusal rows 2000) rows bytes
+  pub by-table : PrintedBy (refusal rows 2000) rows bytes
 
 -- of a text, by the answer to it
 abbrev pub PrintedOf : Answer → List ℕ → List ℕ → Type 0

@@ -3,9 +3,8 @@ ghost use mathlib.Core.Path.{_≡_};
 ghost use Prim.Native.Nat.{_≤_};
 ghost use lib.ListN.{length, take};
 ghost use Rattle.check_schedule.specs.Program.{PrintedSheet, PrintedText};
-use feasibility::Answer;
-use libc::STDIN_FILENO;
-use libc::STDOUT_FILENO;
+use program_io::Input;
+use refusals::Answer;
 
 // 800 rows, or 2,000 findings. The promises here give the lengths, which is all that lending an array as a slice asks.
 fn numbers() -> [i64; 8000]
@@ -44,14 +43,7 @@ fn print_sheet(rows: &[i64], out: &mut [u8]) -> usize
     let mut found = numbers();
     let answer = feasibility::check_schedule(rows, &mut found);
     let found = kept(found);
-    match answer {
-        Answer::Accepted(n) => output::print_answer(text::Answer::Accepted(n), &found, out),
-        Answer::Refused(number, place) => output::print_answer(
-            text::Answer::Refused(number, place),
-            &found,
-            out,
-        ),
-    }
+    printing::print_answer(answer, &found, out)
 }
 
 // Reads the text, checks the sheet, and puts what is printed into out.
@@ -63,12 +55,12 @@ fn print_text(text: &[u8], out: &mut [u8]) -> usize
     let mut rows = numbers();
     let read = text::read_text(text, &mut rows);
     match read {
-        text::Answer::Accepted(n) => {
+        Answer::Accepted(n) => {
             let end = 10 * n;
             print_sheet(&rows[..end], out)
         }
-        text::Answer::Refused(number, place) => output::print_answer(
-            text::Answer::Refused(number, place),
+        Answer::Refused(number, place) => printing::print_answer(
+            Answer::Refused(number, place),
             &rows,
             out,
         ),
@@ -76,9 +68,20 @@ fn print_text(text: &[u8], out: &mut [u8]) -> usize
 }
 
 fn main() {
+    let started = program_io::arguments(0, b"usage: check_schedule < SHEET (it takes no argument)");
+    if !started.taken {
+        return;
+    }
     let mut text = longest_text();
-    let n = io::read_full(STDIN_FILENO, &mut text);
+    let input = program_io::read_input(
+        b"check_schedule: standard input",
+        b"check_schedule: a sheet is read from standard input, up to the end of input (Ctrl-D)",
+        &mut text,
+    );
+    let Input::Read(n) = input else {
+        return;
+    };
     let mut out = longest_answer();
     let m = print_text(&text[..n], &mut out);
-    io::write_all(STDOUT_FILENO, &out[..m]);
+    program_io::write_output(b"check_schedule: standard output", &out[..m]);
 }

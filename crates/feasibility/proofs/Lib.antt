@@ -1,3 +1,3 @@
-pub mod Copying
+pub mod Calls
 pub mod Demand3
 pub mod Top

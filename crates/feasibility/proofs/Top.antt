@@ -1,35 +1,35 @@
 -- The ways in which the call ends, from what its passes over the checks ensure. Assumes nothing.
 use Prim.Native.Nat.{ℕ, _*_, _/_, _^_, _<_, _≤_}
 use mathlib.Core.Path.{_≡_, refl, ap, sym, _∙_}
-use mathlib.Core.Bool.{Bool, true, false}
-use mathlib.Core.List.{List, [], _∷_, _++_}
-use mathlib.Core.Option.{Option, none, some}
+use mathlib.Core.List.{List, _++_}
+use mathlib.Core.Option.{none, some}
 use native.Mathlib.Omega.{arith}
-use native.Mathlib.Nat.{mul-comm}
-use lib.Dec.{ltb}
+use native.Mathlib.Nat.{mul-comm, zero-add}
 use lib.IntN.{ℤ}
 use lib.ListN.{length, take, drop}
-use lib.Seq.{take-at}
+use lib.Seq.{take-at, sets, sets-eq}
 use borrow.Author.Tests.{lt-ltb, le-ltb}
-use Rattle.loops.specs.Lists.{countOf}
-use Rattle.loops.specs.Search.{orElse}
 use Rattle.calendar.specs.Clock.{clock}
 use Rattle.findings.specs.declared.Violation.{Violation}
-use Rattle.findings.specs.Sink.{Sink, sink, emit, flat}
-use Rattle.findings.proofs.SinkLaws.{emit-then}
-use Rattle.findings.proofs.Whole.{count-fits, emit-whole}
-use Rattle.sheet.specs.declared.Verdict.{Verdict}
-use Rattle.sheet.specs.declared.Verdict.the-variants.{Fine, Refused}
-use Rattle.sheet.specs.Refusals.{Refusal, refuse, refusalOf, verdictOf}
-use Rattle.refusals.specs.Answer.{Indexing}
-use Rattle.times.specs.Times.{timeRefusal, Times, Needs}
-use Rattle.times.proofs.Refusing.{needs-of}
-use Rattle.model.specs.Indexed.{Indexed}
+use Rattle.findings.specs.Findings.{flat}
+use Rattle.findings.specs.inner.Sink.{Sink, sink, emit}
+use Rattle.findings.proofs.SinkLaws.{emit-then, flat-length, count-fits, emit-whole}
+use Rattle.refusals.specs.declared.Verdict.{Verdict}
+use Rattle.refusals.specs.declared.Verdict.the-variants.{Fine, Refused}
+use Rattle.refusals.specs.Refusals.{Refusal, verdictOf}
+use Rattle.sheet.specs.Refusals.{refusalOf}
+use Rattle.validation.specs.inner.Answer.{Indexing}
+use Rattle.validation.proofs.Order.{tables-of}
+use Rattle.derived_times.specs.Times.{timeRefusal}
+use Rattle.derived_times.specs.inner.Needs.{Times, Needs}
+use Rattle.derived_times.proofs.Refusing.{needs-of}
+use Rattle.model.specs.inner.Indexed.{Indexed}
 use Rattle.model.specs.Sheet.{sheet}
-use Rattle.checks.specs.CheckCapacity.{checkCapacity}
-use Rattle.checks.specs.CheckSchedule.{beforeCapacity, afterCapacity, checkSchedule, findings}
-use Rattle.shift.specs.Call.{accepted, refused, Listed, Written, Ended, Checked}
-use Rattle.feasibility.specs.Table.{orFull, sheetRefusal}
+use Rattle.definition.specs.CheckCapacity.{checkCapacity}
+use Rattle.definition.specs.CheckSchedule.{checkSchedule, findings}
+use Rattle.refusals.specs.declared.Answer.the-variants.{Accepted as Call·Accepted, Refused as Call·Refused}
+use Rattle.feasibility.specs.Refusals.{sheetRefusal, refusal}
+use Rattle.feasibility.specs.Call.{Listed, Checked}
 
 -- checks that run one after the other have reported their findings one after the other
 pub in-turn-3 : (a b c : List Violation) (s : Sink) {s₁ s₂ s₃ : Sink} → s₁ ≡ emit s a → s₂ ≡ emit s₁ b → s₃ ≡ emit s₂ c → s₃ ≡ emit s (a ++ b ++ c)
@@ -44,21 +44,16 @@ in-order : (rows : List ℤ) → Listed rows (findings rows)
 unfolding findings checkSchedule
 in-order rows = record { capacity = checkCapacity clock (sheet rows); places = refl; often = λ f. refl; whole = refl }
 
-length-flat : (l : List Violation) → length (flat l) ≡ 4 * length l
-unfolding flat
-length-flat [] = refl
-length-flat (f ∷ l) = omega (arith, length-flat l)
-
-module _ (early : List ℤ → Option Refusal) (rows o : List ℤ) where
+module _ (rows o : List ℤ) where
   -- refused by 1 to 6
-  pub refused-sheet : (e : Refusal) → early rows ≡ some e → Checked (orFull early) rows o (refused (e .number) (e .place)) o
-  unfolding orFull
+  pub refused-sheet : (e : Refusal) → sheetRefusal rows ≡ some e → Checked rows o (Call·Refused (e .number) (e .place)) o
+  unfolding refusal
   refused-sheet e h = record { ended = rw h (record { answered = refl; unchanged = refl }) }
 
-  module _ (passed : early rows ≡ none) (o₀ : List ℤ) where
+  module _ (passed : sheetRefusal rows ≡ none) (o₀ : List ℤ) where
     pub accepted-all : {x o′ : List ℤ} {k n : ℕ} → length o < 2 ^ 60 → sink x k ≡ emit (sink o₀ 0) (findings rows) → k ≤ length o / 4
-        → sink o′ n ≡ emit (sink o 0) (findings rows) → Checked (orFull early) rows o (accepted n) o′
-    unfolding orFull
+        → sink o′ n ≡ emit (sink o 0) (findings rows) → Checked rows o (Call·Accepted n) o′
+    unfolding refusal
     accepted-all short counted fits ran =
         let h : length (findings rows) ≤ length o / 4 = omega (arith, count-fits o₀ (findings rows) counted) in
         let whole = ran ∙ emit-whole o (findings rows) (omega arith) short in
@@ -67,34 +62,34 @@ module _ (early : List ℤ → Option Refusal) (rows o : List ℤ) where
               (record {
                 lines = findings rows;
                 listed = in-order rows;
-                counted = ap (λ s. accepted (s .count)) whole;
+                counted = ap (λ s. Call·Accepted (s .count)) whole;
                 buffer = ap (λ s. s .buf) whole ∙ ap (λ m. flat (findings rows) ++ drop m o) (mul-comm (length (findings rows)) 4);
               });
         }
 
     -- the first pass held them all, and they were copied
-    pub accepted-copy : {x o′ : List ℤ} {k : ℕ} → length o < 2 ^ 60 → length o₀ ≡ 4096 → sink x k ≡ emit (sink o₀ 0) (findings rows)
-        → k ≤ length o / 4 → k ≤ 1024 → o′ ≡ take (4 * k) x ++ drop (4 * k) o → Checked (orFull early) rows o (accepted k) o′
-    unfolding orFull
+    pub accepted-copy : {x o′ : List ℤ} {k : ℕ} → length o < 2 ^ 60 → length o₀ ≡ 1024 → sink x k ≡ emit (sink o₀ 0) (findings rows)
+        → k ≤ length o / 4 → k ≤ 256 → o′ ≡ sets o 0 (take (4 * k) x) → Checked rows o (Call·Accepted k) o′
+    unfolding refusal
     accepted-copy {x = x} {k = k} short room ran fits few copied =
         let fs : List Violation = findings rows in
         let n : k ≡ length fs = omega (arith, count-fits o₀ fs ran) in
         let h : length fs ≤ length o / 4 = omega arith in
         let whole : x ≡ flat fs ++ drop (length fs * 4) o₀ = ap (λ s. s .buf) (ran ∙ emit-whole o₀ fs (omega arith) (omega arith)) in
-        let first : take (4 * k) x ≡ flat fs = ap (take (4 * k)) whole ∙ take-at (flat fs) _ (4 * k) (length-flat fs ∙ ap (λ m. 4 * m) (sym n)) in
+        let first : take (4 * k) x ≡ flat fs = ap (take (4 * k)) whole ∙ take-at (flat fs) _ (4 * k) (flat-length fs ∙ ap (λ m. 4 * m) (sym n)) in
         record {
           ended = rw (passed, le-ltb (length o / 4) (length fs) h)
               (record {
                 lines = fs;
                 listed = in-order rows;
-                counted = ap accepted n;
-                buffer = copied ∙ ap (λ l. l ++ drop (4 * k) o) first ∙ ap (λ m. flat fs ++ drop (4 * m) o) n;
+                counted = ap Call·Accepted n;
+                buffer = copied ∙ ap (sets o 0) first ∙ sets-eq (flat fs) o 0 (omega (arith, flat-length fs)) ∙ ap (λ m. flat fs ++ drop m o) (zero-add _ ∙ flat-length fs);
               });
         }
 
     pub refused-full : {x : List ℤ} {k : ℕ} → length o < 2 ^ 60 → sink x k ≡ emit (sink o₀ 0) (findings rows) → length o / 4 < k
-        → Checked (orFull early) rows o (refused 7 0) o
-    unfolding orFull
+        → Checked rows o (Call·Refused 7 0) o
+    unfolding refusal
     refused-full short counted over =
         let h : length o / 4 < length (findings rows) = omega (arith, count-fits o₀ (findings rows) counted) in
         record { ended = rw (passed, lt-ltb (length o / 4) (length (findings rows)) h) (record { answered = refl; unchanged = refl }) }
@@ -102,10 +97,11 @@ module _ (early : List ℤ → Option Refusal) (rows o : List ℤ) where
 -- ---- the refusals of the sheet, from what the two verdicts ensure
 
 module _ (rows : List ℤ) where
-  pub indexed-of : {v : Verdict} {k l o : List ℕ} → Indexing rows v k l o → v ≡ Fine → Indexed rows k l o
+  pub indexed-of : {k₀ l₀ o₀ : List ℕ} {v : Verdict} {k l o : List ℕ} → Indexing rows k₀ l₀ o₀ v k l o → v ≡ Fine → Indexed rows k l o
   indexed-of i e =
       let a : refusalOf rows ≡ none = sym (i .verdict) ∙ ap verdictOf e in
-      record { accepted = a; by-kind = i .tables a .kinds; linked = i .tables a .links; by-owner = i .tables a .owned }
+      let t = tables-of rows i a in
+      record { accepted = a; by-kind = t .kinds; linked = t .links; by-owner = t .owned }
 
   pub by-rows : {v : Verdict} {number place : ℕ} → verdictOf v ≡ refusalOf rows → v ≡ Refused number place
       → sheetRefusal rows ≡ some (record { number = number; place = place })

@@ -5,27 +5,22 @@ ghost use mathlib.Core.List.{_++_};
 ghost use mathlib.Core.Option.{none};
 ghost use lib.ListN.{length, take, drop};
 ghost use Rattle.calendar.specs.Clock.{clock};
-ghost use Rattle.findings.specs.Sink.{sink, emit};
+ghost use Rattle.findings.specs.inner.Sink.{sink, emit};
 ghost use Rattle.model.specs.Sheet.{sheet};
-ghost use Rattle.model.specs.Indexed.{Indexed};
-ghost use Rattle.pieces.specs.Held.{Held};
-ghost use Rattle.times.specs.Times.{Needs};
-ghost use Rattle.calendars.specs.Lacking.{Lacking};
-ghost use Rattle.checks.specs.CheckSchedule.{beforeCapacity, afterCapacity, findings};
-ghost use Rattle.shift.specs.Call.{Checked};
-ghost use Rattle.feasibility.specs.Table.{orFull, sheetRefusal, answered};
-use sheet::Verdict;
-
-// Accepted with the count of the findings, or refused with number and place.
-pub enum Answer {
-    Accepted(usize),
-    Refused(u64, usize),
-}
+ghost use Rattle.model.specs.inner.Indexed.{Indexed};
+ghost use Rattle.pieces.specs.inner.Held.{Held};
+ghost use Rattle.derived_times.specs.inner.Needs.{Needs};
+ghost use Rattle.check6_calendars.specs.inner.Lacking.{Lacking};
+ghost use Rattle.definition.specs.CheckSchedule.{beforeCapacity, afterCapacity, findings};
+ghost use Rattle.feasibility.specs.Refusals.{sheetRefusal};
+ghost use Rattle.feasibility.specs.Call.{Checked};
+use refusals::Answer;
+use refusals::Verdict;
 
 // Checks 1 to 4.
 fn check_before(
     rows: &[i64],
-    kinds: &[u16; 832],
+    kinds: &[u16; 3680],
     links: &[u16; 1600],
     owned: &[u16; 8810],
     held: &[u8; 800],
@@ -36,16 +31,16 @@ fn check_before(
     requires { ⌜ Indexed (now rows) (now kinds) (now links) (now owned) × Held (now rows) (now held) × Needs (now rows) (now need) ⌝ }
     ensures { λ r. ⌜ sink (now (out .exit)) r ≡ emit (sink (now (out .entry)) n) (beforeCapacity clock (sheet (now (rows .entry)))) ⌝ }
 {
-    let a = assignments::check_assignments(rows, kinds, links, owned, held, need, out, n);
-    let b = time_only::check_time_only(rows, kinds, links, owned, out, a);
-    let c = parts::check_parts(rows, kinds, links, owned, out, b);
-    requirements::check_requirements(rows, kinds, links, owned, held, out, c)
+    let a = check1_assignments::check_assignments(rows, kinds, links, owned, held, need, out, n);
+    let b = check2_time_only::check_time_only(rows, kinds, links, owned, out, a);
+    let c = check3_parts::check_parts(rows, kinds, links, owned, out, b);
+    check4_requirements::check_requirements(rows, kinds, links, owned, held, out, c)
 }
 
 // Checks 6 to 9.
 fn check_after(
     rows: &[i64],
-    kinds: &[u16; 832],
+    kinds: &[u16; 3680],
     links: &[u16; 1600],
     owned: &[u16; 8810],
     lacking: &[u8; 800],
@@ -55,16 +50,16 @@ fn check_after(
     requires { ⌜ Indexed (now rows) (now kinds) (now links) (now owned) × Lacking (now rows) (now lacking) ⌝ }
     ensures { λ r. ⌜ sink (now (out .exit)) r ≡ emit (sink (now (out .entry)) n) (afterCapacity clock (sheet (now (rows .entry)))) ⌝ }
 {
-    let a = calendars::check_calendars(rows, kinds, links, owned, lacking, out, n);
-    let b = precedence::check_precedence(rows, kinds, links, owned, out, a);
-    let c = deadlines::check_deadlines(rows, kinds, out, b);
-    constraints::check_constraints(rows, kinds, out, c)
+    let a = check6_calendars::check_calendars(rows, kinds, links, owned, lacking, out, n);
+    let b = check7_precedence::check_precedence(rows, kinds, links, owned, out, a);
+    let c = check8_deadlines::check_deadlines(rows, kinds, out, b);
+    check9_constraints::check_constraints(rows, kinds, out, c)
 }
 
 // The nine checks.
 fn check_all(
     rows: &[i64],
-    kinds: &[u16; 832],
+    kinds: &[u16; 3680],
     links: &[u16; 1600],
     owned: &[u16; 8810],
     held: &[u8; 800],
@@ -76,29 +71,15 @@ fn check_all(
     ensures { λ r. ⌜ sink (now (out .exit)) r ≡ emit (sink (now (out .entry)) 0) (findings (now (rows .entry))) ⌝ }
 {
     let a = check_before(rows, kinds, links, owned, held, need, out, 0);
-    let b = capacity::check_capacity(rows, kinds, links, owned, out, a);
+    let b = check5_capacity::check_capacity(rows, kinds, links, owned, out, a);
     check_after(rows, kinds, links, owned, lacking, out, b)
-}
-
-// The first k findings of `from` over those of out; what lies after them is unchanged.
-fn copy_findings(from: &[i64], out: &mut [i64], k: usize)
-    requires { ⌜ (4 * k ≤ length (now from)) × (4 * k ≤ length (now out)) ⌝ }
-    ensures { λ _. ⌜ now (out .exit) ≡ take (4 * k) (now (from .entry)) ++ drop (4 * k) (now (out .entry)) ⌝ }
-{
-    let end = 4 * k;
-    let mut i = 0;
-    while i < end {
-        let x = from[i];
-        out[i] = x;
-        i += 1;
-    }
 }
 
 // The findings of an accepted sheet, where the buffer holds them. The checks run once, into a buffer of their own, so that nothing is written before
 // the count is known; findings that it doesn't hold are written by running the checks again.
 fn write_findings(
     rows: &[i64],
-    kinds: &[u16; 832],
+    kinds: &[u16; 3680],
     links: &[u16; 1600],
     owned: &[u16; 8810],
     held: &[u8; 800],
@@ -106,16 +87,17 @@ fn write_findings(
     out: &mut [i64],
 ) -> Answer
     requires { ⌜ Indexed (now rows) (now kinds) (now links) (now owned) × Held (now rows) (now held) × Needs (now rows) (now need) × (sheetRefusal (now rows) ≡ none) ⌝ }
-    ensures { λ r. ⌜ Checked (orFull sheetRefusal) (now (rows .entry)) (now (out .entry)) (answered r) (now (out .exit)) ⌝ }
+    ensures { λ r. ⌜ Checked (now (rows .entry)) (now (out .entry)) r (now (out .exit)) ⌝ }
 {
-    let lacking = calendars::lacking_of(rows, kinds, links, owned, need);
-    let mut first = [0i64; 4096];
+    let lacking = check6_calendars::lacking_of(rows, kinds, links, owned, need);
+    let mut first = [0i64; 1024];
     let count = check_all(rows, kinds, links, owned, held, need, &lacking, &mut first);
     if count > out.len() / 4 {
-        return Answer::Refused(7, 0);
+        return Answer::Refused(refusals::FULL, 0);
     }
-    if count <= 1024 {
-        copy_findings(&first, out, count);
+    if count <= 256 {
+        let end = 4 * count;
+        line_buffer::store(out, 0, &first[..end]);
         return Answer::Accepted(count);
     }
     let n = check_all(rows, kinds, links, owned, held, need, &lacking, out);
@@ -125,17 +107,17 @@ fn write_findings(
 // Refusal 6, then the findings.
 fn check_times(
     rows: &[i64],
-    kinds: &[u16; 832],
+    kinds: &[u16; 3680],
     links: &[u16; 1600],
     owned: &[u16; 8810],
     out: &mut [i64],
 ) -> Answer
     requires { ⌜ Indexed (now rows) (now kinds) (now links) (now owned) ⌝ }
-    ensures { λ r. ⌜ Checked (orFull sheetRefusal) (now (rows .entry)) (now (out .entry)) (answered r) (now (out .exit)) ⌝ }
+    ensures { λ r. ⌜ Checked (now (rows .entry)) (now (out .entry)) r (now (out .exit)) ⌝ }
 {
     let held = pieces::held_of(rows, links, owned);
-    let need = times::needs_of(rows, links, owned, &held);
-    let verdict = times::refused(rows, &need);
+    let need = derived_times::needs_of(rows, links, owned, &held);
+    let verdict = derived_times::refused(rows, &need);
     match verdict {
         Verdict::Fine => write_findings(rows, kinds, links, owned, &held, &need, out),
         Verdict::Refused(number, place) => Answer::Refused(number, place),
@@ -144,13 +126,12 @@ fn check_times(
 
 // Checks a sheet: any rows, any buffer.
 pub fn check_schedule(rows: &[i64], out: &mut [i64]) -> Answer
-    ensures { λ r. ⌜ Checked (orFull sheetRefusal) (now (rows .entry)) (now (out .entry)) (answered r) (now (out .exit)) ⌝ }
+    ensures { λ r. ⌜ Checked (now (rows .entry)) (now (out .entry)) r (now (out .exit)) ⌝ }
 {
-    let index = refusals::index(rows);
-    let verdict = index.verdict;
-    let kinds = index.kinds;
-    let links = index.links;
-    let owned = index.owned;
+    let mut kinds = [0u16; 3680];
+    let mut links = [0u16; 1600];
+    let mut owned = [0u16; 8810];
+    let verdict = validation::index(rows, &mut kinds, &mut links, &mut owned);
     match verdict {
         Verdict::Fine => check_times(rows, &kinds, &links, &owned, out),
         Verdict::Refused(number, place) => Answer::Refused(number, place),

@@ -1,27 +1,32 @@
 -- Loops that report: what a loop over all places, or over a chain, has written. Assumes nothing.
-use Prim.Native.Nat.{ℕ, suc, _+_, _<_, _≤_}
-use mathlib.Core.Path.{_≡_, sym, ap, _∙_}
-use mathlib.Core.Bool.{Bool, true, false}
-use mathlib.Core.List.{List, [], _++_}
+use Prim.Native.Nat.{ℕ, suc, _≤_}
+use mathlib.Core.Path.{_≡_}
+use mathlib.Core.Bool.{Bool}
+use mathlib.Core.List.{List}
 use borrow.Author.Needs.{needs}
 use Rattle.loops.specs.Range.{collect}
-use Rattle.loops.specs.Chain.{First, Stands, Silent}
+use Rattle.loops.specs.inner.Chain.{First, Stands, Silent}
 use Rattle.loops.proofs.RangeLaws.{fold-start, fold-again, fold-done}
-use Rattle.loops.proofs.Walks.{collect-first, collect-next, stands-end, fold-first, fold-next, fold-end, quiet-only, silent-only}
+use Rattle.loops.proofs.Walks.{fold-first, fold-next, fold-end, quiet-only, silent-only}
 use Rattle.findings.specs.declared.Violation.{Violation}
-use Rattle.findings.specs.Sink.{Sink, emit}
-use Rattle.findings.proofs.SinkLaws.{emit-none, emit-then, loop-start, loop-turn, loop-end, kept}
+use Rattle.line_buffer.proofs.Reporting.{chain-first, chain-next, chain-end}
+use Rattle.findings.specs.Findings.{four}
+use Rattle.findings.specs.inner.Sink.{Sink, emit}
+use Rattle.findings.proofs.SinkLaws.{emit-then, loop-start, loop-turn, loop-end, kept}
 
 module _ (f : ℕ → List Violation) where
   pub emit-first : {p : ℕ → Bool} {n i : ℕ} (s : Sink) → First p 0 n i → Silent p f → s ≡ emit s (collect f i)
-  emit-first s a q = sym (emit-none s) ∙ ap (emit s) (sym (collect-first f a q))
+  unfolding emit
+  emit-first s a q = chain-first 4 four f s a q
 
   pub emit-next : {p : ℕ → Bool} {n j i : ℕ} (s₀ : Sink) {s s′ : Sink} → First p (suc i) n j → Silent p f
       → s ≡ emit s₀ (collect f i) → s′ ≡ emit s (f i) → s′ ≡ emit s₀ (collect f j)
-  emit-next {i = i} s₀ x q r t = emit-then (collect f i) (f i) s₀ r t ∙ ap (emit s₀) (sym (collect-next f x q))
+  unfolding emit
+  emit-next s₀ x q r t = chain-next 4 four f s₀ x q r t
 
   pub emit-end : {p : ℕ → Bool} (n N i : ℕ) (s₀ : Sink) {s : Sink} → N ≤ i → N ≡ n → Stands p n i → s ≡ emit s₀ (collect f i) → s ≡ emit s₀ (collect f n)
-  emit-end n N i s₀ l z a r = r ∙ ap (λ k. emit s₀ (collect f k)) (stands-end a l z)
+  unfolding emit
+  emit-end n N i s₀ l z a r = chain-end 4 four f n N i s₀ l z a r
 
 -- a loop over all places, a sequence of reports
 pub ruleset reports = (needs, fold-start, fold-again, fold-done, loop-start, loop-turn, loop-end, kept, emit-then)

@@ -1,8 +1,8 @@
-// Findings: the violations that the checks report, and the lent buffer that they are written to.
+// Findings: the violations that the checks report, written to a lent buffer as lines of four numbers.
 ghost use mathlib.Core.Path.{_≡_};
 ghost use Prim.Native.Nat.{ℕ, _<_};
 ghost use Rattle.loops.specs.Lists.{given};
-ghost use Rattle.findings.specs.Sink.{sink, put1, emit};
+ghost use Rattle.findings.specs.inner.Sink.{sink, put1, emit};
 
 // A violation: the check that reports it, its type, the entity that it is of, and its severity.
 pub struct Violation {
@@ -13,23 +13,17 @@ pub struct Violation {
 }
 
 // One finding more: written where the buffer holds it, and counted in any case.
-pub fn put(out: &mut [i64], n: usize, f: Violation) -> usize
+fn put(out: &mut [i64], n: usize, f: Violation) -> usize
     requires { ⌜ f .entity < 9223372036854775808 ⌝ }
     ensures { λ r. ⌜ sink (now (out .exit)) r ≡ put1 (sink (now (out .entry)) n) f ⌝ }
 {
-    if n < out.len() / 4 {
-        let at = n * 4;
-        let check = f.check as i64;
-        let kind = f.kind as i64;
-        let entity = f.entity as i64;
-        let severity = f.severity as i64;
-        out[at] = check;
-        out[at + 1] = kind;
-        out[at + 2] = entity;
-        out[at + 3] = severity;
-        return n + 1;
-    }
-    if n < 1152921504606846976 { n + 1 } else { n }
+    let line = [
+        f.check as i64,
+        f.kind as i64,
+        f.entity as i64,
+        f.severity as i64,
+    ];
+    line_buffer::put(out, n, &line)
 }
 
 // The finding where the test holds, else nothing.

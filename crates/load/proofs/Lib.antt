@@ -1,1 +1,5 @@
+pub mod Caps
+pub mod Firsts
+pub mod Gathering
 pub mod Loads
+pub mod Usages

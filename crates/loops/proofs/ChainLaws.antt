@@ -1,19 +1,17 @@
 -- Laws of chains: how they are filled, and how a loop over a chain passes over the other rows. Assumes nothing.
-use Prim.Native.Nat.{ℕ, zero, suc, _+_, _-_, _<_, _≤_}
+use Prim.Native.Nat.{ℕ, suc, _+_, _-_, _<_, _≤_}
 use mir.Syntax.{w64}
 use mir.Val.{Fits}
 use mathlib.Core.Path.{_≡_, refl, sym, ap, _∙_}
-use mathlib.Core.Logic.{⊎-elim}
 use mathlib.Core.Bool.{Bool, true, false}
 use mathlib.Core.List.{List}
 use native.Mathlib.Omega.{arith}
 use native.Mathlib.Numerals.{add-one}
 use native.Mathlib.Decide.{ℕ-discrete}
-use lib.ListN.{length, getD, set, replicate, getD-replicate, length-set, length-replicate}
+use lib.ListN.{getD, set, replicate, getD-replicate, length-set, length-replicate}
 use lib.Seq.{getD-set-same, getD-set-other}
-use lib.Dec.{eqb}
 use borrow.Author.Tests.{eq-eqb, ne-eqb, eqb-true}
-use Rattle.loops.specs.Chain.{same, First, Links, Stands}
+use Rattle.loops.specs.inner.Chain.{same, First, Links}
 
 -- ---- the fill
 module _ (key : ℕ → ℕ) (m n : ℕ) where
@@ -27,6 +25,7 @@ module _ (key : ℕ → ℕ) (m n : ℕ) where
       here = λ a. absurd (omega arith);
     });
     next = λ j a b. absurd (omega arith);
+    past = λ j a b. getD-replicate {A = ℕ} (800 + m) j n 0 (omega arith);
   }
 
   sooner : (p : ℕ → Bool) (i j : ℕ) → p i ≡ false → First p (i + 1) n j → First p i n j
@@ -48,6 +47,7 @@ module _ (key : ℕ → ℕ) (m n : ℕ) where
     size = length-set (set t i (getD t (800 + key i) 0)) (800 + key i) i ∙ length-set t i (getD t (800 + key i) 0) ∙ h .size;
     head = λ k q. heads k q (ℕ-discrete k (key i));
     next = λ j a q. nexts j a q (ℕ-discrete j i);
+    past = λ j a q. kept-at j (λ z. omega arith) (λ z. omega arith) ∙ h .past j a q;
   }
     where
       v : ℕ

@@ -4,10 +4,9 @@ use Prim.Native.Nat.{ℕ, zero, suc, _+_}
 use mathlib.Core.Path.{_≡_, refl, ap, ap₂, sym, _∙_}
 use mathlib.Core.Bool.{Bool, true, false, cond, _&&_, _||_}
 use mathlib.Core.List.{List, [], _∷_, _++_, map, foldl, foldl-append, append-assoc, append-nil}
-use mathlib.Core.Option.{Option, none, some}
+use mathlib.Core.Option.{none, some}
 use native.Mathlib.Omega.{arith}
-use native.Mathlib.Nat.{add-assoc}
-use Rattle.loops.specs.Lists.{given, keep, anyOf, allOf, countOf, head, last, each, isEmpty}
+use Rattle.loops.specs.Lists.{given, keep, anyOf, allOf, countOf, head, last, each}
 use Rattle.loops.specs.Range.{fold, collect}
 use Rattle.loops.specs.Search.{orElse, first, anyBelow}
 

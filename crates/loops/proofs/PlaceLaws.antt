@@ -1,16 +1,15 @@
 -- What a search that found a place says of it, what one that found none says of every place, and searches that agree. Counts along a chain.
 -- Assumes nothing.
-use Prim.Native.Nat.{ℕ, zero, suc, _+_, _<_, _≤_}
+use Prim.Native.Nat.{ℕ, zero, suc, _+_, _-_, _<_, _≤_}
 use mathlib.Core.Path.{_≡_, refl, ap, ap₂, sym, _∙_}
-use mathlib.Core.Bool.{Bool, true, false, cond, _&&_, _||_, or-assoc, or-comm, true≢false}
+use mathlib.Core.Bool.{Bool, true, false, cond, _||_, true≢false}
 use mathlib.Core.Option.{Option, none, some}
 use mathlib.Core.Logic.{_⊎_, inl, inr, ⊎-elim}
 use native.Mathlib.Omega.{arith}
-use native.Mathlib.Decide.{ℕ-discrete, decLt}
 use native.Mathlib.Numerals.{add-one}
-use native.Mathlib.Nat.{eq-or-lt-of-le, le-of-suc-le-suc, not-suc-le-zero}
+use native.Mathlib.Nat.{add-zero, add-suc, eq-or-lt-of-le, le-of-suc-le-suc, not-suc-le-zero}
 use Rattle.loops.specs.Search.{orElse, someIf, first, firstPlace, anyBelow, countBelow}
-use Rattle.loops.specs.Chain.{First, Stands, Blind}
+use Rattle.loops.specs.inner.Chain.{First, Blind}
 use Rattle.loops.proofs.SearchLaws.{any-none, count-zero, count-again}
 use Rattle.loops.proofs.Walks.{over}
 
@@ -71,6 +70,38 @@ module _ (p : ℕ → Bool) where
   unfolding anyBelow
   any-less n zero e l = refl
   any-less n (suc k) e l = rw (any-less n k e (omega arith), any-none p n k e (omega arith))
+
+-- ---- before the place that was found
+
+module _ (p : ℕ → Bool) where
+  found-on : (j m d : ℕ) → firstPlace p j ≡ some m → firstPlace p (j + d) ≡ some m
+  unfolding firstPlace
+  found-on j m zero f = rw (add-zero j) f
+  found-on j m (suc d) f = rw (add-suc j d, found-on j m d f)
+
+  pub none-before : (n j : ℕ) → firstPlace p n ≡ some j → (i : ℕ) → i < j → p i ≡ false
+  none-before n j e i l = go (firstPlace p j) refl
+    where
+      some-is : {j k : ℕ} → _≡_ {A = Option ℕ} (some j) (some k) → j ≡ k
+      some-is e = cc
+
+      go : (x : Option ℕ) → firstPlace p j ≡ x → p i ≡ false
+      go none f = place-none p j f i l
+      go (some m) f =
+          let h = found-at p n j e in
+          let g = found-at p j m f in
+          let s : j + (n - j) ≡ n = omega (arith, h .0) in
+          let z : j ≡ m = some-is (sym e ∙ sym (ap (firstPlace p) s) ∙ found-on j m (n - j) f) in
+          absurd (omega (arith, g .0))
+
+  -- as a place of a chain
+  pub first-at : {n j : ℕ} → some j ≡ firstPlace p n → First p 0 n j
+  first-at {n} {j} e =
+      let f = found-at p n j (sym e) in
+      record { low = omega arith; high = omega (arith, f .0); none = λ k a l. none-before n j (sym e) k l; here = λ l. f .1 }
+
+  pub first-end : {n : ℕ} → none ≡ firstPlace p n → First p 0 n n
+  first-end {n} e = record { low = omega arith; high = omega arith; none = λ k a l. place-none p n (sym e) k l; here = λ l. absurd (omega arith) }
 
 -- ---- searches that agree
 

@@ -1,7 +1,7 @@
 -- Laws of `fold` and `collect`, as a loop that counts up goes through them: its start, its turn, its end. Assumes nothing.
 use Prim.Native.Nat.{ℕ, zero, suc, _+_, _*_, _≤_, _<_}
 use mathlib.Core.Path.{_≡_, refl, ap, ap₂, sym, _∙_}
-use mathlib.Core.List.{List, [], _++_}
+use mathlib.Core.List.{List, [], _++_, append-nil, append-assoc}
 use native.Mathlib.Numerals.{add-one}
 use native.Mathlib.Nat.{le-antisymm}
 use native.Mathlib.Omega.{arith}
@@ -33,6 +33,12 @@ module _ {A : Type 0} (f : ℕ → List A) where
   pub collect-step : (i : ℕ) → collect f (i + 1) ≡ collect f i ++ f i
   unfolding collect
   collect-step i = rw add-one
+
+  -- from its first place on
+  pub collect-front : (n : ℕ) → collect f (suc n) ≡ f 0 ++ collect (λ k. f (suc k)) n
+  unfolding collect
+  collect-front zero = sym (append-nil (f 0))
+  collect-front (suc n) = ap (λ l. l ++ f (suc n)) (collect-front n) ∙ append-assoc (f 0) (collect (λ k. f (suc k)) n) (f (suc n))
 
   pub collect-done : (i n N : ℕ) → i ≤ n → n ≤ i → n ≡ N → collect f i ≡ collect f N
   collect-done i n N h k q = ap (collect f) (le-antisymm h k ∙ q)

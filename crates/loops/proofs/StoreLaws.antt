@@ -1,12 +1,12 @@
--- Stores one after the other: `sets l i vs` puts vs in l from place i on, as far as l goes. Assumes nothing.
+-- Stores one after the other: `sets l i vs` puts vs in l from place i on, as far as l goes; a table that a loop fills row by row. Assumes nothing.
 use Prim.Native.Nat.{ℕ, zero, suc, _+_, _≤_, _<_, min}
 use mathlib.Core.List.{List, [], _∷_, _++_}
-use mathlib.Core.Path.{_≡_, refl, sym, ap, _∙_}
+use mathlib.Core.Path.{_≡_, refl, sym, _∙_}
 use native.Mathlib.Omega.{arith}
 use native.Mathlib.Nat.{add-zero}
-use native.Mathlib.Decide.{decLt}
-use lib.ListN.{length, set}
-use lib.Seq.{sets, set-out}
+use native.Mathlib.Decide.{ℕ-discrete, decLt}
+use lib.ListN.{length, getD, set, replicate, length-set, length-replicate}
+use lib.Seq.{sets, set-out, getD-set-same, getD-set-other}
 
 module _ {A : Type 0} where
   -- two runs of stores are one
@@ -26,3 +26,32 @@ module _ {A : Type 0} where
       go : Dec (i < length l) → sets l (min i (length l)) vs ≡ sets l i vs
       go (yes h) = let e : min i (length l) ≡ i = omega arith in rw e
       go (no h) = let e : min i (length l) ≡ length l = omega arith in rw e (sets-out l (length l) vs (omega arith) ∙ sym (sets-out l i vs (omega arith)))
+
+-- ---- a table with a number for each row
+
+-- what stands in the rows below k of a table of 800 places; the others are 0 still
+pub record Filled (f : ℕ → ℕ) (k : ℕ) (t : List ℕ) : Type 0 where
+  pub size : length t ≡ 800
+  pub at : (j : ℕ) → j < k → getD t j 0 ≡ f j
+  pub rest : (j : ℕ) → k ≤ j → getD t j 0 ≡ 0
+
+zeros : (n j : ℕ) → _≡_ {A = ℕ} (getD (replicate n 0) j 0) 0
+zeros zero j = refl
+zeros (suc n) zero = refl
+zeros (suc n) (suc j) = zeros n j
+
+pub filled-start : (f : ℕ → ℕ) → Filled f 0 (replicate 800 0)
+filled-start f = record { size = length-replicate {A = ℕ} 800 0; at = λ j l. absurd (omega arith); rest = λ j l. zeros 800 j }
+
+pub filled-turn : (f : ℕ → ℕ) (k v : ℕ) (t t′ : List ℕ) → k < 800 → v ≡ f k → t′ ≡ set t k v → Filled f k t → Filled f (k + 1) t′
+filled-turn f k v t t′ l e q h =
+    rw q
+    (record {
+      size = length-set t k v ∙ h .size;
+      at = λ j b. go j b (ℕ-discrete j k);
+      rest = λ j b. getD-set-other t k j v 0 (λ z. omega arith) ∙ h .rest j (omega arith);
+    })
+  where
+    go : (j : ℕ) → j < k + 1 → Dec (j ≡ k) → getD (set t k v) j 0 ≡ f j
+    go j b (yes z) = rw z (getD-set-same t k v 0 (omega (arith, h .size)) ∙ e)
+    go j b (no z) = getD-set-other t k j v 0 z ∙ h .at j (omega arith)

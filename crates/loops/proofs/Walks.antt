@@ -1,18 +1,18 @@
 -- A loop over a chain, `let mut i = first(..); while i < n { .. i = next(.., i); }`, comes to what a loop over all places comes to, where the step does
 -- nothing at the places of another key. Invariant: `Stands p n i`, and what a loop over all places would say of place i. Assumes nothing.
 use Prim.Native.Nat.{ℕ, zero, suc, _+_, _-_, _<_, _≤_}
-use mathlib.Core.Path.{_≡_, refl, sym, ap, _∙_}
+use mathlib.Core.Path.{_≡_, sym, ap, _∙_}
 use mathlib.Core.Bool.{Bool, true, false}
 use mathlib.Core.List.{List, [], _++_, append-nil}
 use mathlib.Core.Option.{Option, none, some}
 use native.Mathlib.Omega.{arith}
 use native.Mathlib.Numerals.{add-one}
-use native.Mathlib.Nat.{add-zero, add-suc}
+use native.Mathlib.Nat.{add-zero}
 use Rattle.loops.specs.Range.{fold, collect}
 use Rattle.loops.specs.Search.{first, firstPlace, anyBelow}
-use Rattle.loops.specs.Chain.{same, First, Stands, Quiet, Silent, Blind, onlyAt, only}
+use Rattle.loops.specs.inner.Chain.{First, Stands, Quiet, Silent, Blind, onlyAt, only}
 use Rattle.loops.proofs.RangeLaws.{fold-zero, fold-again, collect-zero, collect-step}
-use Rattle.loops.proofs.SearchLaws.{first-zero, first-miss, place-zero, place-miss, place-hit, any-zero, any-miss, any-hit}
+use Rattle.loops.proofs.SearchLaws.{first-zero, first-miss, place-zero, place-miss, place-hit, any-zero, any-miss}
 
 -- what a place where p fails hands on to the next place is handed on to the next place where p holds
 pub over : (R : ℕ → Type 0) (p : ℕ → Bool) (i n j : ℕ) → ((k : ℕ) → p k ≡ false → R k → R (k + 1)) → First p i n j → R i → R j
@@ -61,6 +61,9 @@ module _ {A : Type 0} (f : ℕ → List A) where
   collect-next {p} {n} {j} {i} s q = over (λ k. collect f k ≡ collect f i ++ f i) _ (suc i) _ _ (λ k z r. collect-still q k z ∙ r) s (rw add-one at (collect-step f i))
 
 -- ---- a search
+
+pub itself : (p : ℕ → Bool) → Blind p p
+itself p = record { still = λ k e. e }
 
 module _ (q : ℕ → Bool) where
   pub seek-first : {p : ℕ → Bool} {n i : ℕ} → First p 0 n i → Blind p q → firstPlace q i ≡ none

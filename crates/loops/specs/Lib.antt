@@ -1,6 +1,7 @@
-pub mod Chain
 pub mod Lists
 pub mod Numbers
 pub mod Ordered
 pub mod Range
 pub mod Search
+pub mod Sums
+pub mod inner

@@ -1,30 +1,34 @@
 -- What a sheet has that refusals 1 to 5 do not refuse: at most 800 rows, each number in the class of its column, every owner, no id twice. Assumes nothing.
-use Prim.Native.Nat.{ℕ, zero, suc, _+_, _*_, _/_, _%_, _<_, _≤_}
+use Prim.Native.Nat.{ℕ, zero, suc, _+_, _*_, _%_, _<_, _≤_}
 use mathlib.Core.Path.{_≡_, refl, ap, sym, _∙_}
-use mathlib.Core.Bool.{Bool, true, false, not, _&&_, _||_, true≢false}
+use mathlib.Core.Bool.{Bool, true, false, not, _||_, true≢false}
 use mathlib.Core.List.{List}
 use mathlib.Core.Option.{Option, none, some}
 use native.Mathlib.Omega.{arith}
 use native.Mathlib.Decide.{decLt}
-use borrow.Author.Tests.{ltb-false, not-false, ne-eqb, eqb-true, eq-eqb, leb-true}
+use borrow.Author.Tests.{ltb-false, not-false, eqb-true, eq-eqb, leb-true}
 use lib.IntN.{ℤ, pos, negsuc}
 use lib.Signed.{leZ}
-use lib.Dec.{eqb, ltb, leb}
+use lib.Dec.{eqb, ltb}
 use lib.ListN.{length}
 use Rattle.loops.specs.Numbers.{toNat}
-use Rattle.loops.specs.Search.{orElse, first, firstPlace, anyBelow}
+use Rattle.loops.specs.Search.{orElse, first, anyBelow}
+use Rattle.loops.proofs.BoolLaws.{and-left, and-right}
 use Rattle.loops.proofs.SearchLaws.{any-none}
 use Rattle.loops.proofs.PlaceLaws.{or-none-left, or-none-right, first-none, if-none, place-only}
 use Rattle.rows.specs.Cells.{rowCount, cell, num, is}
 use Rattle.rows.specs.Class.{Class, blank-c}
 use Rattle.rows.specs.Table.{classOf}
-use Rattle.rows.specs.Ranges.{within, isNone, inRange, orNone, inClass, low, high}
+use Rattle.rows.specs.Ranges.{range, between, isNone, inRange, inClass}
 use Rattle.rows.proofs.Signs.{cell-past, cell-wide}
 use Rattle.rows.proofs.Tables.{class-wide}
 use Rattle.sheet.specs.Places.{named, placeOf}
-use Rattle.sheet.specs.Refusals.{Refusal, refuse, misshapen, knownKind, badCell, halfPart, outOfRange, absentAt, lacks, unowned, group, paired, sameAt, again, repeated, columnFault, ownerFault, repeatFault, refusalOf}
-use Rattle.sheet.specs.Accepted.{Accepted}
-use Rattle.sheet.proofs.Lookups.{and-left, and-right, is-num}
+use Rattle.refusals.specs.Refusals.{Refusal, refuse}
+use Rattle.sheet.specs.Refusals.{misshapen, knownKind, badCell, halfPart, outOfRange, absentAt, lacks, unowned, repeats, repeated, columnFault, ownerFault, repeatFault, refusalOf}
+use Rattle.sheet.specs.inner.Groups.{once}
+use Rattle.sheet.specs.inner.Accepted.{Accepted}
+use Rattle.sheet.proofs.Groups.{once-repeats}
+use Rattle.sheet.proofs.Lookups.{is-num}
 
 or-false-left : (a b : Bool) → (a || b) ≡ false → a ≡ false
 or-false-left true b e = e
@@ -58,12 +62,12 @@ passed rows h =
 
 -- past the last row all is 0
 blank-zero : (c : ℕ) → inClass (classOf 0 c) (pos 0) ≡ true
-unfolding inClass inRange within
+unfolding inClass inRange between
 blank-zero zero = refl
 blank-zero (suc c) = refl
 
 blank-wide : inClass blank-c (pos 0) ≡ true
-unfolding inClass inRange within
+unfolding inClass inRange between
 blank-wide = refl
 
 module _ (rows : List ℤ) (p : Passed rows) where
@@ -115,9 +119,9 @@ module _ (rows : List ℤ) (p : Passed rows) where
       go (yes l) = owned-in k c h l
       go (no l) = unfold absentAt in wide (classOf (num rows k 0) c) (class-wide (num rows k 0) c (omega arith))
 
-  never-again : (k j : ℕ) → k < rowCount rows → j < k → (group (num rows k 0) ≡ 0 → ⊥) → again rows k j ≡ false
+  never-again : (k j : ℕ) → k < rowCount rows → j < k → repeats rows k j ≡ false
   unfolding repeatFault repeated
-  never-again k j h l g = any-none (again rows k) k j (rw (ne-eqb _ 0 g) at (if-none (repeated rows k) _ (p .repeats k h))) l
+  never-again k j h l = any-none (repeats rows k) k j (if-none (repeated rows k) _ (p .repeats k h)) l
 
 pub accepted : (rows : List ℤ) → refusalOf rows ≡ none → Accepted rows
 accepted rows e =
@@ -152,17 +156,17 @@ below-high (negsuc n) (pos m) e = omega arith
 below-high (negsuc n) (negsuc m) e = omega arith
 
 none-nat : (x : ℤ) → isNone x ≡ true → toNat x ≡ 0
-unfolding isNone within
+unfolding isNone between
 none-nat (pos n) e = absurd (true≢false (sym e))
 none-nat (negsuc n) e = refl
 
-top-of : (cl : Class) (x : ℤ) → inClass cl x ≡ true → toNat x ≤ toNat (high cl)
-unfolding inClass inRange within
+top-of : (cl : Class) (x : ℤ) → inClass cl x ≡ true → toNat x ≤ toNat (range cl .greatest)
+unfolding inClass inRange between
 top-of cl x e = go (inRange cl x) refl
   where
-    go : (b : Bool) → inRange cl x ≡ b → toNat x ≤ toNat (high cl)
-    go true q = below-high x (high cl) (and-right (leZ (low cl) x) (leZ x (high cl)) q)
-    go false q = omega (arith, none-nat x (and-right (orNone cl) (isNone x) (rw q at e)))
+    go : (b : Bool) → inRange cl x ≡ b → toNat x ≤ toNat (range cl .greatest)
+    go true q = below-high x (range cl .greatest) (and-right (leZ (range cl .least) x) (leZ x (range cl .greatest)) q)
+    go false q = omega (arith, none-nat x (and-right (range cl .none?) (isNone x) (rw q at e)))
 
 module _ (rows : List ℤ) (a : Accepted rows) where
   -- at a literal kind and column the class computes
@@ -170,7 +174,7 @@ module _ (rows : List ℤ) (a : Accepted rows) where
   in-class k kind c e = rw (is-num rows k 0 kind e) at (a .columns k c)
 
   -- and so does the bound: none counts as 0
-  pub at-most : (k kind c : ℕ) → is rows k 0 kind ≡ true → num rows k c ≤ toNat (high (classOf kind c))
+  pub at-most : (k kind c : ℕ) → is rows k 0 kind ≡ true → num rows k c ≤ toNat (range (classOf kind c) .greatest)
   at-most k kind c e = top-of (classOf kind c) (cell rows k c) (in-class k kind c e)
 
   -- the owner that a column names is there
@@ -179,30 +183,22 @@ module _ (rows : List ℤ) (a : Accepted rows) where
   has-owner k kind c h e = rw (is-num rows k 0 kind e) at (a .owners k c h)
 
   -- an id stands once: rows of one kind, that may not repeat, with the same first column are one row
-  later : (k j kind : ℕ) → k < rowCount rows → j < k → (group kind ≡ 0 → ⊥) → paired (group kind) ≡ false → is rows k 0 kind ≡ true → is rows j 0 kind ≡ true
-      → is rows j 1 (num rows k 1) ≡ true → ⊥
-  unfolding again sameAt
-  later k j kind h l g p ek ej s =
-      true≢false
-      (rw (is-num rows k 0 kind ek, is-num rows j 0 kind ej, eq-eqb (group kind) (group kind) refl, s, p) at
-      (a .once k j h l (λ z. g (ap group (sym (is-num rows k 0 kind ek)) ∙ z))))
+  later : (k j kind : ℕ) → k < rowCount rows → j < k → once kind ≡ true → is rows k 0 kind ≡ true → is rows j 0 kind ≡ true → eqb (num rows j 1) (num rows k 1) ≡ true → ⊥
+  later k j kind h l o ek ej s = true≢false (sym (once-repeats rows k j kind o (is-num rows k 0 kind ek) (is-num rows j 0 kind ej) s) ∙ a .once k j h l)
 
-  pub one-row : (k j kind : ℕ) → k < rowCount rows → j < rowCount rows → (group kind ≡ 0 → ⊥) → paired (group kind) ≡ false → is rows k 0 kind ≡ true
-      → is rows j 0 kind ≡ true → num rows k 1 ≡ num rows j 1 → k ≡ j
-  unfolding is
-  one-row k j kind h l g p ek ej s = go (decLt j k) (decLt k j)
+  pub one-row : (k j kind : ℕ) → k < rowCount rows → j < rowCount rows → once kind ≡ true → is rows k 0 kind ≡ true → is rows j 0 kind ≡ true → num rows k 1 ≡ num rows j 1 → k ≡ j
+  one-row k j kind h l o ek ej s = go (decLt j k) (decLt k j)
     where
       go : Dec (j < k) → Dec (k < j) → k ≡ j
-      go (yes m) y = absurd (later k j kind h m g p ek ej (eq-eqb (num rows j 1) (num rows k 1) (sym s)))
-      go (no m) (yes n) = absurd (later j k kind l n g p ej ek (eq-eqb (num rows k 1) (num rows j 1) s))
+      go (yes m) y = absurd (later k j kind h m o ek ej (eq-eqb (num rows j 1) (num rows k 1) (sym s)))
+      go (no m) (yes n) = absurd (later j k kind l n o ej ek (eq-eqb (num rows k 1) (num rows j 1) s))
       go (no m) (no n) = omega arith
 
   -- so the lookup of a row's id finds the row
-  pub found-again : (k kind : ℕ) → k < rowCount rows → (group kind ≡ 0 → ⊥) → paired (group kind) ≡ false → is rows k 0 kind ≡ true
-      → placeOf rows kind (num rows k 1) ≡ some k
+  pub found-again : (k kind : ℕ) → k < rowCount rows → once kind ≡ true → is rows k 0 kind ≡ true → placeOf rows kind (num rows k 1) ≡ some k
   unfolding placeOf named is
-  found-again k kind h g p e =
+  found-again k kind h o e =
       place-only (named rows kind (num rows k 1)) (rowCount rows) k h (rw (e, eq-eqb (num rows k 1) (num rows k 1) refl))
       (λ j l m. sym
-      (one-row k j kind h l g p e (and-left (is rows j 0 kind) (is rows j 1 (num rows k 1)) m)
+      (one-row k j kind h l o e (and-left (is rows j 0 kind) (is rows j 1 (num rows k 1)) m)
       (sym (eqb-true (num rows j 1) (num rows k 1) (and-right (is rows j 0 kind) (is rows j 1 (num rows k 1)) m)))))

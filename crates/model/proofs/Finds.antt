@@ -13,13 +13,13 @@ use Rattle.loops.specs.Search.{orElse, someIf, first, firstPlace}
 use Rattle.loops.proofs.ListLaws.{keep-collect, head-collect}
 use Rattle.rows.specs.Cells.{rowCount, num, is}
 use Rattle.sheet.specs.Places.{named, placeOf}
-use Rattle.sheet.specs.Index.{ownerKind, ownerOf, ownerPlace, orEnd, ownPlace}
-use Rattle.sheet.proofs.Lookups.{Named, placed, is-num}
+use Rattle.sheet.specs.inner.Index.{ownerKind, ownerOf, ownerPlace, orEnd, ownPlace}
+use Rattle.sheet.proofs.Lookups.{placed, is-num}
 use Rattle.model.specs.Sheet.{sheet}
-use Rattle.model.specs.Task.{Task, taskAt, tasks, findTask}
-use Rattle.model.specs.Activity.{Activity, activityAt, activities, findActivity}
-use Rattle.model.specs.Resource.{Resource, resourceAt, resources, findResource}
-use Rattle.model.specs.Records.{taskOf, activityOf, resourceOf}
+use Rattle.model.specs.Task.{taskAt, tasks, findTask}
+use Rattle.model.specs.Activity.{activityAt, activities, findActivity}
+use Rattle.model.specs.Resource.{resourceAt, resources, findResource}
+use Rattle.model.specs.inner.Records.{taskOf, activityOf, resourceOf}
 use Rattle.model.proofs.RowLaws.{task-row, task-none, activity-row, activity-none, resource-row, resource-none}
 
 module _ {A : Type 0} where

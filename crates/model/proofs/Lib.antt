@@ -1,4 +1,5 @@
 pub mod Accepting
+pub mod ConstraintLaws
 pub mod OwnedLaws
 pub mod RowLaws
 pub mod Standing

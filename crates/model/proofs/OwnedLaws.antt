@@ -1,19 +1,18 @@
 -- The rows that belong to a row are those that name its id: to walk the owner's chain is to scan by id. Assumes nothing.
-use Prim.Native.Nat.{ℕ, suc, _<_, _≤_}
+use Prim.Native.Nat.{ℕ}
 use mathlib.Core.Path.{_≡_, refl, ap, sym, _∙_}
-use mathlib.Core.Bool.{Bool, true, false, _&&_, true≢false}
+use mathlib.Core.Bool.{Bool, true, false, _&&_}
 use mathlib.Core.List.{List}
 use mathlib.Core.Option.{Option, none, some}
 use native.Mathlib.Omega.{arith}
 use native.Mathlib.Decide.{ℕ-discrete}
-use borrow.Author.Tests.{eqb-true, eq-eqb, ne-eqb}
+use borrow.Author.Tests.{eq-eqb, ne-eqb}
 use lib.Dec.{eqb}
 use lib.IntN.{ℤ}
-use lib.ListN.{getD}
 use Rattle.rows.specs.Cells.{rowCount, num, is}
 use Rattle.sheet.specs.Places.{placeOf}
-use Rattle.sheet.specs.Index.{ownerKind, ownerOf, ownerPlace, orEnd, ownPlace, ownedBy, resPlace}
-use Rattle.sheet.proofs.Lookups.{and-left, and-right, is-num, num-is, Named, placed}
+use Rattle.sheet.specs.inner.Index.{ownerKind, ownerOf, ownerPlace, orEnd, ownPlace, ownedBy, resPlace}
+use Rattle.sheet.proofs.Lookups.{is-num, Named, placed}
 
 module _ (rows : List ℤ) where
   some-is : {j k : ℕ} → _≡_ {A = Option ℕ} (some j) (some k) → j ≡ k

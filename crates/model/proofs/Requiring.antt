@@ -1,7 +1,7 @@
 -- Requirements and their candidates by rows: the rows that belong to a requirement are those that name its activity and its place. Assumes nothing.
-use Prim.Native.Nat.{ℕ, zero, suc, _+_, _<_, _≤_}
+use Prim.Native.Nat.{ℕ, zero, suc, _+_, _<_}
 use mathlib.Core.Path.{_≡_, refl, ap, ap₂, sym, _∙_}
-use mathlib.Core.Bool.{Bool, true, false, cond, not, _&&_, _||_, true≢false}
+use mathlib.Core.Bool.{Bool, true, false, cond, not, _&&_, _||_, true≢false, or-false}
 use mathlib.Core.List.{List, [], _∷_, _++_}
 use mathlib.Core.Option.{Option, none, some}
 use mathlib.Core.Logic.{⊎-elim}
@@ -13,18 +13,18 @@ use lib.Dec.{eqb}
 use lib.IntN.{ℤ}
 use Rattle.loops.specs.Lists.{given, anyOf, countOf, among, isEmpty}
 use Rattle.loops.specs.Range.{collect}
-use Rattle.loops.specs.Search.{firstPlace, anyBelow, countBelow}
+use Rattle.loops.specs.Search.{anyBelow, countBelow}
+use Rattle.loops.proofs.BoolLaws.{and-left, and-right}
 use Rattle.loops.proofs.ListLaws.{count-append, any-collect}
 use Rattle.loops.proofs.RangeLaws.{collect-ext}
 use Rattle.loops.proofs.PlaceLaws.{place-only, any-same}
 use Rattle.rows.specs.Cells.{rowCount, cell, num, is}
 use Rattle.sheet.specs.Places.{placeOf, named, isNth, nthPlace, requirementPlace}
-use Rattle.sheet.specs.Index.{ownerKind, ownerOf, ownerPlace, orEnd, ownPlace, ownedBy}
-use Rattle.sheet.proofs.Lookups.{and-left, and-right, is-num, num-is, nth-at}
-use Rattle.model.specs.Sheet.{sheet, numAt, rowAt}
-use Rattle.model.specs.Activity.{ResourceRequirement, requirementAt, namedFor, candidates, isCandidate}
-use Rattle.model.specs.Resource.{Resource}
-use Rattle.model.specs.Records.{requirementOf}
+use Rattle.sheet.specs.inner.Index.{ownerKind, ownerOf, ownerPlace, orEnd, ownPlace, ownedBy}
+use Rattle.sheet.proofs.Lookups.{is-num, nth-at}
+use Rattle.model.specs.Sheet.{sheet, rowAt}
+use Rattle.model.specs.inner.Records.{numAt, requirementOf}
+use Rattle.model.specs.Activity.{ResourceRequirement, requirementAt, namedFor, candidates}
 use Rattle.model.proofs.RowLaws.{kind-is}
 use Rattle.model.proofs.OwnedLaws.{of-activity}
 
@@ -213,9 +213,5 @@ module _ (p : ℕ → Bool) (y : ℕ → ℕ) where
   among-given x n = any-collect (eqb x) (λ k. given (p k) (y k)) n ∙ any-same _ _ n (λ k l. go k (p k) (eqb-swap x (y k)))
     where
       go : (k : ℕ) (b : Bool) → eqb x (y k) ≡ eqb (y k) x → anyOf (eqb x) (given b (y k)) ≡ (b && eqb (y k) x)
-      go k true e = last (eqb x (y k)) ∙ e
-        where
-          last : (c : Bool) → (c || false) ≡ c
-          last true = refl
-          last false = refl
+      go k true e = or-false (eqb x (y k)) ∙ e
       go k false e = refl

@@ -1,20 +1,19 @@
 -- What a row of a kind is, read by its columns; and that a row of any other kind is none. Assumes nothing.
-use Prim.Native.Nat.{ℕ, _+_}
-use mathlib.Core.Path.{_≡_, refl, ap, sym, _∙_}
-use mathlib.Core.Bool.{Bool, true, false, cond, _&&_}
-use mathlib.Core.List.{List, [], _∷_, _++_}
-use mathlib.Core.Option.{Option, none, some}
+use Prim.Native.Nat.{ℕ}
+use mathlib.Core.Path.{_≡_}
+use mathlib.Core.Bool.{true, false}
+use mathlib.Core.List.{List, [], _∷_}
+use mathlib.Core.Option.{none}
 use lib.Dec.{eqb}
-use lib.IntN.{ℤ, pos, negsuc}
+use lib.IntN.{ℤ, pos}
 use borrow.Author.Tests.{eqb-true}
-use Rattle.loops.specs.Numbers.{toNat}
-use Rattle.loops.specs.Lists.{given}
 use Rattle.rows.specs.Cells.{cell, num, is}
-use Rattle.model.specs.Sheet.{Sheet, sheet, maybeAt, isKind, rowAt}
-use Rattle.model.specs.Task.{Task, taskAt}
-use Rattle.model.specs.Activity.{Activity, activityAt, requirementAt}
-use Rattle.model.specs.Resource.{Resource, resourceAt}
-use Rattle.model.specs.Schedule.{Assignment, assignmentAt, TimeOnlySpan, spanAt, asPart}
+use Rattle.model.specs.Sheet.{sheet, rowAt}
+use Rattle.model.specs.inner.Records.{maybeAt}
+use Rattle.model.specs.Task.{taskAt}
+use Rattle.model.specs.Activity.{activityAt}
+use Rattle.model.specs.Resource.{resourceAt}
+use Rattle.model.specs.Schedule.{assignmentAt, spanAt, asPart}
 
 module _ (rows : List ℤ) (k : ℕ) where
   pub kind-is : (x : ℕ) → is rows k 0 x ≡ true → num rows k 0 ≡ x

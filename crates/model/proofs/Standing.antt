@@ -1,11 +1,11 @@
 -- What a loop along a chain knows of the row that it stands at. Assumes nothing.
 use Prim.Native.Nat.{ℕ, _<_}
 use mathlib.Core.Path.{_≡_}
-use mathlib.Core.Bool.{Bool, true}
+use mathlib.Core.Bool.{true}
 use mathlib.Core.List.{List}
 use native.Mathlib.Omega.{arith}
 use lib.IntN.{ℤ}
-use Rattle.loops.specs.Chain.{Stands}
+use Rattle.loops.specs.inner.Chain.{Stands}
 use Rattle.rows.specs.Cells.{is}
 use Rattle.sheet.specs.Places.{ofKind}
 

@@ -3,7 +3,7 @@ use Prim.Native.Nat.{ℕ}
 use mathlib.Core.List.{List, [], _∷_, _++_}
 use lib.IntN.{ℤ}
 use Rattle.loops.specs.Range.{collect}
-use Rattle.model.specs.Sheet.{Sheet, numAt, intAt, timeAt, with2, rowAt}
+use Rattle.model.specs.Sheet.{Sheet, asNum, asInt, asInstant, with2, rowAt, columns1, columns2, columns3}
 use Rattle.model.specs.Resource.{listed}
 
 pub data Constraint (T : Type 0) : Type 0 where
@@ -20,10 +20,10 @@ pub data Constraint (T : Type 0) : Type 0 where
 module _ {T : Type 0} (s : Sheet T) where
   unfoldable pub constraintAt : ℕ → List (Constraint T)
   constraintAt k =
-      rowAt s 17 (λ k. precedence (numAt s k 1) (numAt s k 2) (intAt s k 3) ∷ []) k
-      ++ rowAt s 18 (λ k. capacity (numAt s k 1) (intAt s k 2) ∷ []) k
-      ++ rowAt s 19 (λ k. with2 (timeAt s k 2) (timeAt s k 3) (timeWindow (numAt s k 1))) k
-      ++ rowAt s 20 (λ k. noOverlap (numAt s k 1) ∷ []) k
+      rowAt s 17 (λ k. columns3 s k λ before after delay. precedence (asNum before) (asNum after) (asInt delay) ∷ []) k
+      ++ rowAt s 18 (λ k. columns2 s k λ resource max. capacity (asNum resource) (asInt max) ∷ []) k
+      ++ rowAt s 19 (λ k. columns3 s k λ activity start end. with2 (asInstant start) (asInstant end) (timeWindow (asNum activity))) k
+      ++ rowAt s 20 (λ k. columns1 s k λ resource. noOverlap (asNum resource) ∷ []) k
       ++ rowAt s 21 (λ k. synchronize ∷ []) k
 
   unfoldable pub constraints : List (Constraint T)

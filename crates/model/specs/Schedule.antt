@@ -10,7 +10,7 @@ use Rattle.loops.specs.Lists.{given, head, keep, each}
 use Rattle.loops.specs.Range.{collect}
 use Rattle.calendar.specs.Clock.{Clock}
 use Rattle.findings.specs.declared.Violation.{Violation}
-use Rattle.model.specs.Sheet.{Cell, number, instant, nothing, Sheet, numAt, timeAt, with2, rowAt}
+use Rattle.model.specs.Sheet.{Cell, number, instant, nothing, Sheet, asNum, asInstant, with2, rowAt, columns4, columns8}
 
 -- which part of a split activity, and how much of its processing it does
 pub record Part : Type 0 where
@@ -43,16 +43,16 @@ asPart nothing w = none
 
 module _ {T : Type 0} (s : Sheet T) where
   unfoldable pub assignmentAt : ℕ → List (Assignment T)
-  assignmentAt = rowAt s 23 λ k.
-      with2 (timeAt s k 4) (timeAt s k 5) λ a e.
+  assignmentAt = rowAt s 23 λ k. columns8 s k λ activity task resource start end setup partIndex partWork.
+      with2 (asInstant start) (asInstant end) λ a e.
       record {
-        activity = numAt s k 1;
-        task = numAt s k 2;
-        resource = numAt s k 3;
+        activity = asNum activity;
+        task = asNum task;
+        resource = asNum resource;
         start = a;
         end = e;
-        setup = numAt s k 6;
-        part = asPart (s .cell k 7) (s .cell k 8);
+        setup = asNum setup;
+        part = asPart partIndex partWork;
       }
 
   -- those of the first n rows, and all
@@ -66,8 +66,8 @@ module _ {T : Type 0} (s : Sheet T) where
   assignmentsForActivityAll x = keep (λ a. eqb (a .activity) x) assignments
 
   unfoldable pub spanAt : ℕ → List (TimeOnlySpan T)
-  spanAt = rowAt s 24 λ k.
-      with2 (timeAt s k 3) (timeAt s k 4) λ a e. record { activity = numAt s k 1; task = numAt s k 2; start = a; end = e }
+  spanAt = rowAt s 24 λ k. columns4 s k λ activity task start end.
+      with2 (asInstant start) (asInstant end) λ a e. record { activity = asNum activity; task = asNum task; start = a; end = e }
 
   unfoldable pub timeOnlyBelow : ℕ → List (TimeOnlySpan T)
   timeOnlyBelow n = collect spanAt n
@@ -79,20 +79,20 @@ module _ {T : Type 0} (s : Sheet T) where
   timeOnlyForActivity x = head (keep (λ a. eqb (a .activity) x) timeOnly)
 
 module _ {T : Type 0} (K : Clock T) where
-  abbrev pub later : Option T → T → Option T
-  later none x = some x
-  later (some a) x = some (cond (K .before a x) x a)
+  abbrev pub laterOf : Option T → T → Option T
+  laterOf none x = some x
+  laterOf (some a) x = some (cond (K .before a x) x a)
 
-  abbrev pub earlier : Option T → T → Option T
-  earlier none x = some x
-  earlier (some a) x = some (cond (K .before x a) x a)
+  abbrev pub earlierOf : Option T → T → Option T
+  earlierOf none x = some x
+  earlierOf (some a) x = some (cond (K .before x a) x a)
 
   -- `max` and `min` of some instants
   unfoldable pub latest : List T → Option T
-  latest l = foldl later none l
+  latest l = foldl laterOf none l
 
   unfoldable pub earliest : List T → Option T
-  earliest l = foldl earlier none l
+  earliest l = foldl earlierOf none l
 
 module _ {T : Type 0} (K : Clock T) (s : Sheet T) where
   unfoldable pub taskCompletionTime : ℕ → Option T
@@ -106,7 +106,8 @@ module _ {T : Type 0} (K : Clock T) (s : Sheet T) where
 abbrev pub violation : ℕ → ℕ → ℕ → ℕ → Violation
 violation check kind entity severity = record { check = check; kind = kind; entity = entity; severity = severity }
 
--- the types with their severities; the entity of a synchronize violation is its constraint's place
+-- `Violation::deadline_miss` .. `Violation::synchronize`, by type: the one table of types and severities. (`time_window` and `synchronize` have the longer
+-- names of their types, since a constraint has the short ones.) The entity of a synchronize violation is its constraint's place.
 module _ (check : ℕ) (entity : ℕ) where
   abbrev pub deadlineMiss : Violation
   deadlineMiss = violation check 1 entity 80

@@ -51,24 +51,22 @@ pub record Sheet (T : Type 0) : Type 0 where
 abbrev pub sheet : List ℤ → Sheet ℤ
 sheet rows = record { count = rowCount rows; cell = λ k c. read (classOf (num rows k 0) c) (cell rows k c) }
 
--- ---- every instant moved
-
-module _ {A B : Type 0} (f : A → B) where
-  abbrev pub mapCell : Cell A → Cell B
-  mapCell (number x) = number x
-  mapCell (instant x) = instant (f x)
-  mapCell nothing = nothing
-
-  abbrev pub mapSheet : Sheet A → Sheet B
-  mapSheet s = record { count = s .count; cell = λ k c. mapCell (s .cell k c) }
-
 -- ---- what a cell holds
 
 module _ {T : Type 0} where
+  -- Each row is read by the columns of its kind (rows/specs/Table), instants by `asInstant` and all else by the other three: so no definition asks
+  -- an instant for a number, and the zeros here stand for nothing that is ever asked.
   abbrev pub asInt : Cell T → ℤ
   asInt (number x) = x
   asInt (instant x) = pos 0
   asInt nothing = pos 0
+
+  -- a number that is never negative in an accepted sheet
+  abbrev pub asNum : Cell T → ℕ
+  asNum x = toNat (asInt x)
+
+  abbrev pub asFlag : Cell T → Bool
+  asFlag x = eqb (asNum x) 1
 
   abbrev pub asInstant : Cell T → Option T
   asInstant (number x) = none
@@ -81,31 +79,36 @@ module _ {T : Type 0} where
   with2 (some a) none f = []
   with2 (some a) (some b) f = f a b ∷ []
 
--- an instant that may be none: a column t? of a row
-abbrev pub maybeAt : List ℤ → ℕ → ℕ → Option ℤ
-maybeAt rows k c = asInstant (read t?-c (cell rows k c))
+-- ---- rows
 
 module _ {T : Type 0} (s : Sheet T) where
-  abbrev pub intAt : ℕ → ℕ → ℤ
-  intAt k c = asInt (s .cell k c)
-
-  abbrev pub numAt : ℕ → ℕ → ℕ
-  numAt k c = toNat (intAt k c)
-
-  abbrev pub flagAt : ℕ → ℕ → Bool
-  flagAt k c = eqb (numAt k c) 1
-
-  abbrev pub timeAt : ℕ → ℕ → Option T
-  timeAt k c = asInstant (s .cell k c)
-
   -- row k is of kind x
   abbrev pub isKind : ℕ → ℕ → Bool
-  isKind x k = eqb (numAt k 0) x
+  isKind x k = eqb (asNum (s .cell k 0)) x
 
   -- a row of kind x as f reads it; nothing of any other row
   abbrev pub rowAt : {A : Type 0} → ℕ → (ℕ → List A) → ℕ → List A
   rowAt x f k = cond (isKind x k) (f k) []
 
   -- the rows of kind x, as f reads them
-  abbrev pub rowsOf : {A : Type 0} → ℕ → (ℕ → List A) → List A
-  rowsOf x f = collect (rowAt x f) (s .count)
+  abbrev pub rowsOfKind : {A : Type 0} → ℕ → (ℕ → List A) → List A
+  rowsOfKind x f = collect (rowAt x f) (s .count)
+
+  -- row k by its columns, from the first on: f gives them names
+  abbrev pub columns1 : {A : Type 0} → ℕ → (Cell T → A) → A
+  columns1 k f = f (s .cell k 1)
+
+  abbrev pub columns2 : {A : Type 0} → ℕ → (Cell T → Cell T → A) → A
+  columns2 k f = columns1 k f (s .cell k 2)
+
+  abbrev pub columns3 : {A : Type 0} → ℕ → (Cell T → Cell T → Cell T → A) → A
+  columns3 k f = columns2 k f (s .cell k 3)
+
+  abbrev pub columns4 : {A : Type 0} → ℕ → (Cell T → Cell T → Cell T → Cell T → A) → A
+  columns4 k f = columns3 k f (s .cell k 4)
+
+  abbrev pub columns5 : {A : Type 0} → ℕ → (Cell T → Cell T → Cell T → Cell T → Cell T → A) → A
+  columns5 k f = columns4 k f (s .cell k 5)
+
+  abbrev pub columns8 : {A : Type 0} → ℕ → (Cell T → Cell T → Cell T → Cell T → Cell T → Cell T → Cell T → Cell T → A) → A
+  columns8 k f = columns5 k f (s .cell k 6) (s .cell k 7) (s .cell k 8)

@@ -7,7 +7,7 @@ use Rattle.loops.specs.Lists.{head, keep}
 use Rattle.loops.specs.Numbers.{toNat}
 use Rattle.loops.specs.Range.{collect}
 use Rattle.calendar.specs.Clock.{Clock}
-use Rattle.model.specs.Sheet.{Sheet, numAt, timeAt, rowAt}
+use Rattle.model.specs.Sheet.{Sheet, asNum, asInstant, rowAt, columns3}
 
 pub record Task (T : Type 0) : Type 0 where
   pub id : ℕ
@@ -16,7 +16,8 @@ pub record Task (T : Type 0) : Type 0 where
 
 module _ {T : Type 0} (s : Sheet T) where
   unfoldable pub taskAt : ℕ → List (Task T)
-  taskAt = rowAt s 1 λ k. record { id = numAt s k 1; deadline = timeAt s k 2; release = timeAt s k 3 } ∷ []
+  taskAt = rowAt s 1 λ k. columns3 s k λ id deadline release.
+      record { id = asNum id; deadline = asInstant deadline; release = asInstant release } ∷ []
 
   unfoldable pub tasks : List (Task T)
   tasks = collect taskAt (s .count)

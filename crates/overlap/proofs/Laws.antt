@@ -19,7 +19,8 @@ use lib.Ieee.Back.{round-whole}
 use lib.Ieee.Order.{round-mono}
 use lib.Ieee.Positive.{num, den, den-pos}
 use Rattle.rounding.proofs.Laws.{Cut, cut-of-value}
-use Rattle.overlap.specs.Bounds.{isShare, product, ceilDiv, ceiling, ceilingShare}
+use Rattle.overlap.specs.Bounds.{ceilDiv, ceiling, ceilingShare}
+use Rattle.overlap.specs.inner.Shares.{isShare, product}
 
 -- ---- a float that is finite with its sign clear
 abbrev pub plain : Float → Bool

@@ -1,2 +1,3 @@
--- Lemmas of `overlap`.
+-- Lemmas of `overlap`, and worked examples.
+pub mod Examples
 pub mod Laws

@@ -1,9 +1,9 @@
 -- From when on a step may start and end that overlaps the one before it, in whole ms and IEEE 754's binary64. Assumes nothing.
 use Prim.Native.Nat.{ℕ, _+_, _-_, _*_, _/_}
-use mathlib.Core.Bool.{Bool, true, false}
-use lib.Dec.{leb}
-use lib.IntN.{ℤ, pos, negℤ, _+ℤ_, _-ℤ_}
+use mathlib.Core.Bool.{true, false}
+use lib.IntN.{ℤ, pos, negℤ}
 use lib.Ieee.{Float, nan, inf, fin, binary64, up, down, ofBits, ofInt, mul}
+use Rattle.calendar.specs.Clock.{Clock}
 use Rattle.overlap.specs.declared.Overlap.{Overlap}
 
 -- num / den to the next whole number
@@ -26,20 +26,11 @@ ceilingShare share span = ceiling (mul binary64 share (ofInt binary64 span))
 abbrev pub overlapOf : ℕ → ℤ → Overlap
 overlapOf bits lag = record { «start_after» = ofBits binary64 bits; «finish_after_ms» = lag }
 
--- `Overlap::earliest_start`, `Overlap::earliest_end`
-abbrev pub earliestStart : Overlap → ℤ → ℤ → ℤ
-earliestStart o start end = start +ℤ ceilingShare (o .«start_after») (end -ℤ start)
+module _ {T : Type 0} (K : Clock T) where
+  -- `Overlap::earliest_start`: of the step before, its start and its end
+  abbrev pub earliestStart : Overlap → T → T → T
+  earliestStart o start end = K .plus start (ceilingShare (o .«start_after») (K .minus end start))
 
-abbrev pub earliestEnd : Overlap → ℤ → ℤ
-earliestEnd o end = end +ℤ o .«finish_after_ms»
-
--- a share is from 0 to 1, with the sign clear
-unfoldable pub isShare : Float → Bool
-isShare nan = false
-isShare (inf s) = false
-isShare (fin true m e) = false
-isShare (fin false m e) = leb (m * up e) (down e)
-
--- the product of a share and a span that is not negative
-abbrev pub product : Float → ℕ → Float
-product share span = mul binary64 share (ofInt binary64 (pos span))
+  -- `Overlap::earliest_end`: of the step before, its end
+  abbrev pub earliestEnd : Overlap → T → T
+  earliestEnd o end = K .plus end (o .«finish_after_ms»)

@@ -1,2 +1,3 @@
 -- Definitions that the contracts of `overlap` cite.
 pub mod Bounds
+pub mod inner

@@ -4,7 +4,9 @@ ghost use Prim.Native.Nat.{_≤_, _/_};
 ghost use lib.Dec.{T};
 ghost use lib.IntN.{ℤ, pos, natAbs};
 ghost use lib.Ieee.Positive.{num, den};
-ghost use Rattle.overlap.specs.Bounds.{ceilDiv, product, isShare, overlapOf, earliestStart, earliestEnd};
+ghost use Rattle.calendar.specs.Clock.{clock};
+ghost use Rattle.overlap.specs.Bounds.{ceilDiv, overlapOf, earliestStart, earliestEnd};
+ghost use Rattle.overlap.specs.inner.Shares.{product, isShare};
 
 // The share of the previous step's span that must have passed before this one starts, in [0, 1],
 // and the least time from the previous step's end to this one's.
@@ -46,7 +48,7 @@ impl Overlap {
     // end comes first.
     pub fn earliest_start(self, start: u64, end: u64) -> u64
         requires { ⌜ T (isShare (self .«start_after»)) × (start ≤ 4000000000000) × (end ≤ 4000000000000) ⌝ }
-        ensures { λ r. ⌜ (pos r ≡ earliestStart self (pos start) (pos end)) × (r ≤ 4000000000000) ⌝ }
+        ensures { λ r. ⌜ (pos r ≡ earliestStart clock self (pos start) (pos end)) × (r ≤ 4000000000000) ⌝ }
     {
         let share = self.start_after;
         if start <= end {
@@ -59,7 +61,7 @@ impl Overlap {
     // The earliest this step may end, given the previous step's end.
     pub fn earliest_end(self, end: u64) -> i64
         requires { ⌜ (end ≤ 4000000000000) × (natAbs (self .«finish_after_ms») ≤ 4000000000000) ⌝ }
-        ensures { λ r. ⌜ r ≡ earliestEnd self (pos end) ⌝ }
+        ensures { λ r. ⌜ r ≡ earliestEnd clock self (pos end) ⌝ }
     {
         let lag = self.finish_after_ms;
         (end as i64) + lag

@@ -1,26 +1,26 @@
 -- The rows that name two things stand in the chain of their owner; a walk along it finds the first. Assumes nothing.
-use Prim.Native.Nat.{ℕ, zero, suc, _+_, _-_, _<_, _≤_}
+use Prim.Native.Nat.{ℕ, zero, suc, _<_, _≤_}
 use mathlib.Core.Path.{_≡_, refl, sym, ap, ap₂, _∙_}
-use mathlib.Core.Bool.{Bool, true, false, cond, not, _&&_, true≢false}
+use mathlib.Core.Bool.{Bool, true, false, not, _&&_, true≢false}
 use mathlib.Core.Option.{Option, none, some}
-use native.Mathlib.Nat.{add-zero, add-suc}
 use mathlib.Core.List.{List}
 use native.Mathlib.Omega.{arith}
-use lib.Dec.{eqb, ltb}
+use lib.Dec.{eqb}
 use lib.IntN.{ℤ}
-use borrow.Author.Tests.{eq-eqb, eqb-true, ltb-true, ltb-false}
-use Rattle.loops.specs.Chain.{First, Stands, Blind}
+use borrow.Author.Tests.{eq-eqb, eqb-true}
+use Rattle.loops.specs.inner.Chain.{Stands, Blind}
 use Rattle.loops.specs.Search.{anyBelow, firstPlace}
-use Rattle.loops.proofs.SearchLaws.{any-none, any-hit, any-done}
-use Rattle.loops.proofs.PlaceLaws.{found-at, place-none, any-less}
+use Rattle.loops.proofs.BoolLaws.{and-left, and-right}
+use Rattle.loops.proofs.SearchLaws.{any-none, any-hit, place-hit}
+use Rattle.loops.proofs.PlaceLaws.{found-at, place-none, none-before, any-less}
 use Rattle.rows.specs.Cells.{rowCount, num, is}
-use Rattle.sheet.specs.Places.{named, placeOf, activityPlace, resourcePlace}
+use Rattle.sheet.specs.Places.{placeOf, activityPlace, resourcePlace}
 use Rattle.sheet.specs.Refusals.{isAbsent, lacks}
-use Rattle.sheet.specs.Accepted.{Accepted}
-use Rattle.sheet.specs.Index.{ownerKind, ownerOf, ownerPlace, orEnd, ownPlace, resPlace, ownedBy}
-use Rattle.sheet.proofs.Lookups.{and-left, and-right, is-num}
+use Rattle.sheet.specs.inner.Accepted.{Accepted}
+use Rattle.sheet.specs.inner.Index.{ownerKind, ownerOf, ownerPlace, orEnd, ownPlace, ownedBy}
+use Rattle.sheet.proofs.Lookups.{is-num}
 use Rattle.model.proofs.Accepting.{has-owner}
-use Rattle.pieces.specs.Bookings.{inPiece, sameBooking, firstOn, names, holdsFor, keyAt}
+use Rattle.pieces.specs.inner.Bookings.{inPiece, sameBooking, firstOn, names, holdsFor, keyAt}
 
 -- a test that holds of rows of an owner only
 pub blind-if : (p q : ℕ → Bool) → ((k : ℕ) → q k ≡ true → p k ≡ true) → Blind p q
@@ -56,26 +56,18 @@ module _ (rows : List ℤ) where
     pub names-first : num rows i 1 ≡ a
     names-first = is-num rows i 1 a (and-left (is rows i 1 a) (is rows i 2 b) names-rest)
 
-  -- the timings of an activity on a resource, the companions of a booking's resource
-  pub timings-blind : (x k o a b : ℕ) → ownerKind x ≡ 2 → is rows k 0 23 ≡ true → o ≡ ownPlace rows k → a ≡ num rows k 1 → Blind (ownedBy rows o x) (names rows x a b)
-  timings-blind x k o a b e h p q = blind-if _ _ λ i f.
+  -- the rows of kind x that name a thing of kind y in column 1 belong to its row
+  pub names-blind : (x y o a b : ℕ) → ((i : ℕ) → is rows i 0 x ≡ true → ownPlace rows i ≡ orEnd rows (placeOf rows y (num rows i 1))) → some o ≡ placeOf rows y a → Blind (ownedBy rows o x) (names rows x a b)
+  names-blind x y o a b w p = blind-if _ _ λ i f.
       owned-at o x i (names-kind x a b i f)
-      (own-activity x i e (names-kind x a b i f)
-      ∙ ap (λ z. orEnd rows (activityPlace rows z)) (names-first x a b i f ∙ q)
-      ∙ sym (own-activity 23 k (unfold ownerKind in refl) h)
-      ∙ sym p)
+      (w i (names-kind x a b i f) ∙ ap (λ z. orEnd rows (placeOf rows y z)) (names-first x a b i f) ∙ ap (orEnd rows) (sym p) ∙ (unfold orEnd in refl))
 
-  res-at : (j : ℕ) → is rows j 0 23 ≡ true → resPlace rows j ≡ orEnd rows (resourcePlace rows (num rows j 3))
-  unfolding resPlace
-  res-at j h = rw h
+  -- the companions of a resource, the timings of an activity
+  pub companions-blind : (o b : ℕ) {a a′ : ℕ} → a ≡ a′ → some o ≡ placeOf rows 11 a′ → Blind (ownedBy rows o 13) (names rows 13 a b)
+  companions-blind o b e p = rw e (names-blind 13 11 o _ b (λ i h. own-resource 13 i (unfold ownerKind in refl) h) p)
 
-  pub companions-blind : (j o a b : ℕ) → is rows j 0 23 ≡ true → o ≡ resPlace rows j → a ≡ num rows j 3 → Blind (ownedBy rows o 13) (names rows 13 a b)
-  companions-blind j o a b h p q = blind-if _ _ λ i f.
-      owned-at o 13 i (names-kind 13 a b i f)
-      (own-resource 13 i (unfold ownerKind in refl) (names-kind 13 a b i f)
-      ∙ ap (λ z. orEnd rows (resourcePlace rows z)) (names-first 13 a b i f ∙ q)
-      ∙ sym (res-at j h)
-      ∙ sym p)
+  pub timings-blind : (x o b : ℕ) {a a′ : ℕ} → ownerKind x ≡ 2 → a ≡ a′ → some o ≡ placeOf rows 2 a′ → Blind (ownedBy rows o x) (names rows x a b)
+  timings-blind x o b k e p = rw e (names-blind x 2 o _ b (λ i h. own-activity x i k h) p)
 
   -- ---- the bookings of a piece
   module _ (k j : ℕ) (h : inPiece rows k j ≡ true) where
@@ -108,60 +100,35 @@ module _ (rows : List ℤ) where
 -- ---- a search along a chain
 
 module _ (q : ℕ → Bool) where
-  pub found-here : (n i N : ℕ) → i < N → N ≡ n → anyBelow q i ≡ false → q i ≡ true → First q 0 n i
-  found-here n i N l z e h = record {
-    low = omega arith;
-    high = omega arith;
-    none = λ k a b. any-none q i k e b;
-    here = λ a. h;
-  }
+  place-below : (n : ℕ) → anyBelow q n ≡ false → firstPlace q n ≡ none
+  place-below n e = go (firstPlace q n) refl
+    where
+      go : (x : Option ℕ) → firstPlace q n ≡ x → firstPlace q n ≡ none
+      go none f = f
+      go (some i) f = let g = found-at q n i f in absurd (true≢false (sym (g .1) ∙ any-none q n i e (g .0)))
 
-  pub found-none : {p : ℕ → Bool} (n i N : ℕ) → N ≤ i → N ≡ n → Stands p n i → anyBelow q i ≡ false → First q 0 n i
-  found-none n i N l z s e = record {
-    low = omega arith;
-    high = s .high;
-    none = λ k a b. any-none q i k e b;
-    here = λ a. absurd (omega arith);
-  }
+  pub found-here : (n i N : ℕ) → i < N → N ≡ n → anyBelow q i ≡ false → q i ≡ true → some i ≡ firstPlace q n
+  found-here n i N l z e h = sym (place-hit q i n (omega arith) (place-below i e) h)
+
+  pub found-none : {p : ℕ → Bool} (n i N : ℕ) → N ≤ i → N ≡ n → Stands p n i → anyBelow q i ≡ false → none ≡ firstPlace q n
+  found-none n i N l z s e = let w : i ≡ n = omega (arith, s .high) in sym (rw w at (place-below i e))
 
   pub none-below : (n : ℕ) → ((k : ℕ) → k < n → q k ≡ false) → anyBelow q n ≡ false
   unfolding anyBelow
   none-below zero h = refl
   none-below (suc n) h = rw (none-below n (λ k l. h k (omega arith)), h n (omega arith))
 
-  -- whether there is any, by the first
-  pub any-first-is : (n i N : ℕ) → First q 0 n i → N ≡ n → ltb i N ≡ anyBelow q n
-  any-first-is n i N f z = go (ltb i N) refl
-    where
-      go : (b : Bool) → ltb i N ≡ b → b ≡ anyBelow q n
-      go true e = any-hit q i n n (let l = ltb-is e in omega arith) refl (f .here (let l = ltb-is e in omega arith))
-        where
-          ltb-is : ltb i N ≡ true → i < N
-          ltb-is e = ltb-true i N e
-      go false e = sym (none-below n λ k l. f .none k (omega arith) (let m = ltb-false i N e in omega (arith, f .high)))
+  pub place-never : (n : ℕ) → ((k : ℕ) → k < n → q k ≡ false) → firstPlace q n ≡ none
+  place-never n h = place-below n (none-below n h)
 
--- ---- the first place of a search
+  -- whether there is any, by the search
+  pub any-found : (n i : ℕ) → some i ≡ firstPlace q n → true ≡ anyBelow q n
+  any-found n i e = let f = found-at q n i (sym e) in any-hit q i n n (f .0) refl (f .1)
 
-found-on : (q : ℕ → Bool) (j m d : ℕ) → firstPlace q j ≡ some m → firstPlace q (j + d) ≡ some m
-unfolding firstPlace
-found-on q j m zero f = rw (add-zero j) f
-found-on q j m (suc d) f = rw (add-suc j d, found-on q j m d f)
+  pub none-found : (n : ℕ) → none ≡ firstPlace q n → false ≡ anyBelow q n
+  none-found n e = sym (none-below n (place-none q n (sym e)))
 
--- nothing passes below it
-pub first-below : (q : ℕ → Bool) (n j : ℕ) → firstPlace q n ≡ some j → (i : ℕ) → i < j → q i ≡ false
-first-below q n j e i l = go (firstPlace q j) refl
-  where
-    some-is : {j k : ℕ} → _≡_ {A = Option ℕ} (some j) (some k) → j ≡ k
-    some-is e = cc
-
-    go : (x : Option ℕ) → firstPlace q j ≡ x → q i ≡ false
-    go none f = place-none q j f i l
-    go (some m) f =
-        let h = found-at q n j e in
-        let g = found-at q j m f in
-        let s : j + (n - j) ≡ n = omega (arith, h .0) in
-        let z : j ≡ m = some-is (sym e ∙ sym (ap (firstPlace q) s) ∙ found-on q j m (n - j) f) in
-        absurd (omega (arith, g .0))
+-- ---- the place of a search as a number
 
 pub no-place : (rows : List ℤ) (q : ℕ → Bool) (o : ℕ) → o ≡ orEnd rows (firstPlace q (rowCount rows)) → rowCount rows ≤ o → firstPlace q (rowCount rows) ≡ none
 no-place rows q o e l = go (firstPlace q (rowCount rows)) refl e
@@ -170,29 +137,25 @@ no-place rows q o e l = go (firstPlace q (rowCount rows)) refl e
     go none f e = refl
     go (some i) f e = unfold orEnd in absurd (let g = found-at q (rowCount rows) i f in omega (arith, g .0))
 
--- ---- companions of a resource that is not in the sheet: there are none
+-- ---- rows that name an owner which is not in the sheet: there are none
 
-module _ (rows : List ℤ) where
-  absent : (x : Option ℕ) → x ≡ none → isAbsent x ≡ true
-  absent x e = rw e
-
-  pub no-companions : Accepted rows → (j r o n : ℕ) → is rows j 0 23 ≡ true → o ≡ resPlace rows j → n ≤ o → n ≡ rowCount rows
-      → false ≡ anyBelow (names rows 13 (num rows j 3) r) (rowCount rows)
-  no-companions acc j r o n h e l z = sym (none-below (names rows 13 (num rows j 3) r) (rowCount rows) λ i m. go i m (names rows 13 (num rows j 3) r i) refl)
+module _ (rows : List ℤ) (acc : Accepted rows) where
+  pub unnamed : (x y a b : ℕ) → ((i : ℕ) → i < rowCount rows → is rows i 0 x ≡ true → isAbsent (placeOf rows y (num rows i 1)) ≡ false) → none ≡ placeOf rows y a
+      → (i : ℕ) → i < rowCount rows → names rows x a b i ≡ false
+  unnamed x y a b w p i m = go (names rows x a b i) refl
     where
-      none-there : resourcePlace rows (num rows j 3) ≡ none
-      none-there = unfold placeOf in no-place rows (named rows 11 (num rows j 3)) o (unfold placeOf in (e ∙ res-at rows j h)) (omega arith)
+      absent : (z : Option ℕ) → z ≡ none → isAbsent z ≡ true
+      absent z e = rw e
 
-      go : (i : ℕ) → i < rowCount rows → (b : Bool) → names rows 13 (num rows j 3) r i ≡ b → names rows 13 (num rows j 3) r i ≡ false
-      go i m true f =
-          absurd
-          (true≢false
-          (sym (absent (resourcePlace rows (num rows i 1)) (ap (resourcePlace rows) (names-first rows 13 (num rows j 3) r i f) ∙ none-there))
-          ∙ lacking i m (names-kind rows 13 (num rows j 3) r i f)))
-        where
-          lacking : (i : ℕ) → i < rowCount rows → is rows i 0 13 ≡ true → isAbsent (resourcePlace rows (num rows i 1)) ≡ false
-          lacking i m g = unfold lacks in (has-owner rows acc i 13 1 m g)
-      go i m false f = f
+      go : (z : Bool) → names rows x a b i ≡ z → names rows x a b i ≡ false
+      go true f =
+          absurd (true≢false
+          (sym (absent (placeOf rows y (num rows i 1)) (ap (placeOf rows y) (names-first rows x a b i f) ∙ sym p)) ∙ w i m (names-kind rows x a b i f)))
+      go false f = f
+
+  pub no-companions : (a b : ℕ) → none ≡ placeOf rows 11 a → false ≡ anyBelow (names rows 13 a b) (rowCount rows)
+  no-companions a b p =
+      sym (none-below (names rows 13 a b) (rowCount rows) (unnamed 13 11 a b (λ i m g. unfold lacks in (has-owner rows acc i 13 1 m g)) p))
 
 -- ---- the first booking of its piece on its resource holds what the others hold
 
@@ -222,7 +185,7 @@ module _ (rows : List ℤ) where
   unfolding firstOn
   leads j i n e =
       let f = found-at (sameBooking rows j) n i e in
-      rw (piece-kind rows j i (same-in-piece j i (f .1)), none-below (sameBooking rows i) i (λ m l. sames j i (f .1) m ∙ first-below (sameBooking rows j) n i e m l))
+      rw (piece-kind rows j i (same-in-piece j i (f .1)), none-below (sameBooking rows i) i (λ m l. sames j i (f .1) m ∙ none-before (sameBooking rows j) n i e m l))
 
   holds-too : (k j i : ℕ) → sameBooking rows j i ≡ true → holdsFor rows k j ≡ true → holdsFor rows k i ≡ true
   unfolding holdsFor

@@ -1,32 +1,30 @@
 -- Who is held, as a search over rows. Assumes nothing.
-use Prim.Native.Nat.{ℕ, _<_, _≤_}
+use Prim.Native.Nat.{ℕ, _<_}
 use mathlib.Core.Path.{_≡_, refl, sym, ap, ap₂, _∙_}
-use mathlib.Core.Bool.{Bool, Bool·beq, true, false, cond, not, _&&_, _||_, true≢false}
-use mathlib.Core.List.{List, [], _∷_, _++_, map}
-use mathlib.Core.Option.{Option, none, some}
-use native.Mathlib.Omega.{arith}
+use mathlib.Core.Bool.{Bool, Bool·beq, true, false, not, _&&_, true≢false, or-false}
+use mathlib.Core.List.{List}
 use native.Mathlib.Decide.{ℕ-discrete}
 use lib.Dec.{eqb}
 use lib.IntN.{ℤ, pos}
-use borrow.Author.Tests.{eq-eqb, ne-eqb, eqb-true}
+use borrow.Author.Tests.{eq-eqb, ne-eqb}
 use Rattle.loops.specs.Lists.{given, keep, anyOf, among}
 use Rattle.loops.specs.Range.{collect}
 use Rattle.loops.specs.Search.{anyBelow}
 use Rattle.loops.proofs.ListLaws.{any-map, any-keep, any-collect}
 use Rattle.loops.proofs.PlaceLaws.{any-same}
 use Rattle.rows.specs.Cells.{rowCount, cell, num, is}
-use Rattle.rows.specs.Table.{classOf}
 use Rattle.rows.specs.Class.{n?-c}
 use Rattle.rows.specs.Ranges.{isNone, inClass}
 use Rattle.sheet.specs.Refusals.{halfPart}
-use Rattle.sheet.specs.Accepted.{Accepted}
-use Rattle.model.specs.Sheet.{Sheet, sheet, rowAt, numAt}
+use Rattle.sheet.specs.inner.Accepted.{Accepted}
+use Rattle.model.specs.Sheet.{sheet, rowAt}
+use Rattle.model.specs.inner.Records.{numAt}
 use Rattle.model.specs.Resource.{listed, companions}
-use Rattle.model.specs.Schedule.{Part, Assignment, asPart, assignmentAt, assignmentsBelow, assignments}
+use Rattle.model.specs.Schedule.{Assignment, asPart, assignmentAt, assignmentsBelow, assignments}
 use Rattle.model.proofs.RowLaws.{kind-is, row-none, row-here, assignment-row, assignment-none}
-use Rattle.checks.specs.Pieces.{indexOf, sameIndex, ofPiece, resourcesOf, heldAmong, assignedWith, isHeld}
-use Rattle.pieces.specs.Bookings.{indexKey, keyAt, inPiece, names, holdsFor}
-use Rattle.pieces.specs.Held.{heldAt}
+use Rattle.definition.specs.Pieces.{indexOf, sameIndex, ofPiece, heldAmong, assignedWith, isHeld}
+use Rattle.pieces.specs.inner.Bookings.{keyAt, inPiece, names, holdsFor}
+use Rattle.pieces.specs.inner.Held.{heldAt}
 use Rattle.pieces.proofs.Indices.{indexIn, same-key, index-in}
 
 eqb-sym : (a b : ℕ) → eqb a b ≡ eqb b a
@@ -90,10 +88,6 @@ module _ (rows : List ℤ) where
     where
       pick : (b : Bool) (v : ℕ) → anyOf (eqb r) (given b v) ≡ (b && eqb v r)
       pick true v = unfold anyOf in (or-false (eqb r v) ∙ eqb-sym r v)
-        where
-          or-false : (b : Bool) → (b || false) ≡ b
-          or-false true = refl
-          or-false false = refl
       pick false v = unfold anyOf in refl
 
       at : (i : ℕ) (b : Bool) → is rows i 0 13 ≡ b
@@ -119,10 +113,6 @@ module _ (rows : List ℤ) where
         ∙ any-collect (λ x. ofPiece (booking k) x && (not (eqb (x .resource) r) && among r (companions (sheet rows) (x .resource)))) (assignmentAt (sheet rows)) (rowCount rows)
         ∙ any-same _ _ (rowCount rows) (λ j m. at j m (is rows j 0 23) refl)
       where
-        or-false : (b : Bool) → (b || false) ≡ b
-        or-false true = refl
-        or-false false = refl
-
         at : (j : ℕ) → j < rowCount rows → (b : Bool) → is rows j 0 23 ≡ b
             → anyOf (λ x. ofPiece (booking k) x && (not (eqb (x .resource) r) && among r (companions (sheet rows) (x .resource)))) (assignmentAt (sheet rows) j)
             ≡ (inPiece rows k j && (not (is rows j 3 r) && anyBelow (names rows 13 (num rows j 3) r) (rowCount rows)))
@@ -139,10 +129,6 @@ module _ (rows : List ℤ) where
     pub held-booking : (k : ℕ) → k < rowCount rows → is rows k 0 23 ≡ true → heldAt rows k ≡ anyBelow (holdsFor rows k) (rowCount rows)
     unfolding heldAt anyOf
     held-booking k l h = rw (assignment-row rows k h) (or-false (isHeld (sheet rows) (booking k)) ∙ held-is k l h)
-      where
-        or-false : (b : Bool) → (b || false) ≡ b
-        or-false true = refl
-        or-false false = refl
 
   pub held-none : (k : ℕ) → is rows k 0 23 ≡ false → heldAt rows k ≡ false
   unfolding heldAt anyOf

@@ -1,29 +1,26 @@
 -- Part indices as numbers: the order of the numbers is that of the indices, none first. Assumes nothing.
-use Prim.Native.Nat.{ℕ, zero, suc, _+_, _-_, _<_, _≤_}
-use mathlib.Core.Path.{_≡_, refl, sym, ap, ap₂, _∙_}
-use mathlib.Core.Bool.{Bool, Bool·beq, true, false, cond, not, _&&_, _||_, true≢false, false≢true}
-use mathlib.Core.List.{List}
+use Prim.Native.Nat.{ℕ, suc, _+_, _-_, _<_, _≤_}
+use mathlib.Core.Path.{_≡_, refl, sym, ap₂, _∙_}
+use mathlib.Core.Bool.{Bool, Bool·beq, true, false, cond, not, _&&_, true≢false, false≢true}
 use mathlib.Core.Option.{Option, none, some}
-use mathlib.Core.Logic.{_⊎_, inl, inr, ⊎-elim}
 use native.Mathlib.Omega.{arith}
 use native.Mathlib.Decide.{ℕ-discrete, decLt}
 use lib.Dec.{eqb, ltb, leb, T}
 use lib.IntN.{ℤ, pos, negsuc, subℕ, _+ℤ_, natAbs}
 use lib.Signed.{ltZ, leZ, nonNeg}
 use mir.Syntax.{w64}
-use mir.Val.{Fits, SFits, toZ, ofZ}
+use mir.Val.{SFits, toZ, ofZ}
 use mir.Facts.{toZ-ofZ}
 use borrow.Author.Tests.{ltb-true, ltb-false, leb-true, lt-ltb, le-ltb, eq-eqb, ne-eqb}
 use Rattle.loops.specs.Numbers.{toNat}
-use Rattle.rows.specs.Cells.{cell, num, is}
+use Rattle.loops.proofs.BoolLaws.{and-left, and-right, or-left}
+use Rattle.rows.specs.Cells.{is}
 use Rattle.rows.specs.Class.{n?-c}
-use Rattle.rows.specs.Ranges.{within, isNone, inRange, inClass}
-use Rattle.sheet.specs.Refusals.{halfPart}
-use Rattle.sheet.proofs.Lookups.{and-left, and-right}
-use Rattle.model.specs.Sheet.{Cell, number, instant, nothing}
+use Rattle.rows.specs.Ranges.{between, isNone, inRange, inClass}
+use Rattle.model.specs.Sheet.{number, nothing}
 use Rattle.model.specs.Schedule.{Part, asPart}
-use Rattle.checks.specs.Pieces.{indexOf, beforeIndex, sameIndex}
-use Rattle.pieces.specs.Bookings.{indexKey}
+use Rattle.definition.specs.Pieces.{indexOf, beforeIndex, sameIndex}
+use Rattle.pieces.specs.inner.Bookings.{indexKey}
 
 sub-up : (a b : ℕ) → b ≤ a → subℕ a b ≡ pos (a - b)
 sub-up a b h = rw (le-ltb a b h)
@@ -123,19 +120,15 @@ ranged-some (pos a) f = rw (key-pos a) (omega arith)
 ranged-some (negsuc a) f = let l : a ≤ 999999 = leb-true a 999999 f in rw (key-neg a l) (omega arith)
 
 none-key : (x : ℤ) → isNone x ≡ true → indexKey x ≡ 0
-unfolding isNone within
+unfolding isNone between
 none-key (pos a) e = absurd (false≢true (and-right true false e))
 none-key (negsuc a) e =
     let l : 9223372036854775807 ≤ a = leb-true 9223372036854775807 a (and-right (leb a 9223372036854775807) (leb 9223372036854775807 a) e) in
     sym (low-is (negsuc a) (lt-ltb 999999 a (omega arith)))
 
-either : (a b : Bool) → (a || b) ≡ true → b ≡ false → a ≡ true
-either true b e f = refl
-either false b e f = absurd (true≢false (sym e ∙ f))
-
 ranged : (x : ℤ) → inClass n?-c x ≡ true → isNone x ≡ false → Ranged x
-unfolding inClass inRange within
-ranged x e f = and-left (leZ (negsuc 999999) x) (leZ x (pos 1000000)) (either _ (isNone x) e f)
+unfolding inClass inRange between
+ranged x e f = and-left (leZ (negsuc 999999) x) (leZ x (pos 1000000)) (or-left _ (isNone x) e f)
 
 pub before-key : (x y : ℤ) → inClass n?-c x ≡ true → inClass n?-c y ≡ true
     → beforeIndex (indexIn x) (indexIn y) ≡ ltb (indexKey x) (indexKey y)

@@ -1,2 +1,1 @@
-pub mod Bookings
-pub mod Held
+pub mod inner

@@ -4,13 +4,15 @@ ghost use mathlib.Core.Path.{_≡_};
 ghost use Prim.Native.Nat.{ℕ, _<_, _≤_};
 ghost use mathlib.Core.Bool.{Bool, true, cond, not, _&&_};
 ghost use lib.ListN.{set};
-ghost use Rattle.loops.specs.Chain.{First, Blind};
-ghost use Rattle.loops.specs.Search.{anyBelow};
+ghost use Rattle.loops.specs.inner.Chain.{First, Blind};
+ghost use Rattle.loops.specs.Search.{anyBelow, firstPlace};
 ghost use Rattle.rows.specs.Cells.{rowCount, num, is};
-ghost use Rattle.sheet.specs.Index.{ownedBy, Linked, Owned};
-ghost use Rattle.sheet.specs.Accepted.{Accepted};
-ghost use Rattle.pieces.specs.Bookings.{indexKey, keyAt, inPiece, sameBooking, firstOn, Firsts, names, holdsFor};
-ghost use Rattle.pieces.specs.Held.{heldAt, Held};
+ghost use Rattle.sheet.specs.Places.{foundOf};
+ghost use Rattle.sheet.specs.inner.Index.{ownedBy, Linked, Owned};
+ghost use Rattle.sheet.specs.inner.Accepted.{Accepted};
+ghost use Rattle.pieces.specs.inner.Bookings.{indexKey, keyAt, inPiece, sameBooking, firstOn, Firsts, names, holdsFor};
+ghost use Rattle.pieces.specs.inner.Held.{heldAt, Held};
+use sheet::Found;
 
 // A part index as a number: index + 1000001, and 0 for none.
 pub fn index_key(x: i64) -> u64
@@ -58,19 +60,19 @@ fn names_at(rows: &[i64], x: usize, a: u64, b: u64, i: usize) -> bool
 }
 
 // The first row of kind x that names a and b, along the chain of the rows that belong to row o.
-pub fn find_naming(rows: &[i64], owned: &[u16; 8810], o: usize, x: usize, a: u64, b: u64) -> usize
+pub fn find_naming(rows: &[i64], owned: &[u16; 8810], o: usize, x: usize, a: u64, b: u64) -> Found
     requires { ⌜ Owned (now rows) (now owned) × (o ≤ rowCount (now rows)) × Blind (ownedBy (now rows) o x) (names (now rows) x a b) ⌝ }
-    ensures { λ r. ⌜ First (names (now (rows .entry)) x a b) 0 (rowCount (now (rows .entry))) r ⌝ }
+    ensures { λ r. ⌜ foundOf r ≡ firstPlace (names (now (rows .entry)) x a b) (rowCount (now (rows .entry))) ⌝ }
 {
     let n = rows::row_count(rows);
     let mut i = sheet::first_owned(rows, owned, o, x);
     while i < n {
         if names_at(rows, x, a, b, i) {
-            return i;
+            return Found::At(i);
         }
         i = sheet::next_owned(rows, owned, o, x, i);
     }
-    i
+    Found::Nothing
 }
 
 // ---- the first bookings
@@ -111,7 +113,8 @@ fn first_at(rows: &[i64], links: &[u16; 1600], owned: &[u16; 8810], k: usize) ->
     false
 }
 
-fn mark(marks: &mut [u8; 800], k: usize, yes: bool)
+// 1 at row k where that is so, else 0.
+pub fn mark(marks: &mut [u8; 800], k: usize, yes: bool)
     requires { ⌜ k < 800 ⌝ }
     ensures { λ _. ⌜ now (marks .exit) ≡ set (now (marks .entry)) k (cond yes 1 0) ⌝ }
 {
@@ -144,13 +147,13 @@ fn is_companion(rows: &[i64], links: &[u16; 1600], owned: &[u16; 8810], j: usize
     requires { ⌜ Accepted (now rows) × Linked (now rows) (now links) × Owned (now rows) (now owned) × (j < rowCount (now rows)) × (is (now rows) j 0 23 ≡ true) ⌝ }
     ensures { λ b. ⌜ b ≡ anyBelow (names (now (rows .entry)) 13 (num (now (rows .entry)) j 3) r) (rowCount (now (rows .entry))) ⌝ }
 {
-    let n = rows::row_count(rows);
-    let o = sheet::resource_of(rows, links, j);
-    if o < n {
-        let i = find_naming(rows, owned, o, 13, rows::num_at(rows, j, 3), r);
-        return i < n;
-    }
-    false
+    let Found::At(o) = sheet::booked_resource(rows, links, j) else {
+        return false;
+    };
+    let Found::At(_) = find_naming(rows, owned, o, 13, rows::num_at(rows, j, 3), r) else {
+        return false;
+    };
+    true
 }
 
 // Whether booking j is of booking k's piece, on a resource that k's resource is a companion of.

@@ -13,7 +13,8 @@ use lib.Ieee.Exact.{HasValue, round-exact}
 use lib.Ieee.Nearest.{div-same}
 use lib.Ieee.Positive.{num, den}
 use lib.Ieee.Digits.{back}
-use Rattle.rounding.specs.Rounding.{halfUp, rounded, limited}
+use Rattle.rounding.specs.Rounding.{halfUp, rounded}
+use Rattle.rounding.specs.inner.Limited.{limited}
 use Rattle.rounding.specs.declared.Time.the-variants.{Ms, TooLarge}
 use mathlib.Core.Option.{Option, none, some}
 use borrow.Author.Tests.{lt-ltb, le-ltb, ltb-true, ltb-false}

@@ -1,12 +1,9 @@
 -- Times in whole ms that floats yield, in IEEE 754's binary64. Assumes nothing.
-use Prim.Native.Nat.{ℕ, zero, suc, _+_, _*_, _/_, _^_}
-use mathlib.Core.Bool.{true, false, cond}
+use Prim.Native.Nat.{ℕ, zero, suc, _+_, _*_, _/_}
+use mathlib.Core.Bool.{true, false}
 use mathlib.Core.Option.{Option, none, some}
-use lib.Dec.{ltb}
 use lib.IntN.{pos}
 use lib.Ieee.{Float, nan, inf, fin, binary64, up, down, ofInt, div}
-use Rattle.rounding.specs.declared.Time.{Time}
-use Rattle.rounding.specs.declared.Time.the-variants.{Ms, TooLarge}
 
 -- num / den to the nearest whole number, halves away from zero
 unfoldable pub halfUp : ℕ → ℕ → ℕ
@@ -24,8 +21,3 @@ rounded (fin true (suc m) e) = none
 -- process_ms / product, rounded
 unfoldable pub dividedBy : ℕ → Float → Option ℕ
 dividedBy process product = rounded (div binary64 (ofInt binary64 (pos process)) product)
-
--- a derived time is refused where it is 2^53 or more, or not finite
-unfoldable pub limited : Option ℕ → Time
-limited none = TooLarge
-limited (some n) = cond (ltb n (2 ^ 53)) (Ms n) TooLarge

@@ -2,7 +2,8 @@
 ghost use mathlib.Core.Path.{_≡_};
 ghost use mathlib.Core.Option.{some};
 ghost use lib.Ieee.{binary64, ofBits};
-ghost use Rattle.rounding.specs.Rounding.{rounded, dividedBy, limited};
+ghost use Rattle.rounding.specs.Rounding.{rounded, dividedBy};
+ghost use Rattle.rounding.specs.inner.Limited.{limited};
 
 // A time that may be handed on, below 2^53 ms, or word that it is no such time.
 pub enum Time {
@@ -32,7 +33,7 @@ pub fn limit(ms: u64) -> Time
 }
 
 // x to the nearest whole number, halves away from zero. Doubling is exact, where adding a half is not.
-pub fn round(x: f64) -> Time
+fn round(x: f64) -> Time
     ensures { λ r. ⌜ r ≡ limited (rounded x) ⌝ }
 {
     if x >= 0.0 {

@@ -6,40 +6,47 @@ use mathlib.Core.List.{List, [], _∷_, _++_, map}
 use native.Mathlib.Omega.{arith}
 use lib.ListN.{length, getD, replicate, List·getD-eq-default}
 use lib.IntN.{ℤ, pos}
-use lib.Dec.{T, leb, ltb, ltb→lt, leb→le}
+use lib.Dec.{T, eqb, leb, ltb, ltb→lt, leb→le}
 use native.Mathlib.Decide.{decLt}
 use lib.Signed.{mag}
-use mathlib.Core.Bool.{Bool, true, false, _&&_}
+use mathlib.Core.Bool.{Bool, true, false, cond, _&&_}
 use borrow.Author.Needs.{sfits-of}
 use mir.Syntax.{w64}
 use mir.Val.{SFits, toZ, ofZ}
 use mir.Facts.{toZ-ofZ}
-use Rattle.rows.specs.Class.{Class, blank-c, kind-c, id-c, n-c, u-c, t-c, m-c, g-c, f-c, share-c, speed-c, n?-c, t?-c, m?-c, task-c, activity-c, resource-c, requirement-c, constraint-c, classes, classAt, codeOf}
-use Rattle.rows.specs.Table.{columns, columnCodes, classOf, width}
-use Rattle.rows.specs.Ranges.{within, low, high, inRange}
+use Rattle.rows.specs.Class.{Class, blank-c, kind-c, id-c, n-c, u-c, t-c, m-c, g-c, f-c, share-c, speed-c, n?-c, t?-c, m?-c, task-c, activity-c, resource-c, requirement-c, constraint-c}
+use Rattle.rows.specs.inner.Codes.{classes, classAt, codeOf, classTable, rangeOf, rangeTable}
+use Rattle.rows.specs.Table.{columns, classOf, width}
+use Rattle.rows.specs.Ranges.{range, between, inRange}
 
-module _ {A B : Type 0} (f : A → B) (blank : A) where
-  pub mapped : (l : List A) (j : ℕ) → getD (map f l) j (f blank) ≡ f (getD l j blank)
-  mapped [] j = refl
-  mapped (x ∷ l) zero = refl
-  mapped (x ∷ l) (suc j) = mapped l j
+-- ---- the classes
 
-  fill : (m j : ℕ) → getD (replicate m (f blank)) j (f blank) ≡ f blank
-  fill zero j = refl
-  fill (suc m) zero = refl
-  fill (suc m) (suc j) = fill m j
+fill : (m j : ℕ) → getD (replicate m (codeOf blank-c)) j (codeOf blank-c) ≡ codeOf blank-c
+fill zero j = refl
+fill (suc m) zero = refl
+fill (suc m) (suc j) = fill m j
 
-  filled-at : (l : List A) (m j : ℕ) → getD (map f l ++ replicate m (f blank)) j (f blank) ≡ f (getD l j blank)
-  filled-at [] m j = fill m j
-  filled-at (x ∷ l) m zero = refl
-  filled-at (x ∷ l) m (suc j) = filled-at l m j
+filled-at : (l : List Class) (m j : ℕ) → getD (map codeOf l ++ replicate m 0) j 0 ≡ codeOf (getD l j blank-c)
+filled-at [] m j = fill m j
+filled-at (x ∷ l) m zero = refl
+filled-at (x ∷ l) m (suc j) = filled-at l m j
+
+entry : (t : List (List Class)) (k j : ℕ) → getD (getD (map (λ l. map codeOf l ++ replicate (9 - length l) 0) t) k []) j 0 ≡ codeOf (getD (getD t k []) j blank-c)
+entry [] k j = refl
+entry (l ∷ t) zero j = filled-at l (9 - length l) j
+entry (l ∷ t) (suc k) j = entry t k j
 
 suc-sub-one : (c : ℕ) → suc c - 1 ≡ c
 suc-sub-one c = omega arith
 
-pub class-at : (kind c : ℕ) → (c ≡ 0 → ⊥) → getD (columnCodes kind) (c - 1) 0 ≡ codeOf (classOf kind c)
-class-at kind zero h = absurd (h refl)
-class-at kind (suc c) h = rw (suc-sub-one c) (filled-at codeOf blank-c (getD columns kind []) (9 - length (getD columns kind [])) c)
+pub class-at : {t : List (List ℕ)} (kind c : ℕ) → t ≡ classTable → (c ≡ 0 → ⊥) → getD (getD t kind []) (c - 1) 0 ≡ codeOf (classOf kind c)
+unfolding classTable
+class-at kind zero e h = absurd (h refl)
+class-at kind (suc c) e h = rw (e, suc-sub-one c) (entry columns kind c)
+
+pub class-past : (kind c : ℕ) → (c ≡ 0 → ⊥) → 25 ≤ kind → 0 ≡ codeOf (classOf kind c)
+class-past kind zero h k = absurd (h refl)
+class-past kind (suc c) h k = rw (List·getD-eq-default columns [] k)
 
 -- a class's number stands for it
 pub code-class : (cl : Class) → classAt (codeOf cl) ≡ cl
@@ -82,20 +89,36 @@ all-at f (x ∷ xs) d t td zero = and-left (f x) (allOf f xs) t
 all-at f (x ∷ xs) d t td (suc n) = all-at f xs d (and-right (f x) (allOf f xs) t) td n
 
 -- ---- the ranges
-abbrev ends-fit : Class → Bool
-ends-fit cl = ltb (mag (low cl)) (2 ^ 63) && ltb (mag (high cl)) (2 ^ 63)
+abbrev fit : ℤ → Bool
+fit x = ltb (mag x) (2 ^ 63)
 
-low-fits : (n : ℕ) → SFits w64 (low (classAt n))
-low-fits n = sfits-of (ltb→lt _ _ (and-left (ltb (mag (low (classAt n))) (2 ^ 63)) (ltb (mag (high (classAt n))) (2 ^ 63)) (all-at ends-fit classes blank-c tt tt n)))
+fits : (n j : ℕ) → SFits w64 (getD (rangeOf (classAt n)) j (pos 0))
+fits n j = sfits-of (ltb→lt _ _ (all-at fit (rangeOf (classAt n)) (pos 0) (all-at (λ cl. allOf fit (rangeOf cl)) classes blank-c tt tt n) tt j))
 
-high-fits : (n : ℕ) → SFits w64 (high (classAt n))
-high-fits n = sfits-of (ltb→lt _ _ (and-right (ltb (mag (low (classAt n))) (2 ^ 63)) (ltb (mag (high (classAt n))) (2 ^ 63)) (all-at ends-fit classes blank-c tt tt n)))
+range-entry : (l : List Class) (n j : ℕ) → getD (getD (map rangeOf l) n []) j (pos 0) ≡ getD (rangeOf (getD l n blank-c)) j (pos 0)
+range-entry [] n zero = refl
+range-entry [] n (suc zero) = refl
+range-entry [] n (suc (suc zero)) = refl
+range-entry [] n (suc (suc (suc j))) = refl
+range-entry (x ∷ l) zero j = refl
+range-entry (x ∷ l) (suc n) j = range-entry l n j
+
+pub range-at : {t : List (List ℤ)} (n j : ℕ) → t ≡ rangeTable → toZ w64 (ofZ w64 (getD (getD t n []) j (pos 0))) ≡ getD (rangeOf (classAt n)) j (pos 0)
+unfolding rangeTable
+range-at n j e = ap (λ (u : List (List ℤ)). toZ w64 (ofZ w64 (getD (getD u n []) j (pos 0)))) e ∙ ap (λ x. toZ w64 (ofZ w64 x)) (range-entry classes n j) ∙ toZ-ofZ (fits n j)
+
+pub range-past : (n j : ℕ) → 19 ≤ n → pos 0 ≡ getD (rangeOf (classAt n)) j (pos 0)
+range-past n j h = sym (ap (λ (l : List ℤ). getD l j (pos 0)) (List·getD-eq-default (map rangeOf classes) [] h)) ∙ range-entry classes n j
+
+pub none-test : (b : Bool) {r : ℤ} → r ≡ cond b (pos 1) (pos 0) → eqb (ofZ w64 r) 1 ≡ b
+none-test true e = rw e
+none-test false e = rw e
 
 -- what the test of a number against a class's two ends says
-pub ranged : (n : ℕ) (x : ℤ) {a b : ℤ} {r : Bool} → SFits w64 x → a ≡ low (classAt n) → b ≡ high (classAt n)
-    → r ≡ within (toZ w64 (ofZ w64 a)) (toZ w64 (ofZ w64 b)) (toZ w64 (ofZ w64 x)) → r ≡ inRange (classAt n) x
+pub ranged : (n : ℕ) (x : ℤ) {a b : ℤ} {r : Bool} → SFits w64 x → a ≡ range (classAt n) .least → b ≡ range (classAt n) .greatest
+    → r ≡ between (toZ w64 (ofZ w64 a)) (toZ w64 (ofZ w64 b)) (toZ w64 (ofZ w64 x)) → r ≡ inRange (classAt n) x
 unfolding inRange
-ranged n x f p q e = rw (p, q, toZ-ofZ (low-fits n), toZ-ofZ (high-fits n), toZ-ofZ f) at e
+ranged n x f p q e = rw (p, q, toZ-ofZ (fits n 0), toZ-ofZ (fits n 1), toZ-ofZ f) at e
 
 -- ---- how many columns: no kind has a blank among its columns, and none has more than nine
 abbrev full : List Class → Bool

@@ -15,7 +15,8 @@ rowCount rows = length rows / 10
 unfoldable pub cell : List ℤ → ℕ → ℕ → ℤ
 cell rows k c = cond (ltb c 10) (getD rows (k * 10 + c) (pos 0)) (pos 0)
 
--- a column that is never negative in an accepted sheet, as a natural number
+-- A column that is never negative in an accepted sheet, as a natural number. (A negative number is read as 0. As a kind that is no kind, and in any other
+-- column of these classes refusal 3 comes before a definition that reads it.)
 abbrev pub num : List ℤ → ℕ → ℕ → ℕ
 num rows k c = toNat (cell rows k c)
 

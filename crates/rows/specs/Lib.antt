@@ -2,3 +2,4 @@ pub mod Cells
 pub mod Class
 pub mod Ranges
 pub mod Table
+pub mod inner

@@ -1,30 +1,8 @@
 -- The 24 kinds of rows and their columns. Assumes nothing.
-use Prim.Native.Nat.{ℕ, zero, suc, _-_}
-use mathlib.Core.List.{List, [], _∷_, _++_, map}
-use lib.ListN.{length, getD, replicate}
-use Rattle.rows.specs.Class.{
-  Class,
-  blank-c,
-  kind-c,
-  id-c,
-  n-c,
-  u-c,
-  t-c,
-  m-c,
-  g-c,
-  f-c,
-  share-c,
-  speed-c,
-  n?-c,
-  t?-c,
-  m?-c,
-  task-c,
-  activity-c,
-  resource-c,
-  requirement-c,
-  constraint-c,
-  codeOf,
-}
+use Prim.Native.Nat.{ℕ, zero, suc}
+use mathlib.Core.List.{List, [], _∷_}
+use lib.ListN.{length, getD}
+use Rattle.rows.specs.Class.{Class, blank-c, kind-c, id-c, n-c, u-c, t-c, m-c, g-c, f-c, share-c, speed-c, n?-c, t?-c, m?-c, task-c, activity-c, resource-c, requirement-c, constraint-c}
 
 -- the columns of the kinds 0 (there is none), 1, 2 .., from column 1 on
 abbrev pub columns : List (List Class)
@@ -60,10 +38,6 @@ columns =
 abbrev pub classOf : ℕ → ℕ → Class
 classOf kind zero = kind-c
 classOf kind (suc c) = getD (getD columns kind []) c blank-c
-
--- the nine columns after column 0 in the code's numbers
-abbrev pub columnCodes : ℕ → List ℕ
-columnCodes kind = map codeOf (getD columns kind []) ++ replicate (9 - length (getD columns kind [])) 0
 
 -- how many columns a kind has
 unfoldable pub width : ℕ → ℕ

@@ -5,10 +5,11 @@ ghost use mathlib.Core.Bool.{Bool, _&&_};
 ghost use Prim.Native.Nat.{ℕ, _+_, _<_, _≤_};
 ghost use lib.IntN.{ℤ, pos, negsuc};
 ghost use lib.Dec.{eqb};
+ghost use lib.ListN.{getD};
 ghost use Rattle.loops.specs.Numbers.{toNat};
-ghost use Rattle.rows.specs.Table.{columnCodes, classOf, width};
-ghost use Rattle.rows.specs.Class.{codeOf, classAt};
-ghost use Rattle.rows.specs.Ranges.{within, isNone, low, high, inRange, orNone, inClass};
+ghost use Rattle.rows.specs.Table.{classOf, width};
+ghost use Rattle.rows.specs.inner.Codes.{classTable, codeOf, classAt, rangeOf, rangeTable};
+ghost use Rattle.rows.specs.Ranges.{range, between, isNone, inRange, inClass};
 ghost use Rattle.rows.specs.Cells.{rowCount, cell, num, is};
 
 // The classes of columns. What names an owner that must be in the sheet has a class of its own.
@@ -50,61 +51,66 @@ const REQ: u8 = 17;
 
 const CON: u8 = 18;
 
-// The columns of a kind, from column 1 on. A match, since a constant table is laid out anew at each read.
-fn columns_of(kind: u64) -> [u8; 9]
-    ensures { λ r. ⌜ r ≡ columnCodes kind ⌝ }
+// The columns of each kind, from column 1 on.
+const CLASSES: [[u8; 9]; 25] = [
+    [X, X, X, X, X, X, X, X, X],
+    [ID, TQ, TQ, X, X, X, X, X, X],
+    [ID, TASK, N, M, M, M, F, TQ, X],
+    [ACT, SHARE, G, X, X, X, X, X, X],
+    [ACT, N, M, M, X, X, X, X, X],
+    [ACT, ID, N, U, X, X, X, X, X],
+    [ACT, REQ, ID, X, X, X, X, X, X],
+    [ACT, REQ, ID, X, X, X, X, X, X],
+    [ACT, ID, X, X, X, X, X, X, X],
+    [ACT, ID, SPEED, X, X, X, X, X, X],
+    [ACT, ID, M, M, M, X, X, X, X],
+    [ID, ID, N, X, X, X, X, X, X],
+    [RES, ID, X, X, X, X, X, X, X],
+    [RES, ID, X, X, X, X, X, X, X],
+    [RES, ID, M, X, X, X, X, X, X],
+    [RES, F, T, T, X, X, X, X, X],
+    [ACT, F, T, T, X, X, X, X, X],
+    [ID, ID, G, X, X, X, X, X, X],
+    [ID, N, X, X, X, X, X, X, X],
+    [ID, T, T, X, X, X, X, X, X],
+    [ID, X, X, X, X, X, X, X, X],
+    [X, X, X, X, X, X, X, X, X],
+    [CON, ID, X, X, X, X, X, X, X],
+    [ID, ID, ID, T, T, M, NQ, MQ, X],
+    [ID, ID, T, T, X, X, X, X, X],
+];
+
+// The table laid out once, to be lent to its readers: a constant is laid out anew wherever it is named.
+pub fn class_table() -> [[u8; 9]; 25]
+    ensures { λ r. ⌜ r ≡ classTable ⌝ }
 {
-    match kind {
-        0 => [X, X, X, X, X, X, X, X, X],
-        1 => [ID, TQ, TQ, X, X, X, X, X, X],
-        2 => [ID, TASK, N, M, M, M, F, TQ, X],
-        3 => [ACT, SHARE, G, X, X, X, X, X, X],
-        4 => [ACT, N, M, M, X, X, X, X, X],
-        5 => [ACT, ID, N, U, X, X, X, X, X],
-        6 => [ACT, REQ, ID, X, X, X, X, X, X],
-        7 => [ACT, REQ, ID, X, X, X, X, X, X],
-        8 => [ACT, ID, X, X, X, X, X, X, X],
-        9 => [ACT, ID, SPEED, X, X, X, X, X, X],
-        10 => [ACT, ID, M, M, M, X, X, X, X],
-        11 => [ID, ID, N, X, X, X, X, X, X],
-        12 => [RES, ID, X, X, X, X, X, X, X],
-        13 => [RES, ID, X, X, X, X, X, X, X],
-        14 => [RES, ID, M, X, X, X, X, X, X],
-        15 => [RES, F, T, T, X, X, X, X, X],
-        16 => [ACT, F, T, T, X, X, X, X, X],
-        17 => [ID, ID, G, X, X, X, X, X, X],
-        18 => [ID, N, X, X, X, X, X, X, X],
-        19 => [ID, T, T, X, X, X, X, X, X],
-        20 => [ID, X, X, X, X, X, X, X, X],
-        21 => [X, X, X, X, X, X, X, X, X],
-        22 => [CON, ID, X, X, X, X, X, X, X],
-        23 => [ID, ID, ID, T, T, M, NQ, MQ, X],
-        24 => [ID, ID, T, T, X, X, X, X, X],
-        _ => [X; 9],
-    }
+    CLASSES
 }
 
 // The class of column c in a row of a kind.
-pub fn class_of(kind: u64, c: usize) -> u8
+pub fn class_of(table: &[[u8; 9]; 25], kind: u64, c: usize) -> u8
+    requires { ⌜ now table ≡ classTable ⌝ }
     ensures { λ r. ⌜ r ≡ codeOf (classOf kind c) ⌝ }
 {
     if c == 0 {
         return KIND;
     }
     if c < 10 {
-        let columns = columns_of(kind);
-        return columns[c - 1];
+        if kind < 25 {
+            return table[kind as usize][c - 1];
+        }
     }
     X
 }
 
 // How many columns a kind has.
-pub fn width_of(kind: u64) -> usize
+pub fn width_of(table: &[[u8; 9]; 25], kind: u64) -> usize
+    requires { ⌜ now table ≡ classTable ⌝ }
     ensures { λ r. ⌜ r ≡ width kind ⌝ }
 {
     let mut c = 1;
     while c < 10 {
-        if class_of(kind, c) == X {
+        if class_of(table, kind, c) == X {
             return c - 1;
         }
         c += 1;
@@ -114,7 +120,7 @@ pub fn width_of(kind: u64) -> usize
 
 // Whether x lies between low and high, both included.
 fn is_within(low: i64, high: i64, x: i64) -> bool
-    ensures { λ r. ⌜ r ≡ within low high x ⌝ }
+    ensures { λ r. ⌜ r ≡ between low high x ⌝ }
 {
     low <= x && x <= high
 }
@@ -126,105 +132,72 @@ pub fn is_none(x: i64) -> bool
     is_within(-9223372036854775808, -9223372036854775808, x)
 }
 
-// The least number of a class.
-fn low_of(class: u8) -> i64
-    ensures { λ r. ⌜ r ≡ low (classAt class) ⌝ }
+// Of each class the least number, the greatest, and 1 where it may be none.
+const RANGES: [[i64; 3]; 19] = [
+    [0, 0, 0],
+    [-9223372036854775808, 9223372036854775807, 0],
+    [0, 999999999, 0],
+    [-1000000, 1000000, 0],
+    [0, 1000000, 0],
+    [0, 4000000000000, 0],
+    [0, 4000000000000, 0],
+    [-4000000000000, 4000000000000, 0],
+    [0, 1, 0],
+    [0, 0x3ff0_0000_0000_0000, 0],
+    [0x3f50_0000_0000_0000, 0x4090_0000_0000_0000, 0],
+    [-1000000, 1000000, 1],
+    [0, 4000000000000, 1],
+    [0, 4000000000000, 1],
+    [0, 999999999, 0],
+    [0, 999999999, 0],
+    [0, 999999999, 0],
+    [0, 1000000, 0],
+    [0, 1000000, 0],
+];
+
+// The same, laid out once.
+pub fn range_table() -> [[i64; 3]; 19]
+    ensures { λ r. ⌜ r ≡ rangeTable ⌝ }
 {
-    match class {
-        X => 0,
-        KIND => -9223372036854775808,
-        ID => 0,
-        N => -1000000,
-        U => 0,
-        T => 0,
-        M => 0,
-        G => -4000000000000,
-        F => 0,
-        SHARE => 0,
-        SPEED => 0x3f50_0000_0000_0000,
-        NQ => -1000000,
-        TQ => 0,
-        MQ => 0,
-        TASK => 0,
-        ACT => 0,
-        RES => 0,
-        REQ => 0,
-        CON => 0,
-        _ => 0,
-    }
+    RANGES
 }
 
-// The greatest number of a class.
-fn high_of(class: u8) -> i64
-    ensures { λ r. ⌜ r ≡ high (classAt class) ⌝ }
+// Column j of a class's ranges.
+fn range_at(ranges: &[[i64; 3]; 19], class: u8, j: usize) -> i64
+    requires { ⌜ (now ranges ≡ rangeTable) × (j < 3) ⌝ }
+    ensures { λ r. ⌜ r ≡ getD (rangeOf (classAt class)) j (pos 0) ⌝ }
 {
-    match class {
-        X => 0,
-        KIND => 9223372036854775807,
-        ID => 999999999,
-        N => 1000000,
-        U => 1000000,
-        T => 4000000000000,
-        M => 4000000000000,
-        G => 4000000000000,
-        F => 1,
-        SHARE => 0x3ff0_0000_0000_0000,
-        SPEED => 0x4090_0000_0000_0000,
-        NQ => 1000000,
-        TQ => 4000000000000,
-        MQ => 4000000000000,
-        TASK => 999999999,
-        ACT => 999999999,
-        RES => 999999999,
-        REQ => 1000000,
-        CON => 1000000,
-        _ => 0,
+    if class < 19 {
+        return ranges[class as usize][j];
     }
+    0
 }
 
 // Whether x lies in the range of the class; whether it may be none is another question.
-fn in_range(class: u8, x: i64) -> bool
+fn in_range(ranges: &[[i64; 3]; 19], class: u8, x: i64) -> bool
+    requires { ⌜ now ranges ≡ rangeTable ⌝ }
     ensures { λ r. ⌜ r ≡ inRange (classAt class) x ⌝ }
 {
-    is_within(low_of(class), high_of(class), x)
+    is_within(range_at(ranges, class, 0), range_at(ranges, class, 1), x)
 }
 
 // Whether a class has none.
-fn or_none(class: u8) -> bool
-    ensures { λ r. ⌜ r ≡ orNone (classAt class) ⌝ }
+fn or_none(ranges: &[[i64; 3]; 19], class: u8) -> bool
+    requires { ⌜ now ranges ≡ rangeTable ⌝ }
+    ensures { λ r. ⌜ r ≡ range (classAt class) .none? ⌝ }
 {
-    match class {
-        X => false,
-        KIND => false,
-        ID => false,
-        N => false,
-        U => false,
-        T => false,
-        M => false,
-        G => false,
-        F => false,
-        SHARE => false,
-        SPEED => false,
-        NQ => true,
-        TQ => true,
-        MQ => true,
-        TASK => false,
-        ACT => false,
-        RES => false,
-        REQ => false,
-        CON => false,
-        _ => false,
-    }
+    range_at(ranges, class, 2) == 1
 }
 
 // Whether x may stand in a column of the class.
-pub fn in_class(class: u8, x: i64) -> bool
+pub fn in_class(ranges: &[[i64; 3]; 19], class: u8, x: i64) -> bool
+    requires { ⌜ now ranges ≡ rangeTable ⌝ }
     ensures { λ r. ⌜ r ≡ inClass (classAt class) x ⌝ }
 {
-    if in_range(class, x) {
+    if in_range(ranges, class, x) {
         return true;
     }
-    if or_none(class) {
+    if or_none(ranges, class) {
         return is_none(x);
     }
     false

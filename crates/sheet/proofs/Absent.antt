@@ -1,8 +1,8 @@
 -- Refusal 4 by the kind of the owner: the table of kinds and columns says which columns name one, and `ownerKind` which row that is.
 -- Assumes nothing.
-use Prim.Native.Nat.{ℕ, zero, suc, _+_, _<_, _≤_}
+use Prim.Native.Nat.{ℕ, suc, _+_, _<_, _≤_}
 use mathlib.Core.Path.{_≡_, refl, ap, sym, _∙_}
-use mathlib.Core.Bool.{Bool, true, false, not, cond, _&&_, _||_, or-false, or-true, true≢false, false≢true}
+use mathlib.Core.Bool.{Bool, true, false, not, cond, _&&_, _||_, or-false, or-true, false≢true}
 use mathlib.Core.List.{List, []}
 use mathlib.Core.Option.{Option, none, some}
 use native.Mathlib.Omega.{arith}
@@ -12,38 +12,17 @@ use lib.IntN.{ℤ}
 use lib.ListN.{List·getD-eq-default}
 use borrow.Author.Tests.{eqb-true, ne-eqb, lt-ltb, le-ltb, le-leb, lt-leb, not-false}
 use Rattle.loops.specs.Search.{anyBelow}
+use Rattle.loops.proofs.BoolLaws.{and-left, and-right}
 use Rattle.loops.proofs.SearchLaws.{any-none}
 use Rattle.rows.specs.Cells.{rowCount, num, is}
-use Rattle.rows.specs.Class.{
-  Class,
-  blank-c,
-  kind-c,
-  id-c,
-  n-c,
-  u-c,
-  t-c,
-  m-c,
-  g-c,
-  f-c,
-  share-c,
-  speed-c,
-  n?-c,
-  t?-c,
-  m?-c,
-  task-c,
-  activity-c,
-  resource-c,
-  requirement-c,
-  constraint-c,
-  classAt,
-  codeOf,
-}
+use Rattle.rows.specs.Class.{Class, blank-c, kind-c, id-c, n-c, u-c, t-c, m-c, g-c, f-c, share-c, speed-c, n?-c, t?-c, m?-c, task-c, activity-c, resource-c, requirement-c, constraint-c}
+use Rattle.rows.specs.inner.Codes.{classAt, codeOf}
 use Rattle.rows.specs.Table.{columns, classOf}
 use Rattle.rows.proofs.Tables.{code-class}
-use Rattle.sheet.specs.Places.{named, activityPlace, requirementPlace, nthPlace, isConstraint}
-use Rattle.sheet.specs.Index.{ownerKinds, ownerKind, ownerOf, ownerPlace, orEnd, ownPlace}
+use Rattle.sheet.specs.Places.{named, activityPlace, nthPlace}
+use Rattle.sheet.specs.inner.Index.{ownerKind, ownerOf, orEnd, ownPlace}
 use Rattle.sheet.specs.Refusals.{isAbsent, hasMembers, lacks, absentAt, unowned}
-use Rattle.sheet.proofs.Lookups.{and-left, and-right, is-num, nth-at}
+use Rattle.sheet.proofs.Lookups.{is-num, nth-at}
 use Rattle.sheet.proofs.Tables.{own-at, owner-within}
 
 -- ---- the columns that name no owner

@@ -1,28 +1,19 @@
 -- Laws of the lookups: a row by kind and id, and number m of the rows that pass a test. Assumes nothing.
 use Prim.Native.Nat.{ℕ, zero, suc, _+_, _<_, _≤_}
-use mathlib.Core.Path.{_≡_, refl, sym, ap, _∙_}
-use mathlib.Core.Bool.{Bool, true, false, cond, _&&_, and-false, true≢false}
+use mathlib.Core.Path.{_≡_, refl, sym, _∙_}
+use mathlib.Core.Bool.{Bool, true, false, cond, _&&_}
 use mathlib.Core.List.{List}
-use mathlib.Core.Option.{Option, none, some}
+use mathlib.Core.Option.{none, some}
 use native.Mathlib.Omega.{arith}
-use native.Mathlib.Decide.{decLt}
 use lib.Dec.{eqb}
 use lib.IntN.{ℤ}
 use borrow.Author.Tests.{eqb-true, eq-eqb, ne-eqb}
 use Rattle.loops.specs.Search.{orElse, someIf, firstPlace, countBelow}
-use Rattle.loops.specs.Chain.{Stands, Blind}
-use Rattle.loops.proofs.PlaceLaws.{found-at, count-same}
-use Rattle.loops.proofs.SearchLaws.{count-le}
+use Rattle.loops.specs.inner.Chain.{Stands, Blind}
+use Rattle.loops.proofs.BoolLaws.{and-left, and-right}
+use Rattle.loops.proofs.PlaceLaws.{found-at}
 use Rattle.rows.specs.Cells.{rowCount, num, is}
 use Rattle.sheet.specs.Places.{ofKind, named, placeOf, isNth, nthPlace}
-
-pub and-left : (a b : Bool) → (a && b) ≡ true → a ≡ true
-and-left true b e = refl
-and-left false b e = e
-
-pub and-right : (a b : Bool) → (a && b) ≡ true → b ≡ true
-and-right true b e = e
-and-right false b e = absurd (true≢false (sym e))
 
 pub is-num : (rows : List ℤ) (k c v : ℕ) → is rows k c v ≡ true → num rows k c ≡ v
 unfolding is
@@ -61,6 +52,9 @@ placed rows x id k e =
 
 -- ---- number m of the rows that pass a test
 
+pub self-blind : (p : ℕ → Bool) → Blind p p
+self-blind p = record { still = λ k e. e }
+
 pub nth-blind : {p q : ℕ → Bool} (m : ℕ) → Blind p q → Blind p (isNth q m)
 unfolding isNth
 nth-blind m h = record { still = λ k e. let z : _ ≡ false = h .still k e in rw z }
@@ -69,6 +63,15 @@ module _ (q : ℕ → Bool) (m : ℕ) where
   pub is-nth : (k : ℕ) {y b : Bool} {s : ℕ} → s ≡ countBelow q k → y ≡ q k → b ≡ (y && eqb s m) → isNth q m k ≡ b
   unfolding isNth
   is-nth k e f r = rw (← e, ← f) (sym r)
+
+  -- a row that passes, by its number
+  pub nth-here : (k : ℕ) {s : ℕ} → s ≡ countBelow q k → q k ≡ true → s ≡ m → isNth q m k ≡ true
+  unfolding isNth
+  nth-here k e f r = rw f (eq-eqb (countBelow q k) m (sym e ∙ r))
+
+  pub nth-other : (k : ℕ) {s : ℕ} → s ≡ countBelow q k → q k ≡ true → (s ≡ m → ⊥) → isNth q m k ≡ false
+  unfolding isNth
+  nth-other k e f r = rw f (ne-eqb (countBelow q k) m (λ z. r (e ∙ z)))
 
   -- what a row that was found has
   pub nth-at : (n k : ℕ) → nthPlace q m n ≡ some k → (k < n) × (q k ≡ true) × (countBelow q k ≡ m)

@@ -1,8 +1,8 @@
 -- Rows that name their owner by its number: candidates and wanted skills the requirement of an activity, members the constraint. The rows that belong to
 -- such a row are those that name its number. Assumes nothing.
-use Prim.Native.Nat.{ℕ, zero, suc, _+_, _<_, _≤_}
+use Prim.Native.Nat.{ℕ, zero, suc, _<_}
 use mathlib.Core.Path.{_≡_, refl, ap, sym, _∙_}
-use mathlib.Core.Bool.{Bool, true, false, cond, _&&_, true≢false, and-false}
+use mathlib.Core.Bool.{Bool, true, false, _&&_}
 use mathlib.Core.List.{List}
 use mathlib.Core.Option.{Option, none, some}
 use mathlib.Core.Logic.{⊎-elim}
@@ -13,11 +13,12 @@ use lib.Dec.{eqb}
 use lib.IntN.{ℤ}
 use borrow.Author.Tests.{eqb-true, eq-eqb, ne-eqb}
 use Rattle.loops.specs.Search.{countBelow}
+use Rattle.loops.proofs.BoolLaws.{and-left, and-right}
 use Rattle.loops.proofs.PlaceLaws.{place-only}
 use Rattle.rows.specs.Cells.{rowCount, num, is}
 use Rattle.sheet.specs.Places.{named, isNth, nthPlace, isConstraint}
-use Rattle.sheet.specs.Index.{ownerKind, ownerOf, ownerPlace, orEnd, ownPlace, ownedBy}
-use Rattle.sheet.proofs.Lookups.{and-left, and-right, is-num, num-is, nth-at}
+use Rattle.sheet.specs.inner.Index.{ownerKind, ownerOf, ownerPlace, orEnd, ownPlace, ownedBy}
+use Rattle.sheet.proofs.Lookups.{is-num, num-is, nth-at}
 
 module _ (p : ℕ → Bool) where
   -- a place that passes counts for every later place

@@ -1,18 +1,24 @@
 -- Laws of the chains by owner and kind: two kinds may share a chain, and the reader passes over the rows of the other kind. Assumes nothing.
 use Prim.Native.Nat.{ℕ, suc, _+_, _*_, _%_, _<_, _≤_}
 use mathlib.Core.Path.{_≡_, refl, sym, ap, _∙_}
-use mathlib.Core.Bool.{Bool, true, false, _&&_, true≢false}
+use mathlib.Core.Bool.{Bool, true, false, true≢false}
 use mathlib.Core.List.{List}
 use native.Mathlib.Omega.{arith}
 use native.Mathlib.Decide.{decLt}
 use lib.Dec.{eqb}
 use lib.IntN.{ℤ}
-use lib.ListN.{getD}
+use lib.ListN.{replicate}
 use borrow.Author.Tests.{eqb-true, eq-eqb}
-use Rattle.loops.specs.Chain.{same, First, Stands, Blind}
+use Rattle.loops.specs.inner.Chain.{same, First, Links, Stands, Blind}
+use Rattle.loops.proofs.BoolLaws.{and-left, and-right}
+use Rattle.loops.proofs.ChainLaws.{links-start}
 use Rattle.rows.specs.Cells.{rowCount, num, is}
-use Rattle.sheet.specs.Index.{ownPlace, ownedBy, ownedKey, Owned}
-use Rattle.sheet.proofs.Lookups.{and-left, and-right, is-num, num-is}
+use Rattle.sheet.specs.inner.Index.{ownPlace, ownedBy, ownedKey}
+use Rattle.sheet.proofs.Lookups.{is-num}
+
+-- the table that was cleared
+pub owned-start : (key : ℕ → ℕ) (n : ℕ) {t : List ℕ} (N : ℕ) → N ≡ 8810 → t ≡ replicate N n → n ≤ 800 → Links key 8010 n n t
+owned-start key n N a q l = rw (q, a) (links-start key 8010 n l (omega arith))
 
 -- a chain in a chain: what is first from the first on is first
 pub first-join : (p q : ℕ → Bool) (i n j r : ℕ) → Blind p q → First p i n j → First q j n r → First q i n r

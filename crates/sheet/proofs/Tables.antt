@@ -1,7 +1,7 @@
 -- Laws of the loops that fill the tables, and how large their entries are. Assumes nothing.
-use Prim.Native.Nat.{ℕ, zero, suc, _+_, _*_, _%_, _<_, _≤_}
+use Prim.Native.Nat.{ℕ, suc, _+_, _<_, _≤_}
 use mathlib.Core.Path.{_≡_, refl, sym, ap, _∙_}
-use mathlib.Core.Bool.{Bool, true, false, cond, _&&_}
+use mathlib.Core.Bool.{Bool, true, false, cond}
 use mathlib.Core.List.{List}
 use mathlib.Core.Option.{Option, none, some}
 use native.Mathlib.Omega.{arith}
@@ -15,16 +15,16 @@ use lib.IntN.{ℤ}
 use mir.Syntax.{w64}
 use mir.Val.{Fits}
 use borrow.Author.Tests.{eq-eqb, ne-eqb}
-use Rattle.loops.specs.Search.{orElse, someIf, countBelow}
+use Rattle.loops.specs.Search.{orElse, countBelow}
 use Rattle.loops.proofs.SearchLaws.{count-le}
 use Rattle.rows.specs.Cells.{rowCount, num, is}
-use Rattle.sheet.specs.Places.{named, placeOf, isNth, nthPlace, isConstraint, requirementPlace, constraintPlace}
-use Rattle.sheet.specs.Index.{ownerKind, ownerOf, ownerPlace, orEnd, ownPlace, resPlace, ownedKey, Numbered, Linked}
+use Rattle.sheet.specs.Places.{named, placeOf, nthPlace, isConstraint, requirementPlace, constraintPlace}
+use Rattle.sheet.specs.inner.Index.{ownerKind, ownerOf, ownerPlace, orEnd, ownPlace, resPlace, ownedKey, Numbered, Linked}
 use Rattle.sheet.proofs.Lookups.{is-nth, nth-at, nth-step, too-few, placed}
 
 -- ---- places are at most the number of rows
 
-below : (rows : List ℤ) (x : Option ℕ) → ((k : ℕ) → x ≡ some k → k < rowCount rows) → orEnd rows x ≤ rowCount rows
+pub below : (rows : List ℤ) (x : Option ℕ) → ((k : ℕ) → x ≡ some k → k < rowCount rows) → orEnd rows x ≤ rowCount rows
 unfolding orEnd
 below rows none h = omega arith
 below rows (some k) h = omega (arith, h k refl)
@@ -143,31 +143,51 @@ past-end rows m n e s l = rw (too-few (isConstraint rows) m (rowCount rows) (ome
 
 -- ---- the links
 
--- the links of the rows below k
-pub record Filling (rows : List ℤ) (k : ℕ) (t : List ℕ) : Type 0 where
+-- the links of the rows below k; the other places say n still
+pub record Filling (rows : List ℤ) (n k : ℕ) (t : List ℕ) : Type 0 where
   pub size : length t ≡ 1600
   pub own : (j : ℕ) → j < k → getD t j 0 ≡ ownPlace rows j
   pub res : (j : ℕ) → j < k → getD t (800 + j) 0 ≡ resPlace rows j
+  pub rest : (j : ℕ) → k ≤ j → j < 800 → (getD t j 0 ≡ n) × (getD t (800 + j) 0 ≡ n)
 
-pub filling-start : (rows : List ℤ) (n : ℕ) → Filling rows 0 (replicate 1600 n)
-filling-start rows n = record { size = length-replicate {A = ℕ} 1600 n; own = λ j l. absurd (omega arith); res = λ j l. absurd (omega arith) }
+pub filling-start : (rows : List ℤ) (n : ℕ) {t : List ℕ} (N : ℕ) → N ≡ 1600 → t ≡ replicate N n → Filling rows n 0 t
+filling-start rows n N a q = rw (q, a) (record {
+  size = length-replicate {A = ℕ} 1600 n;
+  own = λ j l. absurd (omega arith);
+  res = λ j l. absurd (omega arith);
+  rest = λ j l u. (getD-replicate {A = ℕ} 1600 j n 0 (omega arith), getD-replicate {A = ℕ} 1600 (800 + j) n 0 (omega arith));
+})
 
-pub filling-turn : (rows : List ℤ) (k a b : ℕ) (t t′ : List ℕ) → k < 800 → a ≡ ownPlace rows k → b ≡ resPlace rows k → t′ ≡ set (set t k a) (800 + k) b
-    → Filling rows k t → Filling rows (k + 1) t′
-filling-turn rows k a b t t′ l e f q h = record {
+pub filling-turn : (rows : List ℤ) (n k a b : ℕ) (t t′ : List ℕ) → k < 800 → a ≡ ownPlace rows k → b ≡ resPlace rows k → t′ ≡ set (set t k a) (800 + k) b
+    → Filling rows n k t → Filling rows n (k + 1) t′
+filling-turn rows n k a b t t′ l e f q h = record {
   size = ap length q ∙ length-set (set t k a) (800 + k) b ∙ length-set t k a ∙ h .size;
   own = λ j z. rw q (getD-set-other (set t k a) (800 + k) j b 0 (λ w. omega arith) ∙ owns j z (ℕ-discrete j k));
   res = λ j z. rw q (ress j z (ℕ-discrete j k));
+  rest = λ j z u. rw q (
+    kept j (λ w. omega arith) (λ w. omega arith) ∙ h .rest j (omega arith) u .0,
+    kept (800 + j) (λ w. omega arith) (λ w. omega arith) ∙ h .rest j (omega arith) u .1,
+  );
 }
   where
+    kept : (j : ℕ) → (j ≡ 800 + k → ⊥) → (j ≡ k → ⊥) → getD (set (set t k a) (800 + k) b) j 0 ≡ getD t j 0
+    kept j u w = getD-set-other (set t k a) (800 + k) j b 0 u ∙ getD-set-other t k j a 0 w
+
     owns : (j : ℕ) → j < k + 1 → Dec (j ≡ k) → getD (set t k a) j 0 ≡ ownPlace rows j
     owns j z (yes w) = rw w (getD-set-same t k a 0 (omega (arith, h .size)) ∙ e)
     owns j z (no w) = getD-set-other t k j a 0 w ∙ h .own j (omega arith)
 
     ress : (j : ℕ) → j < k + 1 → Dec (j ≡ k) → getD (set (set t k a) (800 + k) b) (800 + j) 0 ≡ resPlace rows j
     ress j z (yes w) = rw w (getD-set-same (set t k a) (800 + k) b 0 (omega (arith, length-set t k a, h .size)) ∙ f)
-    ress j z (no w) =
-        getD-set-other (set t k a) (800 + k) (800 + j) b 0 (λ y. w (omega arith)) ∙ getD-set-other t k (800 + j) a 0 (λ y. omega arith) ∙ h .res j (omega arith)
+    ress j z (no w) = kept (800 + j) (λ y. w (omega arith)) (λ y. omega arith) ∙ h .res j (omega arith)
+
+pub filling-end : (rows : List ℤ) (n k : ℕ) (t : List ℕ) → n ≤ k → k ≤ n → n ≡ rowCount rows → rowCount rows ≤ 800 → Filling rows n k t → Linked rows t
+filling-end rows n k t l u e s h = record {
+  short = s;
+  own = λ j z. h .own j (omega arith);
+  res = λ j z. h .res j (omega arith);
+  past = λ j z w. let r = h .rest j (omega arith) w in (r .0 ∙ e, r .1 ∙ e);
+}
 
 -- ---- the row that a row belongs to, by the kind of its owner
 

@@ -1,4 +1,3 @@
-pub mod Accepted
-pub mod Index
 pub mod Places
 pub mod Refusals
+pub mod inner

@@ -1,47 +1,19 @@
 -- Refusals 1 to 5: which sheets are refused, with what number, at what place, and in what order. Assumes nothing.
 use Prim.Native.Nat.{ℕ, _%_}
-use mathlib.Core.Bool.{Bool, Bool·beq, true, false, cond, not, _&&_, _||_}
+use mathlib.Core.Bool.{Bool, Bool·beq, true, false, not, _&&_, _||_}
 use mathlib.Core.List.{List, [], _∷_}
 use mathlib.Core.Option.{Option, none, some}
 use lib.IntN.{ℤ}
-use lib.ListN.{length, getD}
+use lib.ListN.{length}
 use lib.Dec.{eqb, ltb, leb}
-use Rattle.loops.specs.Search.{orElse, someIf, first, anyBelow}
+use Rattle.loops.specs.Lists.{allOf, among}
+use Rattle.loops.specs.Search.{orElse, first, anyBelow}
+use Rattle.refusals.specs.Refusals.{MISSHAPEN, UNKNOWN-KIND, OUT-OF-RANGE, STRAY, TWICE, Refusal, refuse}
 use Rattle.rows.specs.Cells.{rowCount, cell, num, is}
-use Rattle.rows.specs.Class.{
-  Class,
-  blank-c,
-  kind-c,
-  id-c,
-  n-c,
-  u-c,
-  t-c,
-  m-c,
-  g-c,
-  f-c,
-  share-c,
-  speed-c,
-  n?-c,
-  t?-c,
-  m?-c,
-  task-c,
-  activity-c,
-  resource-c,
-  requirement-c,
-  constraint-c,
-}
+use Rattle.rows.specs.Class.{Class, blank-c, kind-c, id-c, n-c, u-c, t-c, m-c, g-c, f-c, share-c, speed-c, n?-c, t?-c, m?-c, task-c, activity-c, resource-c, requirement-c, constraint-c}
 use Rattle.rows.specs.Table.{classOf}
 use Rattle.rows.specs.Ranges.{isNone, inClass}
 use Rattle.sheet.specs.Places.{taskPlace, activityPlace, resourcePlace, requirementPlace, constraintPlace}
-use Rattle.sheet.specs.declared.Verdict.{Verdict}
-use Rattle.sheet.specs.declared.Verdict.the-variants.{Fine, Refused}
-
-pub record Refusal : Type 0 where
-  pub number : ℕ
-  pub place : ℕ
-
-abbrev pub refuse : Bool → ℕ → ℕ → Option Refusal
-refuse b number place = someIf b (record { number = number; place = place })
 
 -- ---- 1
 
@@ -106,48 +78,38 @@ unowned rows k = anyBelow (absentAt rows k) 10
 
 -- ---- 5: a row that repeats an earlier one
 
--- The rows of the kinds 0, 1, 2 .. that repeat one another have one number here: tasks, activities, overlaps, splits, timings (9 and 10), resources,
--- transports. 0: the rows of the kind may repeat.
-abbrev pub groups : List ℕ
-groups = 0 ∷ 1 ∷ 2 ∷ 3 ∷ 4 ∷ 0 ∷ 0 ∷ 0 ∷ 0 ∷ 9 ∷ 9 ∷ 11 ∷ 0 ∷ 0 ∷ 14 ∷ []
+-- rows k and j are of these kinds, and have the same numbers in these columns
+abbrev pub agree : List ℤ → ℕ → ℕ → List ℕ → List ℕ → Bool
+agree rows k j kinds columns =
+    among (num rows k 0) kinds && (among (num rows j 0) kinds && allOf (λ c. eqb (num rows j c) (num rows k c)) columns)
 
-unfoldable pub group : ℕ → ℕ
-group kind = getD groups kind 0
-
--- the groups whose rows repeat one another if both columns 1 and 2 agree; in the others column 1 is enough
-unfoldable pub paired : ℕ → Bool
-paired g = eqb g 9 || eqb g 14
-
-unfoldable pub sameAt : List ℤ → ℕ → ℕ → ℕ → Bool
-sameAt rows k j c = is rows j c (num rows k c)
-
--- row k repeats row j
-unfoldable pub again : List ℤ → ℕ → ℕ → Bool
-again rows k j =
-    eqb (group (num rows j 0)) (group (num rows k 0))
-    && (sameAt rows k j 1 && cond (paired (group (num rows k 0))) (sameAt rows k j 2) true)
+-- row k repeats row j. (It is asked of rows that refusal 3 lets pass: no number in these columns is negative, and read as 0.)
+unfoldable pub repeats : List ℤ → ℕ → ℕ → Bool
+repeats rows k j =
+    agree rows k j (1 ∷ []) (1 ∷ [])  -- a task id
+    || agree rows k j (2 ∷ []) (1 ∷ [])  -- an activity id
+    || agree rows k j (11 ∷ []) (1 ∷ [])  -- a resource id
+    || agree rows k j (3 ∷ []) (1 ∷ [])  -- a second overlap of an activity
+    || agree rows k j (4 ∷ []) (1 ∷ [])  -- a second split of an activity
+    || agree rows k j (9 ∷ 10 ∷ []) (1 ∷ 2 ∷ [])  -- a second timing, by speed or fixed, of an activity and a resource
+    || agree rows k j (14 ∷ []) (1 ∷ 2 ∷ [])  -- a second transport from one resource to another
 
 unfoldable pub repeated : List ℤ → ℕ → Bool
-repeated rows k = not (eqb (group (num rows k 0)) 0) && anyBelow (again rows k) k
+repeated rows k = anyBelow (repeats rows k) k
 
 -- ---- the order: 1; row by row 2 before 3; 4 over all rows; 5 over all rows
 
 unfoldable pub columnFault : List ℤ → ℕ → Option Refusal
-columnFault rows k = orElse (refuse (not (knownKind rows k)) 2 k) (refuse (outOfRange rows k) 3 k)
+columnFault rows k = orElse (refuse (not (knownKind rows k)) UNKNOWN-KIND k) (refuse (outOfRange rows k) OUT-OF-RANGE k)
 
 unfoldable pub ownerFault : List ℤ → ℕ → Option Refusal
-ownerFault rows k = refuse (unowned rows k) 4 k
+ownerFault rows k = refuse (unowned rows k) STRAY k
 
 unfoldable pub repeatFault : List ℤ → ℕ → Option Refusal
-repeatFault rows k = refuse (repeated rows k) 5 k
+repeatFault rows k = refuse (repeated rows k) TWICE k
 
 unfoldable pub refusalOf : List ℤ → Option Refusal
 refusalOf rows =
-    orElse (refuse (misshapen (length rows)) 1 0)
+    orElse (refuse (misshapen (length rows)) MISSHAPEN 0)
     (orElse (first (columnFault rows) (rowCount rows))
     (orElse (first (ownerFault rows) (rowCount rows)) (first (repeatFault rows) (rowCount rows))))
-
--- what an answer says
-abbrev pub verdictOf : Verdict → Option Refusal
-verdictOf Fine = none
-verdictOf (Refused n k) = some (record { number = n; place = k })

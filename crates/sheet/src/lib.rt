@@ -3,13 +3,13 @@
 ghost use mathlib.Core.Path.{_≡_};
 ghost use Prim.Native.Nat.{ℕ, suc, _+_, _*_, _%_, _<_, _≤_};
 ghost use mathlib.Core.Bool.{Bool, true, false, cond, _&&_};
-ghost use lib.ListN.{length, getD, set};
+ghost use lib.ListN.{length, getD, set, replicate};
 ghost use lib.Dec.{eqb};
-ghost use Rattle.loops.specs.Search.{firstPlace, countBelow};
-ghost use Rattle.loops.specs.Chain.{First, Stands, same};
+ghost use Rattle.loops.specs.Search.{firstPlace, countBelow, anyBelow};
+ghost use Rattle.loops.specs.inner.Chain.{First, Stands, same};
 ghost use Rattle.rows.specs.Cells.{rowCount, num, is};
 ghost use Rattle.sheet.specs.Places.{foundOf, ofKind, named, placeOf, taskPlace, activityPlace, resourcePlace, requirementPlace, isConstraint, constraintPlace};
-ghost use Rattle.sheet.specs.Index.{ownerKind, orEnd, ownPlace, resPlace, ownedBy, ownedKey, Shaped, Kinds, Numbered, Linked, Owned};
+ghost use Rattle.sheet.specs.inner.Index.{nameHash, nameKey, ownerKind, orEnd, storedPlace, ownPlace, resPlace, ownedBy, ownedKey, Shaped, Kinds, Numbered, Linked, Owned};
 
 // What a lookup answers.
 pub enum Found {
@@ -17,16 +17,24 @@ pub enum Found {
     Nothing,
 }
 
-// Whether a sheet is refused, and with which number at which place.
-pub enum Verdict {
-    Fine,
-    Refused(u64, usize),
+// ---- tables that are lent
+
+// Every place of a table says n.
+fn clear(t: &mut [u16], n: u16)
+    ensures { λ _. ⌜ now (t .exit) ≡ replicate (length (now (t .entry))) n ⌝ }
+{
+    let end = t.len();
+    let mut j = 0;
+    while j < end {
+        t[j] = n;
+        j += 1;
+    }
 }
 
 // ---- rows by kind
 
 // Row i before the other rows of its kind.
-fn link_kind(t: &mut [u16; 832], k: usize, i: usize)
+fn link_kind(t: &mut [u16; 3680], k: usize, i: usize)
     requires { ⌜ (i < 800) × (k < 32) ⌝ }
     ensures { λ _. ⌜ now (t .exit) ≡ set (set (now (t .entry)) i (getD (now (t .entry)) (800 + k) 0)) (800 + k) i ⌝ }
 {
@@ -35,23 +43,43 @@ fn link_kind(t: &mut [u16; 832], k: usize, i: usize)
     t[800 + k] = i as u16;
 }
 
-// The rows by kind: the next row of row i's kind at place i, the first row of kind k at place 800 + k.
-pub fn kinds_of(rows: &[i64]) -> [u16; 832]
-    requires { ⌜ Shaped (now rows) ⌝ }
-    ensures { λ r. ⌜ Kinds (now (rows .entry)) r ⌝ }
+// The chain of a kind and a number in column 1; other pairs may share it. The remainder of a power of two is a mask.
+fn name_key(x: usize, id: u64) -> usize
+    requires { ⌜ x < 32 ⌝ }
+    ensures { λ r. ⌜ r ≡ nameHash x id ⌝ }
+{
+    ((id % 2048) as usize * 37 + x * 389) % 2048
+}
+
+// Row i before the other rows of its name's chain.
+fn link_name(t: &mut [u16; 3680], k: usize, i: usize)
+    requires { ⌜ (i < 800) × (k < 2048) ⌝ }
+    ensures { λ _. ⌜ now (t .exit) ≡ set (set (now (t .entry)) (832 + i) (getD (now (t .entry)) (832 + (800 + k)) 0)) (832 + (800 + k)) i ⌝ }
+{
+    let head = t[832 + (800 + k)];
+    t[832 + i] = head;
+    t[832 + (800 + k)] = i as u16;
+}
+
+// Fills the table of the rows by kind: the next row of row i's kind at place i, the first row of kind k at place 800 + k.
+// Behind them the rows by kind and name, in the same way: the next row of row i's chain at place 832 + i, the first row of chain k at place 1632 + k.
+pub fn kinds_into(rows: &[i64], t: &mut [u16; 3680])
+    requires { ⌜ Shaped (now rows) × (length (now t) ≡ 3680) ⌝ }
+    ensures { λ _. ⌜ Kinds (now (rows .entry)) (now (t .exit)) ⌝ }
 {
     let n = rows::row_count(rows);
-    let mut t = [n as u16; 832];
+    clear(t, n as u16);
     let mut i = n;
     while 0 < i {
         i -= 1;
-        link_kind(&mut t, rows::num_at(rows, i, 0) as usize, i);
+        let x = rows::num_at(rows, i, 0);
+        link_kind(t, x as usize, i);
+        link_name(t, name_key(x as usize, rows::num_at(rows, i, 1)), i);
     }
-    t
 }
 
 // The first row of kind k.
-pub fn first_of(rows: &[i64], kinds: &[u16; 832], k: usize) -> usize
+pub fn first_of(rows: &[i64], kinds: &[u16; 3680], k: usize) -> usize
     requires { ⌜ Kinds (now rows) (now kinds) × (k < 32) ⌝ }
     ensures { λ r. ⌜ First (ofKind (now (rows .entry)) k) 0 (rowCount (now (rows .entry))) r ⌝ }
 {
@@ -59,7 +87,7 @@ pub fn first_of(rows: &[i64], kinds: &[u16; 832], k: usize) -> usize
 }
 
 // The next row of kind k after row i of that kind.
-pub fn next_of(rows: &[i64], kinds: &[u16; 832], k: usize, i: usize) -> usize
+pub fn next_of(rows: &[i64], kinds: &[u16; 3680], k: usize, i: usize) -> usize
     requires { ⌜ Kinds (now rows) (now kinds) × Stands (ofKind (now rows) k) (rowCount (now rows)) i × (i < rowCount (now rows)) ⌝ }
     ensures { λ r. ⌜ First (ofKind (now (rows .entry)) k) (suc i) (rowCount (now (rows .entry))) r ⌝ }
 {
@@ -68,37 +96,72 @@ pub fn next_of(rows: &[i64], kinds: &[u16; 832], k: usize, i: usize) -> usize
 
 // ---- lookups
 
+fn is_named(rows: &[i64], x: usize, id: u64, i: usize) -> bool
+    ensures { λ r. ⌜ r ≡ named (now (rows .entry)) x id i ⌝ }
+{
+    if !rows::is_at(rows, i, 1, id) {
+        return false;
+    }
+    rows::is_at(rows, i, 0, x as u64)
+}
+
+// The first row of kind x with that number in column 1 from row j on, along their chain.
+fn skip_named(rows: &[i64], kinds: &[u16; 3680], x: usize, id: u64, j: usize) -> usize
+    requires { ⌜ Kinds (now rows) (now kinds) × Stands (same (nameKey (now rows)) (nameHash x id)) (rowCount (now rows)) j ⌝ }
+    ensures { λ r. ⌜ First (named (now (rows .entry)) x id) j (rowCount (now (rows .entry))) r ⌝ }
+{
+    let n = rows::row_count(rows);
+    let mut i = j;
+    while i < n {
+        if is_named(rows, x, id, i) {
+            return i;
+        }
+        i = kinds[832 + i] as usize;
+    }
+    i
+}
+
+// The first row of kind x with that number in column 1.
+pub fn first_named(rows: &[i64], kinds: &[u16; 3680], x: usize, id: u64) -> usize
+    requires { ⌜ Kinds (now rows) (now kinds) × (x < 32) ⌝ }
+    ensures { λ r. ⌜ First (named (now (rows .entry)) x id) 0 (rowCount (now (rows .entry))) r ⌝ }
+{
+    let j = kinds[832 + (800 + name_key(x, id))] as usize;
+    skip_named(rows, kinds, x, id, j)
+}
+
+// The next such row after row i, which is one.
+pub fn next_named(rows: &[i64], kinds: &[u16; 3680], x: usize, id: u64, i: usize) -> usize
+    requires { ⌜ Kinds (now rows) (now kinds) × Stands (named (now rows) x id) (rowCount (now rows)) i × (i < rowCount (now rows)) ⌝ }
+    ensures { λ r. ⌜ First (named (now (rows .entry)) x id) (suc i) (rowCount (now (rows .entry))) r ⌝ }
+{
+    let j = kinds[832 + i] as usize;
+    skip_named(rows, kinds, x, id, j)
+}
+
 // The first row of kind x with that id.
-pub fn find_named(rows: &[i64], kinds: &[u16; 832], x: usize, id: u64) -> Found
+pub fn find_named(rows: &[i64], kinds: &[u16; 3680], x: usize, id: u64) -> Found
     requires { ⌜ Kinds (now rows) (now kinds) × (x < 32) ⌝ }
     ensures { λ r. ⌜ foundOf r ≡ placeOf (now (rows .entry)) x id ⌝ }
 {
-    let n = rows::row_count(rows);
-    let mut i = first_of(rows, kinds, x);
-    while i < n {
-        if rows::is_at(rows, i, 1, id) {
-            return Found::At(i);
-        }
-        i = next_of(rows, kinds, x, i);
-    }
-    Found::Nothing
+    found_at(rows, first_named(rows, kinds, x, id))
 }
 
-pub fn find_task(rows: &[i64], kinds: &[u16; 832], id: u64) -> Found
+pub fn find_task(rows: &[i64], kinds: &[u16; 3680], id: u64) -> Found
     requires { ⌜ Kinds (now rows) (now kinds) ⌝ }
     ensures { λ r. ⌜ foundOf r ≡ taskPlace (now (rows .entry)) id ⌝ }
 {
     find_named(rows, kinds, 1, id)
 }
 
-pub fn find_activity(rows: &[i64], kinds: &[u16; 832], id: u64) -> Found
+fn find_activity(rows: &[i64], kinds: &[u16; 3680], id: u64) -> Found
     requires { ⌜ Kinds (now rows) (now kinds) ⌝ }
     ensures { λ r. ⌜ foundOf r ≡ activityPlace (now (rows .entry)) id ⌝ }
 {
     find_named(rows, kinds, 2, id)
 }
 
-pub fn find_resource(rows: &[i64], kinds: &[u16; 832], id: u64) -> Found
+pub fn find_resource(rows: &[i64], kinds: &[u16; 3680], id: u64) -> Found
     requires { ⌜ Kinds (now rows) (now kinds) ⌝ }
     ensures { λ r. ⌜ foundOf r ≡ resourcePlace (now (rows .entry)) id ⌝ }
 {
@@ -113,27 +176,20 @@ fn more(n: u64, yes: bool) -> u64
     if yes { n + 1 } else { n }
 }
 
-fn is_number(yes: bool, seen: u64, m: u64) -> bool
-    ensures { λ r. ⌜ r ≡ (yes && eqb seen m) ⌝ }
-{
-    yes && seen == m
-}
-
 // Requirement m, from 0, of an activity.
-pub fn find_requirement(rows: &[i64], kinds: &[u16; 832], activity: u64, m: u64) -> Found
+fn find_requirement(rows: &[i64], kinds: &[u16; 3680], activity: u64, m: u64) -> Found
     requires { ⌜ Kinds (now rows) (now kinds) ⌝ }
     ensures { λ r. ⌜ foundOf r ≡ requirementPlace (now (rows .entry)) activity m ⌝ }
 {
     let n = rows::row_count(rows);
     let mut seen: u64 = 0;
-    let mut i = first_of(rows, kinds, 5);
+    let mut i = first_named(rows, kinds, 5, activity);
     while i < n {
-        let yes = rows::is_at(rows, i, 1, activity);
-        if is_number(yes, seen, m) {
+        if seen == m {
             return Found::At(i);
         }
-        seen = more(seen, yes);
-        i = next_of(rows, kinds, 5, i);
+        seen += 1;
+        i = next_named(rows, kinds, 5, activity, i);
     }
     Found::Nothing
 }
@@ -188,39 +244,42 @@ fn constraint_at(rows: &[i64], numbers: &[u16; 800], m: u64) -> usize
 
 // ---- the row that a row belongs to
 
-// The kind of the row that a row of a kind belongs to, 0 for none; 17 stands for the constraints. A match, since a constant table is laid out
-// anew at each read.
-pub fn owner_kind(kind: u64) -> u64
+// The kind of the row that a row of each kind belongs to, 0 for none; 17 stands for the constraints.
+const OWNER_KINDS: [u8; 25] = [
+    0,
+    0,
+    1,
+    2,
+    2,
+    2,
+    5,
+    5,
+    2,
+    2,
+    2,
+    0,
+    11,
+    11,
+    11,
+    11,
+    2,
+    0,
+    0,
+    0,
+    0,
+    0,
+    17,
+    2,
+    2,
+];
+
+pub fn owner_kind(kind: u64) -> u8
     ensures { λ r. ⌜ r ≡ ownerKind kind ⌝ }
 {
-    match kind {
-        0 => 0,
-        1 => 0,
-        2 => 1,
-        3 => 2,
-        4 => 2,
-        5 => 2,
-        6 => 5,
-        7 => 5,
-        8 => 2,
-        9 => 2,
-        10 => 2,
-        11 => 0,
-        12 => 11,
-        13 => 11,
-        14 => 11,
-        15 => 11,
-        16 => 2,
-        17 => 0,
-        18 => 0,
-        19 => 0,
-        20 => 0,
-        21 => 0,
-        22 => 17,
-        23 => 2,
-        24 => 2,
-        _ => 0,
+    if kind < 25 {
+        return OWNER_KINDS[kind as usize];
     }
+    0
 }
 
 // A place as a number, the number of rows for none.
@@ -233,7 +292,17 @@ pub fn or_end(rows: &[i64], f: Found) -> usize
     }
 }
 
-fn own_place(rows: &[i64], kinds: &[u16; 832], numbers: &[u16; 800], k: usize) -> usize
+// The row that a stored place names.
+pub fn found_at(rows: &[i64], i: usize) -> Found
+    ensures { λ r. ⌜ foundOf r ≡ storedPlace (now (rows .entry)) i ⌝ }
+{
+    if i < rows::row_count(rows) {
+        return Found::At(i);
+    }
+    Found::Nothing
+}
+
+fn own_place(rows: &[i64], kinds: &[u16; 3680], numbers: &[u16; 800], k: usize) -> usize
     requires { ⌜ Kinds (now rows) (now kinds) × Numbered (now rows) (now numbers) ⌝ }
     ensures { λ r. ⌜ r ≡ ownPlace (now (rows .entry)) k ⌝ }
 {
@@ -258,7 +327,7 @@ fn own_place(rows: &[i64], kinds: &[u16; 832], numbers: &[u16; 800], k: usize) -
     rows::row_count(rows)
 }
 
-fn res_place(rows: &[i64], kinds: &[u16; 832], k: usize) -> usize
+fn res_place(rows: &[i64], kinds: &[u16; 3680], k: usize) -> usize
     requires { ⌜ Kinds (now rows) (now kinds) ⌝ }
     ensures { λ r. ⌜ r ≡ resPlace (now (rows .entry)) k ⌝ }
 {
@@ -276,22 +345,21 @@ fn set_links(t: &mut [u16; 1600], k: usize, own: usize, res: usize)
     t[800 + k] = res as u16;
 }
 
-// The row that row k belongs to at place k, the row of a booking's resource at place 800 + k.
-pub fn links_of(rows: &[i64], kinds: &[u16; 832]) -> [u16; 1600]
-    requires { ⌜ Kinds (now rows) (now kinds) ⌝ }
-    ensures { λ r. ⌜ Linked (now (rows .entry)) r ⌝ }
+// Fills the table of owners: the row that row k belongs to at place k, the row of a booking's resource at place 800 + k.
+pub fn links_into(rows: &[i64], kinds: &[u16; 3680], t: &mut [u16; 1600])
+    requires { ⌜ Kinds (now rows) (now kinds) × (length (now t) ≡ 1600) ⌝ }
+    ensures { λ _. ⌜ Linked (now (rows .entry)) (now (t .exit)) ⌝ }
 {
     let n = rows::row_count(rows);
     let numbers = numbers_of(rows);
-    let mut t = [n as u16; 1600];
+    clear(t, n as u16);
     let mut k = 0;
     while k < n {
         let own = own_place(rows, kinds, &numbers, k);
         let res = res_place(rows, kinds, k);
-        set_links(&mut t, k, own, res);
+        set_links(t, k, own, res);
         k += 1;
     }
-    t
 }
 
 // The row that row k belongs to, or the number of rows.
@@ -308,6 +376,22 @@ pub fn resource_of(rows: &[i64], links: &[u16; 1600], k: usize) -> usize
     ensures { λ r. ⌜ r ≡ resPlace (now (rows .entry)) k ⌝ }
 {
     links[800 + k] as usize
+}
+
+// The row of the activity that row k, a booking or a time-only span, names.
+pub fn activity_of(rows: &[i64], links: &[u16; 1600], k: usize) -> Found
+    requires { ⌜ Linked (now rows) (now links) × (k < rowCount (now rows)) × (ownerKind (num (now rows) k 0) ≡ 2) ⌝ }
+    ensures { λ r. ⌜ foundOf r ≡ activityPlace (now (rows .entry)) (num (now (rows .entry)) k 1) ⌝ }
+{
+    found_at(rows, owner_of(rows, links, k))
+}
+
+// The row of the resource that booking k names.
+pub fn booked_resource(rows: &[i64], links: &[u16; 1600], k: usize) -> Found
+    requires { ⌜ Linked (now rows) (now links) × (k < rowCount (now rows)) × (is (now rows) k 0 23 ≡ true) ⌝ }
+    ensures { λ r. ⌜ foundOf r ≡ resourcePlace (now (rows .entry)) (num (now (rows .entry)) k 3) ⌝ }
+{
+    found_at(rows, resource_of(rows, links, k))
 }
 
 // ---- the rows that belong to a row
@@ -331,19 +415,18 @@ fn owned_key(rows: &[i64], links: &[u16; 1600], k: usize) -> usize
     own * 10 + digit as usize
 }
 
-// The rows by owner and kind.
-pub fn owned_of(rows: &[i64], links: &[u16; 1600]) -> [u16; 8810]
-    requires { ⌜ Linked (now rows) (now links) ⌝ }
-    ensures { λ r. ⌜ Owned (now (rows .entry)) r ⌝ }
+// Fills the table of the rows by owner and kind.
+pub fn owned_into(rows: &[i64], links: &[u16; 1600], t: &mut [u16; 8810])
+    requires { ⌜ Linked (now rows) (now links) × (length (now t) ≡ 8810) ⌝ }
+    ensures { λ _. ⌜ Owned (now (rows .entry)) (now (t .exit)) ⌝ }
 {
     let n = rows::row_count(rows);
-    let mut t = [n as u16; 8810];
+    clear(t, n as u16);
     let mut i = n;
     while 0 < i {
         i -= 1;
-        link_owned(&mut t, owned_key(rows, links, i), i);
+        link_owned(t, owned_key(rows, links, i), i);
     }
-    t
 }
 
 // The first row of kind x from row j on, along the chain of owner o. Two kinds may share a chain.
@@ -378,4 +461,20 @@ pub fn next_owned(rows: &[i64], owned: &[u16; 8810], o: usize, x: usize, i: usiz
 {
     let j = owned[i] as usize;
     skip_to(rows, owned, o, x, j)
+}
+
+// The first row of kind x that belongs to row o, if there is one.
+pub fn find_owned(rows: &[i64], owned: &[u16; 8810], o: usize, x: usize) -> Found
+    requires { ⌜ Owned (now rows) (now owned) × (o ≤ rowCount (now rows)) ⌝ }
+    ensures { λ r. ⌜ foundOf r ≡ firstPlace (ownedBy (now (rows .entry)) o x) (rowCount (now (rows .entry))) ⌝ }
+{
+    found_at(rows, first_owned(rows, owned, o, x))
+}
+
+// Whether a row of kind x belongs to row o.
+pub fn has_owned(rows: &[i64], owned: &[u16; 8810], o: usize, x: usize) -> bool
+    requires { ⌜ Owned (now rows) (now owned) × (o ≤ rowCount (now rows)) ⌝ }
+    ensures { λ r. ⌜ r ≡ anyBelow (ownedBy (now (rows .entry)) o x) (rowCount (now (rows .entry))) ⌝ }
+{
+    first_owned(rows, owned, o, x) < rows::row_count(rows)
 }

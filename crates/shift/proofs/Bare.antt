@@ -19,18 +19,19 @@ use Rattle.model.specs.Activity.{Activity, Split, ResourceRequirement, split, p
 use Rattle.model.specs.Resource.{resourceAt, resources, listed}
 use Rattle.model.specs.Constraint.{Constraint, precedence, capacity, timeWindow, noOverlap, synchronize, constraintAt, constraints, members}
 use Rattle.model.specs.Schedule.{assignmentAt, assignmentsBelow, assignments, assignmentsForActivityAll, spanAt, timeOnlyBelow, timeOnly, timeOnlyForActivity, latest, earliest, taskCompletionTime, timeWindowViolation, synchronizeViolation}
-use Rattle.checks.specs.ActivitySpan.{activitySpan}
-use Rattle.checks.specs.CheckAssignments.{checkAssignmentAt, checkAssignments}
-use Rattle.checks.specs.CheckTimeOnly.{seen, checkSpanAt, checkUnplaced, checkTimeOnly}
-use Rattle.checks.specs.CheckParts.{twoWorks, checkSplit, checkActivityParts, checkParts}
-use Rattle.checks.specs.Pieces.{notHeld}
-use Rattle.checks.specs.CheckRequirements.{candidateId, lacking, claims, unaccompanied, notSimultaneous, checkPieceRequirements, piecesOf, checkActivityRequirements, checkRequirements}
-use Rattle.checks.specs.CheckCapacity.{checkCapacityAt, checkCapacity}
-use Rattle.checks.specs.CheckCalendars.{checkCalendars}
-use Rattle.checks.specs.CheckPrecedence.{endToStart, ordered, checkPrecedenceConstraint, checkPair, checkPairs, checkTask, checkPrecedence}
-use Rattle.checks.specs.CheckDeadlines.{checkDeadline, checkDeadlines}
-use Rattle.checks.specs.CheckConstraints.{firstOn, startOf, checkOverlaps, differing, checkConstraint, checkConstraintAt, checkConstraints}
-use Rattle.checks.specs.CheckSchedule.{beforeCapacity, afterCapacity}
+use Rattle.definition.specs.ActivitySpan.{activitySpan}
+use Rattle.definition.specs.CheckAssignments.{checkAssignmentAt, checkAssignments}
+use Rattle.definition.specs.CheckTimeOnly.{seen, checkSpanAt, checkUnplaced, checkTimeOnly}
+use Rattle.definition.specs.CheckParts.{twoWorks, checkSplit, checkActivityParts, checkParts}
+use Rattle.definition.specs.Pieces.{notHeld}
+use Rattle.definition.specs.CheckRequirements.{candidateId, lacking, claims, unaccompanied, notSimultaneous, checkPieceRequirements, bookingsByPiece, checkActivityRequirements, checkRequirements}
+use Rattle.load.specs.Load.{bookedAt, bookedResources}
+use Rattle.definition.specs.CheckCapacity.{checkResource, checkCapacity}
+use Rattle.definition.specs.CheckCalendars.{checkCalendars}
+use Rattle.definition.specs.CheckPrecedence.{endToStart, ordered, checkPrecedenceConstraint, checkPair, checkPairs, checkTask, checkPrecedence}
+use Rattle.definition.specs.CheckDeadlines.{checkDeadline, checkDeadlines}
+use Rattle.definition.specs.CheckConstraints.{firstOn, startOf, checkOverlaps, differing, checkConstraint, checkConstraintAt, checkConstraints}
+use Rattle.definition.specs.CheckSchedule.{beforeCapacity, afterCapacity}
 use Rattle.shift.proofs.Numbers.{numbers, each-task, each-activity-of}
 
 pub record Bare {T : Type 0} (s : Sheet T) : Type 0 where
@@ -142,8 +143,8 @@ module _ {T : Type 0} (K : Clock T) (s : Sheet T) (bare : Bare s) where
       (tasks s)
 
   pub none5 : checkCapacity K s ≡ []
-  unfolding checkCapacity checkCapacityAt each
-  none5 = collect-nothing (checkCapacityAt K s) (λ k. rw (no-booking k)) (s .count)
+  unfolding checkCapacity bookedResources bookedAt each
+  none5 = ap (each (checkResource K s)) (collect-nothing (bookedAt s) (λ k. rw (no-booking k)) (s .count))
 
   none6 : checkCalendars K s ≡ []
   unfolding checkCalendars each
@@ -234,8 +235,8 @@ module _ {T : Type 0} (K : Clock T) (s : Sheet T) (bare : Bare s) where
       ap₂ _++_ (collect-nothing (checkSpanAt K s) no-span-check (s .count))
       (ap (eachActivity s) (λ i a. given (isEmpty (requirements s a) && not (unseen a i)) (timeWindowViolation 2 a)))
 
-  no-pieces : (a : ℕ) → piecesOf K s a ≡ []
-  unfolding piecesOf
+  no-pieces : (a : ℕ) → bookingsByPiece K s a ≡ []
+  unfolding bookingsByPiece
   no-pieces a = rw (none-of a)
 
   one-piece : (a : Activity T) → checkActivityRequirements K s a ≡ unfilled s (a .id)

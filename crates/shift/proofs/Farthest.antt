@@ -15,12 +15,13 @@ use Rattle.loops.specs.Search.{anyBelow}
 use Rattle.loops.proofs.SearchLaws.{any-none}
 use Rattle.rows.specs.Class.{blank-c}
 use Rattle.rows.specs.Table.{classOf}
-use Rattle.rows.specs.Ranges.{within, isNone, inRange, inClass}
+use Rattle.rows.specs.Ranges.{between, isNone, inRange, inClass}
 use Rattle.rows.specs.Cells.{cell, num}
 use Rattle.rows.proofs.Signs.{cell-past, cell-wide}
 use Rattle.rows.proofs.Tables.{class-wide}
-use Rattle.checks.specs.CheckSchedule.{findings}
-use Rattle.shift.specs.Shift.{shifted, Shifted, InClass}
+use Rattle.definition.specs.CheckSchedule.{findings}
+use Rattle.shift.specs.Shift.{shifted, Shifted}
+use Rattle.shift.specs.inner.InClass.{InClass}
 use Rattle.shift.proofs.Shift.{same-findings}
 
 abbrev eqZ : ℤ → ℤ → Bool
@@ -57,19 +58,19 @@ kind-zero d x zero = refl
 kind-zero d x (suc c) = refl
 
 zero-in : (c : ℕ) → inClass (classOf 0 c) (pos 0) ≡ true
-unfolding inClass inRange within
+unfolding inClass inRange between
 zero-in zero = refl
 zero-in (suc c) = refl
 
 blank-in : inClass blank-c (pos 0) ≡ true
-unfolding inClass inRange within
+unfolding inClass inRange between
 blank-in = refl
 
 -- the two records, by tests of the cells of n rows
 shifted-tested : (d : ℤ) (a b : List ℤ) (n : ℕ) → length a ≡ n * 10 → length b ≡ n * 10
     → everywhere (λ k c. eqZ (cell b k c) (shifted d (classOf (num a k 0) c) (cell a k c))) n ≡ true
     → Shifted d a b
-shifted-tested d a b n p q h = record { length = q ∙ sym p; cells = λ k c. go k c (decLt k n) (decLt c 10) }
+shifted-tested d a b n p q h = record { as-long = q ∙ sym p; cells = λ k c. go k c (decLt k n) (decLt c 10) }
   where
     go : (k c : ℕ) → Dec (k < n) → Dec (c < 10) → cell b k c ≡ shifted d (classOf (num a k 0) c) (cell a k c)
     go k c (yes l) (yes m) = eqZ-true _ _ (at-cell (λ k c. eqZ (cell b k c) (shifted d (classOf (num a k 0) c) (cell a k c))) n h k c l m)
@@ -105,15 +106,15 @@ abbrev farthest : ℤ
 farthest = negsuc 9223372036854775812
 
 in-a : InClass (week (pos 5))
-unfolding anyBelow cell inClass inRange within isNone
+unfolding anyBelow cell inClass inRange between isNone
 in-a = class-tested (week (pos 5)) 2 refl refl
 
 in-b : InClass (week none′)
-unfolding anyBelow cell inClass inRange within isNone
+unfolding anyBelow cell inClass inRange between isNone
 in-b = class-tested (week none′) 2 refl refl
 
 pub becomes-none : Shifted farthest (week (pos 5)) (week none′)
-unfolding anyBelow cell within isNone
+unfolding anyBelow cell between isNone
 becomes-none = shifted-tested farthest (week (pos 5)) (week none′) 2 refl refl refl
 
 pub same : findings (week (pos 5)) ≡ findings (week none′)

@@ -12,11 +12,13 @@ use borrow.Author.Tests.{ltb-false, leb-true, leb-false}
 use Rattle.loops.specs.Numbers.{toNat}
 use Rattle.rows.specs.Class.{Class, blank-c, kind-c, id-c, n-c, u-c, t-c, m-c, g-c, f-c, share-c, speed-c, n?-c, t?-c, m?-c, task-c, activity-c, resource-c, requirement-c, constraint-c}
 use Rattle.rows.specs.Table.{classOf}
-use Rattle.rows.specs.Ranges.{within, isNone, inRange, inClass}
+use Rattle.rows.specs.Ranges.{between, isNone, inRange, inClass}
 use Rattle.rows.specs.Cells.{cell, num}
-use Rattle.calendar.specs.Moves.{Moves, by}
-use Rattle.model.specs.Sheet.{Cell, number, instant, nothing, read, asInt, isKind, Sheet, sheet, mapCell, mapSheet}
-use Rattle.shift.specs.Shift.{shifted, Shifted, InClass}
+use Rattle.calendar.specs.inner.Moves.{Moves, by}
+use Rattle.model.specs.Sheet.{Cell, number, instant, nothing, read, asInt, isKind, Sheet, sheet}
+use Rattle.model.specs.inner.Mapped.{mapCell, mapSheet}
+use Rattle.shift.specs.Shift.{shifted, Shifted}
+use Rattle.shift.specs.inner.InClass.{InClass}
 use Rattle.shift.proofs.Numbers.{numbers}
 use Rattle.shift.proofs.Bare.{Bare}
 
@@ -38,7 +40,7 @@ far (negsuc n) = leb 4000000000000 n
 
 -- what may become of an instant that d is added to
 near-none : (n : ℕ) (d : ℤ) → far d ≡ false → isNone (pos n +ℤ d) ≡ false
-unfolding isNone within
+unfolding isNone between
 near-none n (pos e) h = refl
 near-none n (negsuc e) h = go (ltb n (suc e)) (leb-false 4000000000000 e h)
   where
@@ -53,13 +55,13 @@ near-none n (negsuc e) h = go (ltb n (suc e)) (leb-false 4000000000000 e h)
 
 -- an instant of the class is not negative
 exact : (x : ℤ) → inClass t-c x ≡ true → pos (toNat x) ≡ x
-unfolding inClass inRange within
+unfolding inClass inRange between
 exact (pos x) h = refl
 exact (negsuc x) h = absurd (false≢true h)
 
 -- of the class t?: none, or an instant
 read-exact : (x : ℤ) → inClass t?-c x ≡ true → read t?-c x ≡ cond (isNone x) nothing (instant x)
-unfolding inClass inRange within isNone
+unfolding inClass inRange between isNone
 read-exact (pos x) h = refl
 read-exact (negsuc x) h = rw h
 
@@ -72,7 +74,7 @@ maybe-moved : (d : ℤ) → far d ≡ false → (x : ℤ)
     → inClass t?-c x ≡ true
     → inClass t?-c (shifted d t?-c x) ≡ true
     → read t?-c (shifted d t?-c x) ≡ mapCell (by d) (read t?-c x)
-unfolding isNone within inClass inRange
+unfolding isNone between inClass inRange
 maybe-moved d near (pos n) p q = read-exact (pos n +ℤ d) q ∙ ap (λ b. cond b nothing (instant (pos n +ℤ d))) (near-none n d near)
 maybe-moved d near (negsuc n) p q = rw p
 
@@ -116,7 +118,7 @@ module _ (d : ℤ) (a b : List ℤ) (h : Shifted d a b) where
       ∙ read-moved d near (cell a k c) (classOf (num a k 0) c) (okA .columns k c) (in-b okB k c)
 
   pub sheet-moved : far d ≡ false → InClass a → InClass b → sheet b ≡ mapSheet (by d) (sheet a)
-  sheet-moved near okA okB = λ i. record { count = h .length i / 10; cell = λ k c. cell-moved near okA okB k c i }
+  sheet-moved near okA okB = λ i. record { count = h .as-long i / 10; cell = λ k c. cell-moved near okA okB k c i }
 
 -- ---- far
 
@@ -148,7 +150,7 @@ int-same d x constraint-c = refl
 
 -- an instant so far back is in no class
 too-far : (d x : ℤ) → far d ≡ true → inClass t-c x ≡ true → inClass t-c (x +ℤ d) ≡ true → ⊥
-unfolding inClass inRange within
+unfolding inClass inRange between
 too-far (pos e) x f p q = false≢true f
 too-far (negsuc e) (negsuc n) f p q = false≢true p
 too-far (negsuc e) (pos n) f p q = go (ltb n (suc e)) refl q
@@ -164,7 +166,7 @@ too-far (negsuc e) (pos n) f p q = go (ltb n (suc e)) refl q
 
 module _ (d : ℤ) (a b : List ℤ) (h : Shifted d a b) where
   pub numbers-same : numbers (sheet b) ≡ numbers (sheet a)
-  numbers-same = λ i. record { count = h .length i / 10; cell = λ k c. number (int k c i) }
+  numbers-same = λ i. record { count = h .as-long i / 10; cell = λ k c. number (int k c i) }
     where
       int : (k c : ℕ) → asInt (sheet b .cell k c) ≡ asInt (sheet a .cell k c)
       int k c =

@@ -7,9 +7,10 @@ use lib.IntN.{ℤ}
 use Rattle.calendar.specs.Clock.{Clock, clock}
 use Rattle.calendar.proofs.Moving.{unmoved}
 use Rattle.model.specs.Sheet.{Sheet, sheet}
-use Rattle.checks.specs.CheckCapacity.{checkCapacity}
-use Rattle.checks.specs.CheckSchedule.{beforeCapacity, afterCapacity, checkSchedule, findings}
-use Rattle.shift.specs.Shift.{Shifted, InClass}
+use Rattle.definition.specs.CheckCapacity.{checkCapacity}
+use Rattle.definition.specs.CheckSchedule.{beforeCapacity, afterCapacity, checkSchedule, findings}
+use Rattle.shift.specs.Shift.{Shifted}
+use Rattle.shift.specs.inner.InClass.{InClass}
 use Rattle.shift.proofs.Bare.{Bare, found, same-found, none5, none-after, only-before}
 use Rattle.shift.proofs.Moved.{far, moving, sheet-moved, numbers-same, bare, bare′}
 

@@ -1,3 +1,3 @@
-pub mod Call
 pub mod Examples
 pub mod Shift
+pub mod inner

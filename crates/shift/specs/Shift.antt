@@ -2,13 +2,13 @@
 -- The instants are the columns t; a column t? that is none stays none. Assumes nothing.
 use Prim.Native.Nat.{ℕ}
 use mathlib.Core.Path.{_≡_}
-use mathlib.Core.Bool.{true, cond}
+use mathlib.Core.Bool.{cond}
 use mathlib.Core.List.{List}
 use lib.ListN.{length}
 use lib.IntN.{ℤ, _+ℤ_}
 use Rattle.rows.specs.Class.{Class, blank-c, kind-c, id-c, n-c, u-c, t-c, m-c, g-c, f-c, share-c, speed-c, n?-c, t?-c, m?-c, task-c, activity-c, resource-c, requirement-c, constraint-c}
 use Rattle.rows.specs.Table.{classOf}
-use Rattle.rows.specs.Ranges.{isNone, inClass}
+use Rattle.rows.specs.Ranges.{isNone}
 use Rattle.rows.specs.Cells.{cell, num}
 
 -- the number in a column of a class, after d milliseconds are added to every instant
@@ -35,9 +35,5 @@ shifted d constraint-c x = x
 
 -- b is a with d milliseconds added to every instant, and nothing else changed
 pub record Shifted (d : ℤ) (a b : List ℤ) : Type 0 where
-  pub length : length b ≡ length a
+  pub as-long : length b ≡ length a
   pub cells : (k c : ℕ) → cell b k c ≡ shifted d (classOf (num a k 0) c) (cell a k c)
-
--- every number is in the class of its column: of an accepted sheet demand 3 needs no more
-pub record InClass (rows : List ℤ) : Type 0 where
-  pub columns : (k c : ℕ) → inClass (classOf (num rows k 0) c) (cell rows k c) ≡ true

@@ -1,26 +1,26 @@
 -- When an activity runs, as a search and a loop over places. Assumes nothing.
-use Prim.Native.Nat.{ℕ, zero, suc}
+use Prim.Native.Nat.{ℕ, zero, suc, _<_}
 use mathlib.Core.Path.{_≡_, refl, ap, sym, _∙_}
-use mathlib.Core.Bool.{Bool, true, false, cond, _&&_}
+use mathlib.Core.Bool.{Bool, true, false, cond, _&&_, true≢false}
 use mathlib.Core.List.{List, [], _∷_, _++_, map, foldl}
 use mathlib.Core.Option.{Option, none, some}
+use native.Mathlib.Omega.{arith}
 use lib.Dec.{eqb}
 use lib.IntN.{ℤ, pos}
-use Rattle.loops.specs.Lists.{given, keep, head, option}
+use Rattle.loops.specs.Lists.{given, keep, head}
 use Rattle.loops.specs.Range.{fold, collect}
 use Rattle.loops.specs.Search.{orElse, someIf, first, firstPlace}
-use Rattle.loops.specs.Chain.{onlyAt}
+use Rattle.loops.specs.inner.Chain.{onlyAt, Quiet, Stands}
 use Rattle.loops.proofs.ListLaws.{keep-collect, foldl-collect, head-collect}
 use Rattle.loops.proofs.RangeLaws.{fold-ext}
-use Rattle.loops.proofs.PlaceLaws.{found-at}
 use Rattle.calendar.specs.Clock.{clock}
 use Rattle.rows.specs.Cells.{rowCount, num, is}
 use Rattle.sheet.specs.Places.{ofKind, named, placeOf}
 use Rattle.model.specs.Sheet.{sheet}
-use Rattle.model.specs.Schedule.{Assignment, TimeOnlySpan, assignmentAt, assignmentsBelow, assignments, assignmentsForActivityAll, spanAt, timeOnlyBelow, timeOnly, timeOnlyForActivity, later, latest, earlier, earliest}
+use Rattle.model.specs.Schedule.{Assignment, TimeOnlySpan, assignmentAt, assignmentsBelow, assignments, assignmentsForActivityAll, spanAt, timeOnlyBelow, timeOnly, timeOnlyForActivity, laterOf, latest, earlierOf, earliest}
 use Rattle.model.proofs.RowLaws.{assignment-row, assignment-none, span-row, span-none}
-use Rattle.checks.specs.ActivitySpan.{Span, spanFrom, activitySpan}
-use Rattle.spans.specs.Activities.{widened, widenIf}
+use Rattle.definition.specs.ActivitySpan.{Span, spanFrom, activitySpan}
+use Rattle.spans.specs.inner.Activities.{widened, widenIf}
 
 -- ---- one loop for the earliest start and the latest end
 
@@ -29,7 +29,7 @@ grow x a = widened x (a .start) (a .end)
 
 grown : (l : List (Assignment ℤ)) (a e : ℤ)
     → foldl grow (some (record { start = a; end = e })) l
-    ≡ spanFrom (foldl (earlier clock) (some a) (map (λ x. x .start) l)) (foldl (later clock) (some e) (map (λ x. x .end) l))
+    ≡ spanFrom (foldl (earlierOf clock) (some a) (map (λ x. x .start) l)) (foldl (laterOf clock) (some e) (map (λ x. x .end) l))
 unfolding grow
 grown [] a e = refl
 grown (x ∷ l) a e = grown l (cond (clock .before (x .start) a) (x .start) a) (cond (clock .before e (x .end)) (x .end) e)
@@ -115,3 +115,25 @@ module _ (rows : List ℤ) (id : ℕ) where
       → some (record { start = pos (num rows k 3); end = pos (num rows k 4) }) ≡ activitySpan clock (sheet rows) id
   unfolding activitySpan atMost timed
   runs-timed h = rw (timed-only, ← h)
+
+-- ---- the bookings of the activity alone
+
+module _ (rows : List ℤ) (id : ℕ) where
+  pub widen-quiet : Quiet (named rows 23 id) (onlyAt (ofKind rows 23) (widenIf rows id))
+  unfolding onlyAt ofKind named widenIf
+  widen-quiet = record { still = λ x k h. go x k (is rows k 0 23) (is rows k 1 id) h }
+    where
+      go : (x : Option (Span ℤ)) (k : ℕ) (a b : Bool) → (a && b) ≡ false → cond a (cond b (widened x (pos (num rows k 4)) (pos (num rows k 5))) x) x ≡ x
+      go x k true true h = absurd (true≢false h)
+      go x k true false h = refl
+      go x k false b h = refl
+
+  pub widen-here : (x : Option (Span ℤ)) {n N k : ℕ} {r : Option (Span ℤ)} {a e : ℕ} → k < N → N ≡ n → Stands (named rows 23 id) n k → a ≡ num rows k 4 → e ≡ num rows k 5
+      → r ≡ widened x (pos a) (pos e) → r ≡ onlyAt (ofKind rows 23) (widenIf rows id) x k
+  unfolding onlyAt ofKind named widenIf
+  widen-here x {n} {N} {k} {r} {a} {e} l z s p q h = go (is rows k 0 23) (is rows k 1 id) (s .here (omega arith)) (rw (p, q) at h)
+    where
+      go : (b c : Bool) → (b && c) ≡ true → r ≡ widened x (pos (num rows k 4)) (pos (num rows k 5)) → r ≡ cond b (cond c (widened x (pos (num rows k 4)) (pos (num rows k 5))) x) x
+      go true true w v = v
+      go true false w v = absurd (true≢false (sym w))
+      go false c w v = absurd (true≢false (sym w))

@@ -1,2 +1,1 @@
-pub mod Activities
-pub mod Instants
+pub mod inner

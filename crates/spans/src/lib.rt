@@ -6,15 +6,16 @@ ghost use Prim.Native.Nat.{ℕ, _<_};
 ghost use lib.IntN.{pos};
 ghost use Rattle.calendar.specs.Clock.{clock};
 ghost use Rattle.loops.specs.Range.{fold};
-ghost use Rattle.loops.specs.Chain.{onlyAt};
+ghost use Rattle.loops.specs.inner.Chain.{onlyAt};
 ghost use Rattle.rows.specs.Cells.{rowCount, num};
 ghost use Rattle.sheet.specs.Places.{ofKind};
-ghost use Rattle.sheet.specs.Index.{Kinds};
-ghost use Rattle.model.specs.Sheet.{sheet, maybeAt};
-ghost use Rattle.model.specs.Schedule.{later, earlier, taskCompletionTime};
-ghost use Rattle.checks.specs.ActivitySpan.{activitySpan};
-ghost use Rattle.spans.specs.Instants.{meant, endIf};
-ghost use Rattle.spans.specs.Activities.{spanMeant, widened, widenIf};
+ghost use Rattle.sheet.specs.inner.Index.{Kinds};
+ghost use Rattle.model.specs.Sheet.{sheet};
+ghost use Rattle.model.specs.inner.Records.{maybeAt};
+ghost use Rattle.model.specs.Schedule.{laterOf, taskCompletionTime};
+ghost use Rattle.definition.specs.ActivitySpan.{activitySpan};
+ghost use Rattle.spans.specs.inner.Instants.{meant, endIf};
+ghost use Rattle.spans.specs.inner.Activities.{spanMeant, widened, widenIf};
 use sheet::Found;
 
 // An instant, or none.
@@ -35,26 +36,13 @@ pub fn instant_at(rows: &[i64], k: usize, c: usize) -> Instant
 }
 
 // The later of what there is and x.
-pub fn later_of(e: Instant, x: u64) -> Instant
-    ensures { λ r. ⌜ meant r ≡ later clock (meant e) (pos x) ⌝ }
+fn later_of(e: Instant, x: u64) -> Instant
+    ensures { λ r. ⌜ meant r ≡ laterOf clock (meant e) (pos x) ⌝ }
 {
     let Instant::At(a) = e else {
         return Instant::At(x);
     };
     if a < x {
-        return Instant::At(x);
-    }
-    e
-}
-
-// The earlier of what there is and x.
-pub fn earlier_of(e: Instant, x: u64) -> Instant
-    ensures { λ r. ⌜ meant r ≡ earlier clock (meant e) (pos x) ⌝ }
-{
-    let Instant::At(a) = e else {
-        return Instant::At(x);
-    };
-    if x < a {
         return Instant::At(x);
     }
     e
@@ -73,7 +61,7 @@ fn end_if(rows: &[i64], e: Instant, k: usize, c: usize, task: u64) -> Instant
 // The latest end, in column c, of the rows of kind x that are of the task.
 fn latest_end(
     rows: &[i64],
-    kinds: &[u16; 832],
+    kinds: &[u16; 3680],
     from: Instant,
     x: usize,
     c: usize,
@@ -93,7 +81,7 @@ fn latest_end(
 }
 
 // The latest end of a task's bookings and time-only spans.
-pub fn task_completion_time(rows: &[i64], kinds: &[u16; 832], task: u64) -> Instant
+pub fn task_completion_time(rows: &[i64], kinds: &[u16; 3680], task: u64) -> Instant
     requires { ⌜ Kinds (now rows) (now kinds) ⌝ }
     ensures { λ r. ⌜ meant r ≡ taskCompletionTime clock (sheet (now (rows .entry))) task ⌝ }
 {
@@ -138,35 +126,25 @@ fn widen(x: Span, start: u64, end: u64) -> Span
     Span::Between(least(a, start), most(e, end))
 }
 
-// What there is, widened by the booking of row k where it is of the activity.
-fn widen_if(rows: &[i64], x: Span, k: usize, id: u64) -> Span
-    ensures { λ r. ⌜ spanMeant r ≡ widenIf (now (rows .entry)) id (spanMeant x) k ⌝ }
-{
-    if rows::is_at(rows, k, 1, id) {
-        let start = rows::num_at(rows, k, 4);
-        let end = rows::num_at(rows, k, 5);
-        return widen(x, start, end);
-    }
-    x
-}
-
 // From the earliest start to the latest end of an activity's bookings.
-fn booked_span(rows: &[i64], kinds: &[u16; 832], id: u64) -> Span
+fn booked_span(rows: &[i64], kinds: &[u16; 3680], id: u64) -> Span
     requires { ⌜ Kinds (now rows) (now kinds) ⌝ }
     ensures { λ r. ⌜ spanMeant r ≡ fold (onlyAt (ofKind (now (rows .entry)) 23) (widenIf (now (rows .entry)) id)) none (rowCount (now (rows .entry))) ⌝ }
 {
     let n = rows::row_count(rows);
     let mut x = Span::Nowhere;
-    let mut i = sheet::first_of(rows, kinds, 23);
+    let mut i = sheet::first_named(rows, kinds, 23, id);
     while i < n {
-        x = widen_if(rows, x, i, id);
-        i = sheet::next_of(rows, kinds, 23, i);
+        let start = rows::num_at(rows, i, 4);
+        let end = rows::num_at(rows, i, 5);
+        x = widen(x, start, end);
+        i = sheet::next_named(rows, kinds, 23, id, i);
     }
     x
 }
 
 // The first time-only span of an activity, or else from the earliest start to the latest end of its bookings.
-pub fn activity_span(rows: &[i64], kinds: &[u16; 832], id: u64) -> Span
+pub fn activity_span(rows: &[i64], kinds: &[u16; 3680], id: u64) -> Span
     requires { ⌜ Kinds (now rows) (now kinds) ⌝ }
     ensures { λ r. ⌜ spanMeant r ≡ activitySpan clock (sheet (now (rows .entry))) id ⌝ }
 {

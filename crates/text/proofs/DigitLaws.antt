@@ -2,14 +2,15 @@
 use Prim.Native.Nat.{ℕ, zero, suc, _+_, _*_, _-_, _^_, _≤_, _<_}
 use mathlib.Core.Bool.{Bool, true, false, cond, _&&_, and-false}
 use mathlib.Core.List.{List, [], _∷_}
-use mathlib.Core.Path.{_≡_, refl, sym, ap, _∙_}
+use mathlib.Core.Path.{_≡_, refl}
 use native.Mathlib.Omega.{arith}
 use native.Mathlib.Numerals.{add-one}
 use lib.Dec.{ltb, leb, eqb}
 use lib.ListN.{length, getD, drop, take, drop-of-length-le}
 use lib.Seq.{drop-cons, take-all}
 use borrow.Author.Tests.{le-ltb, lt-ltb, le-leb, lt-leb, ltb-true, eq-eqb, ne-eqb}
-use Rattle.text.specs.Spelling.{isDigit, digitsFrom, limited, digitsOf, numberOf, positive, negative, none}
+use Rattle.rows.specs.Ranges.{heldNone}
+use Rattle.text.specs.Spelling.{isDigit, digitsFrom, limited, digitsOf, numberOf, positive, negative}
 use Rattle.text.specs.declared.Number.the-variants.{Value}
 use lib.IntN.{pos, negℤ}
 use mathlib.Core.Logic.{_⊎_, inl, inr}
@@ -96,7 +97,7 @@ digits-plain [] n h = absurd (n refl)
 digits-plain (x ∷ xs) n (inl h) = rw (ne-eqb x 48 h)
 digits-plain (x ∷ xs) n (inr h) = rw (le-ltb 0 (length xs) (omega arith), and-false (eqb x 48))
 
-pub number-empty : (s : List ℕ) → length s ≡ 0 → numberOf s ≡ Value none
+pub number-empty : (s : List ℕ) → length s ≡ 0 → numberOf s ≡ Value heldNone
 unfolding numberOf
 number-empty [] h = refl
 number-empty (x ∷ xs) h = absurd (omega arith)

@@ -6,14 +6,14 @@ use lib.IntN.{ℤ, pos, negsuc}
 use lib.ListN.{drop}
 use Rattle.loops.specs.Lists.{allOf}
 use Rattle.rows.specs.Table.{width}
-use Rattle.text.specs.Parts.{upTo, parts}
+use Rattle.text.specs.Parts.{parts}
 use Rattle.text.specs.Spelling.{digitsFrom, digitsOf, numberOf}
 use Rattle.text.specs.Line.{spelled, lineOf, rowOf}
 use Rattle.text.specs.Text.{answerFrom, rowsOf, answerOf, rowsAfter}
-use Rattle.text.specs.declared.Answer.the-variants.{Accepted, Refused}
+use Rattle.refusals.specs.declared.Answer.the-variants.{Accepted, Refused}
 use Rattle.text.specs.declared.Number.the-variants.{Value, Misspelt}
 
--- the text of five lines in document 01, and its rows
+-- the text of five lines in the rules, and its rows
 unfoldable sample : List ℕ
 sample =
     49 ∷ 44 ∷ 49 ∷ 44 ∷ 49 ∷ 48 ∷ 48 ∷ 44 ∷ 10 ∷

@@ -1,20 +1,18 @@
 -- Laws of reading a line's fields one after the other. Assumes nothing.
-use Prim.Native.Nat.{ℕ, zero, suc, _+_, _-_, _≤_, _<_}
+use Prim.Native.Nat.{ℕ, suc, _+_, _-_, _≤_, _<_}
 use mathlib.Core.Bool.{Bool, true, false, _&&_, and-true}
-use mathlib.Core.List.{List, [], _∷_, _++_, map}
-use mathlib.Core.Path.{_≡_, refl, sym, ap, subst, _∙_}
-use lib.Dec.{T}
+use mathlib.Core.List.{List, [], _∷_, map}
+use mathlib.Core.Path.{_≡_, refl, sym, ap, _∙_}
 use native.Mathlib.Omega.{arith}
-use native.Mathlib.Numerals.{add-one}
-use native.Mathlib.Nat.{add-zero, add-suc}
-use lib.ListN.{length, getD, drop, take, set, length-set, length-drop}
+use native.Mathlib.Nat.{add-zero}
+use lib.ListN.{length, drop, take, set, length-set, length-drop}
 use lib.Seq.{sets}
 use lib.IntN.{ℤ}
 use Rattle.loops.specs.Lists.{allOf}
-use Rattle.text.specs.Parts.{upTo, parts}
+use Rattle.text.specs.Parts.{untilByte}
 use Rattle.text.specs.Spelling.{numberOf}
-use Rattle.text.specs.Line.{isNumber, valueOf, held, spelled, fieldsOf}
-use Rattle.text.proofs.PartLaws.{up-within, parts-last, parts-more, parts-first, tail-is}
+use Rattle.text.specs.Line.{isNumber, valueOf, spelled, fieldsOf}
+use Rattle.text.proofs.PartLaws.{up-within, parts-last, parts-more, tail-is}
 
 and-and : (a b c : Bool) → ((a && b) && c) ≡ (a && (b && c))
 and-and true b c = refl
@@ -32,7 +30,7 @@ pub fields-none : (line : List ℕ) (rows : List ℤ) (base : ℕ) → FieldsRea
 fields-none line rows base = record { spelling = refl; stores = rw (add-zero base); count = omega arith; within = omega arith; long = refl }
 
 -- the first field, and the others
-module _ (rest : List ℕ) (f : List ℕ) (e : f ≡ upTo 44 rest) where
+module _ (rest : List ℕ) (f : List ℕ) (e : f ≡ untilByte 44 rest) where
   first-of-more : length f < length rest → fieldsOf rest ≡ f ∷ fieldsOf (drop (length f + 1) rest)
   first-of-more h = rw e (parts-more 44 rest (rw e at h))
 
@@ -40,7 +38,7 @@ module _ (rest : List ℕ) (f : List ℕ) (e : f ≡ upTo 44 rest) where
   first-of-last h = rw e (parts-last 44 rest (omega (arith, up-within 44 rest, rw e at h)))
 
 module _ (line : List ℕ) (rows₀ : List ℤ) (base : ℕ) (rows : List ℤ) (rest : List ℕ) (j : ℕ) (good : Bool) (r : FieldsRead line rows₀ base rows rest j good)
-    (f : List ℕ) (e : f ≡ upTo 44 rest) where
+    (f : List ℕ) (e : f ≡ untilByte 44 rest) where
   pub fields-more : length f < length rest
       → FieldsRead line rows₀ base (set rows (base + j) (valueOf f)) (take (length rest - (length f + 1)) (drop (length f + 1) rest)) (j + 1) (good && isNumber (numberOf f))
   unfolding spelled allOf

@@ -1,23 +1,23 @@
 -- Laws of a line's kind and of its row. Assumes nothing.
-use Prim.Native.Nat.{ℕ, zero, suc, _+_, _-_, _^_, _≤_, _<_}
-use mathlib.Core.Bool.{Bool, true, false, cond, _&&_, not, and-false, false≢true}
-use mathlib.Core.List.{List, [], _∷_, _++_, map}
-use mathlib.Core.Path.{_≡_, refl, sym, ap, subst, _∙_}
+use Prim.Native.Nat.{ℕ, suc, _+_, _-_, _≤_, _<_}
+use mathlib.Core.Bool.{Bool, true, false, cond, not, and-false, false≢true}
+use mathlib.Core.List.{List, [], _∷_, map}
+use mathlib.Core.Path.{_≡_, refl, sym, ap, _∙_}
 use native.Mathlib.Omega.{arith}
 use native.Mathlib.Numerals.{add-one}
-use lib.Dec.{ltb, leb, eqb}
+use lib.Dec.{ltb, eqb}
 use lib.ListN.{length, getD, set, replicate, length-map}
 use lib.Seq.{sets}
 use Rattle.loops.proofs.StoreLaws.{sets-append}
-use lib.IntN.{ℤ, pos, negsuc}
+use lib.IntN.{ℤ, pos}
 use mir.Syntax.{w64}
 use mir.Val.{SFits, toZ, ofZ}
 use mir.Facts.{toZ-ofZ}
-use borrow.Author.Tests.{eq-eqb, ne-eqb, lt-ltb, le-ltb, ltb-true, ltb-false}
+use borrow.Author.Tests.{eq-eqb, ne-eqb, lt-ltb, le-ltb}
 use Rattle.loops.specs.Numbers.{toNat}
 use Rattle.rows.specs.Table.{width}
 use Rattle.text.specs.Line.{byKind, byFields, fieldsOf, spelled, held, valueOf, lineOf, rowOf}
-use Rattle.text.specs.Parts.{upTo}
+use Rattle.text.specs.Parts.{untilByte}
 use Rattle.text.specs.Spelling.{numberOf}
 use Rattle.text.specs.declared.Number.{Number}
 use Rattle.text.proofs.PartLaws.{parts-first}
@@ -65,7 +65,7 @@ pub zero-end : (rows : List ℤ) (i to : ℕ) → to ≤ i → sets rows i (repl
 zero-end rows i to h = let e : to - i ≡ 0 = omega arith in rw e
 
 -- a line by its first field
-pub line-judged : (l f : List ℕ) (good : Bool) (n : ℕ) → good ≡ spelled (fieldsOf l) → f ≡ upTo 44 l → n ≡ length (fieldsOf l) → byFields good f n ≡ lineOf l
+pub line-judged : (l f : List ℕ) (good : Bool) (n : ℕ) → good ≡ spelled (fieldsOf l) → f ≡ untilByte 44 l → n ≡ length (fieldsOf l) → byFields good f n ≡ lineOf l
 unfolding lineOf
 line-judged l f good n s e q =
     let p = parts-first 44 l in

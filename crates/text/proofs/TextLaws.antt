@@ -1,26 +1,26 @@
 -- Laws of reading a text's lines one after the other. Assumes nothing.
-use Prim.Native.Nat.{ℕ, zero, suc, _+_, _*_, _-_, _/_, _≤_, _<_}
+use Prim.Native.Nat.{ℕ, suc, _+_, _*_, _-_, _/_, _≤_, _<_}
 use mathlib.Core.Bool.{Bool, true, false, cond, _&&_, not}
-use mathlib.Core.List.{List, [], _∷_, _++_, map, append-nil}
-use mathlib.Core.Path.{_≡_, refl, sym, ap, subst, _∙_}
+use mathlib.Core.List.{List, [], _∷_, _++_, append-nil}
+use mathlib.Core.Path.{_≡_, refl, ap, _∙_}
 use native.Mathlib.Omega.{arith}
 use native.Mathlib.Numerals.{add-one}
 use lib.Dec.{ltb, eqb}
-use lib.ListN.{length, getD, drop, take, set, replicate, length-append, length-replicate, length-map, length-drop}
+use lib.ListN.{length, getD, drop, take, length-append, length-replicate, length-map, length-drop}
 use lib.Seq.{sets, length-sets, sets-eq}
-use lib.IntN.{ℤ, pos, negsuc}
-use borrow.Author.Tests.{ne-eqb, lt-ltb, le-ltb, ltb-true, eqb-true}
+use lib.IntN.{ℤ}
+use borrow.Author.Tests.{lt-ltb, le-ltb, ltb-true, eqb-true}
 use Rattle.loops.specs.Lists.{isEmpty}
 use Rattle.loops.specs.Numbers.{toNat}
 use Rattle.rows.specs.Table.{width}
-use Rattle.text.specs.Parts.{upTo, parts}
+use Rattle.text.specs.Parts.{untilByte, parts}
 use Rattle.text.specs.Line.{byKind, fieldsOf, spelled, valueOf, lineOf, rowOf}
-use Rattle.text.specs.Stored.{rowsRead, onRow}
+use Rattle.text.specs.inner.Stored.{rowsRead, onRow}
 use Rattle.text.specs.Text.{answerFrom, rowsOf, afterLine, answerOf}
 use Rattle.text.specs.declared.Line.{Line}
 use Rattle.text.specs.declared.Line.the-variants.{Row, Wrong}
-use Rattle.text.specs.declared.Answer.{Answer}
-use Rattle.text.specs.declared.Answer.the-variants.{Accepted, Refused}
+use Rattle.refusals.specs.declared.Answer.{Answer}
+use Rattle.refusals.specs.declared.Answer.the-variants.{Accepted, Refused}
 use Rattle.rows.proofs.Tables.{width-most}
 use Rattle.text.proofs.LineLaws.{no-row}
 use Rattle.loops.proofs.StoreLaws.{sets-append}
@@ -81,7 +81,7 @@ module _ (text : List ℕ) (lent : ℕ) (rows₀ rows : List ℤ) (rest : List �
   unfolding answerFrom rowsRead parts
   lines-end h = let n = nil-of rest h in (rw n at (w .answer), rw n at (w .stores))
 
-  module _ (l : List ℕ) (e : l ≡ upTo 10 rest) where
+  module _ (l : List ℕ) (e : l ≡ untilByte 10 rest) where
     -- no line feed
     pub lines-open : 0 < length rest → length rest ≤ length l → Ends text lent rows₀ rows (Refused 9 place)
     unfolding answerFrom rowsRead
@@ -91,7 +91,7 @@ module _ (text : List ℕ) (lent : ℕ) (rows₀ rows : List ℤ) (rest : List �
 
     module _ (h : length l < length rest) (rows′ : List ℤ) (s : rows′ ≡ sets rows (place * 10) (rowOf l)) where
       -- the line and those after it
-      opened : (ps : List (List ℕ)) × (parts 10 rest ≡ l ∷ upTo 10 (drop (length l + 1) rest) ∷ ps) × (parts 10 (drop (length l + 1) rest) ≡ upTo 10 (drop (length l + 1) rest) ∷ ps)
+      opened : (ps : List (List ℕ)) × (parts 10 rest ≡ l ∷ untilByte 10 (drop (length l + 1) rest) ∷ ps) × (parts 10 (drop (length l + 1) rest) ≡ untilByte 10 (drop (length l + 1) rest) ∷ ps)
       opened =
           let o : parts 10 rest ≡ l ∷ parts 10 (drop (length l + 1) rest) = rw e (parts-more 10 rest (rw e at h)) in
           let p = parts-first 10 (drop (length l + 1) rest) in
@@ -116,7 +116,7 @@ module _ (text : List ℕ) (lent : ℕ) (rows₀ rows : List ℤ) (rest : List �
             answer = rw (add-one place, opened .2) (rw (opened .1, q, lt-ltb place lent k) at (w .answer));
             stores =
                 rw (s, i, add-one place, opened .2)
-                (sets-append rows (place * 10) r (rowsRead lent (suc place) (upTo 10 (drop (length l + 1) rest) ∷ opened .0))
+                (sets-append rows (place * 10) r (rowsRead lent (suc place) (untilByte 10 (drop (length l + 1) rest) ∷ opened .0))
                 ∙ (rw (opened .1, q, lt-ltb place lent k) at (w .stores)));
             within = simp length-drop (omega (arith, w .within));
             long = ap length s ∙ length-sets rows (place * 10) r ∙ w .long;

@@ -1,5 +1,5 @@
 pub mod Line
 pub mod Parts
 pub mod Spelling
-pub mod Stored
 pub mod Text
+pub mod inner

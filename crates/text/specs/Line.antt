@@ -8,6 +8,7 @@ use lib.ListN.{length, getD, replicate}
 use lib.IntN.{ℤ, pos}
 use Rattle.loops.specs.Lists.{allOf, isEmpty}
 use Rattle.loops.specs.Numbers.{toNat}
+use Rattle.refusals.specs.Refusals.{UNKNOWN-KIND, MISSPELT}
 use Rattle.rows.specs.Table.{width}
 use Rattle.text.specs.Parts.{parts}
 use Rattle.text.specs.Spelling.{numberOf}
@@ -37,11 +38,11 @@ spelled fs = allOf (λ f. isNumber (numberOf f)) fs
 
 -- kind k with n fields in all, its own among them. The kinds are 1 to 24
 abbrev pub byKind : ℕ → ℕ → Line
-byKind k n = cond (ltb 0 k && ltb k 25) (cond (eqb n (suc (width k))) Row (Wrong 9)) (Wrong 2)
+byKind k n = cond (ltb 0 k && ltb k 25) (cond (eqb n (suc (width k))) Row (Wrong MISSPELT)) (Wrong UNKNOWN-KIND)
 
 -- a line of n fields, the first of them the kind's; a negative kind is no kind, as 0 is none
 abbrev pub byFields : Bool → List ℕ → ℕ → Line
-byFields good kind n = cond (good && not (isEmpty kind)) (byKind (toNat (valueOf kind)) n) (Wrong 9)
+byFields good kind n = cond (good && not (isEmpty kind)) (byKind (toNat (valueOf kind)) n) (Wrong MISSPELT)
 
 unfoldable pub lineOf : List ℕ → Line
 lineOf l = byFields (spelled (fieldsOf l)) (getD (fieldsOf l) 0 []) (length (fieldsOf l))

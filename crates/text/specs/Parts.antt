@@ -5,9 +5,9 @@ use mathlib.Core.List.{List, [], _∷_}
 use lib.Dec.{eqb}
 
 -- the bytes before the first b, or all of them where there is none
-unfoldable pub upTo : ℕ → List ℕ → List ℕ
-upTo b [] = []
-upTo b (x ∷ xs) = cond (eqb x b) [] (x ∷ upTo b xs)
+unfoldable pub untilByte : ℕ → List ℕ → List ℕ
+untilByte b [] = []
+untilByte b (x ∷ xs) = cond (eqb x b) [] (x ∷ untilByte b xs)
 
 -- one more byte in front of the first part
 abbrev pub onFirst : ℕ → List (List ℕ) → List (List ℕ)

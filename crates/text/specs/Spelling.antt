@@ -6,6 +6,7 @@ use mathlib.Core.List.{List, [], _∷_}
 use lib.Dec.{ltb, leb, eqb}
 use lib.ListN.{length}
 use lib.IntN.{ℤ, pos, negsuc}
+use Rattle.rows.specs.Ranges.{heldNone}
 use Rattle.text.specs.declared.Digits.{Digits}
 use Rattle.text.specs.declared.Digits.the-variants.{Is, Not}
 use Rattle.text.specs.declared.Number.{Number}
@@ -39,11 +40,7 @@ negative (Is zero) = Misspelt
 negative (Is (suc n)) = Value (negsuc n)
 negative Not = Misspelt
 
--- none is held as -2^63, which no spelling gives
-abbrev pub none : ℤ
-none = negsuc 9223372036854775807
-
--- a field: none where it is empty, else the number that it spells
+-- a field: none where it is empty, else the number that it spells; no spelling gives -2^63
 unfoldable pub numberOf : List ℕ → Number
-numberOf [] = Value none
+numberOf [] = Value heldNone
 numberOf (x ∷ xs) = cond (eqb x 45) (negative (digitsOf xs)) (positive (digitsOf (x ∷ xs)))

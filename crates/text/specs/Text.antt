@@ -11,8 +11,9 @@ use Rattle.text.specs.Parts.{parts}
 use Rattle.text.specs.Line.{lineOf, rowOf}
 use Rattle.text.specs.declared.Line.{Line}
 use Rattle.text.specs.declared.Line.the-variants.{Row, Wrong}
-use Rattle.text.specs.declared.Answer.{Answer}
-use Rattle.text.specs.declared.Answer.the-variants.{Accepted, Refused}
+use Rattle.refusals.specs.Refusals.{OVERLONG, MISSPELT, CROWDED}
+use Rattle.refusals.specs.declared.Answer.{Answer}
+use Rattle.refusals.specs.declared.Answer.the-variants.{Accepted, Refused}
 
 -- a line at place p: what follows it, or its refusal
 abbrev pub afterLine : Line → ℕ → Answer → Answer
@@ -22,12 +23,12 @@ afterLine (Wrong k) p a = Refused k p
 -- the lines from place p on, where `lent` rows are lent. What stands after the last line feed is no line: it is empty, or a line that is not ended
 unfoldable pub answerFrom : ℕ → ℕ → List (List ℕ) → Answer
 answerFrom lent p [] = Accepted p
-answerFrom lent p (l ∷ []) = cond (isEmpty l) (Accepted p) (Refused 9 p)
-answerFrom lent p (l ∷ m ∷ ls) = afterLine (lineOf l) p (cond (ltb p lent) (answerFrom lent (suc p) (m ∷ ls)) (Refused 10 p))
+answerFrom lent p (l ∷ []) = cond (isEmpty l) (Accepted p) (Refused MISSPELT p)
+answerFrom lent p (l ∷ m ∷ ls) = afterLine (lineOf l) p (cond (ltb p lent) (answerFrom lent (suc p) (m ∷ ls)) (Refused CROWDED p))
 
 -- the answer to a text, where `lent` rows are lent
 unfoldable pub answerOf : List ℕ → ℕ → Answer
-answerOf text lent = cond (ltb 65536 (length text)) (Refused 8 0) (answerFrom lent 0 (parts 10 text))
+answerOf text lent = cond (ltb 65536 (length text)) (Refused OVERLONG 0) (answerFrom lent 0 (parts 10 text))
 
 -- the numbers of the lines' rows, ten for each line
 unfoldable pub rowsOf : List (List ℕ) → List ℤ

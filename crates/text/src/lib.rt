@@ -6,12 +6,14 @@ ghost use Prim.Native.Nat.{_+_, _-_, _/_, _^_, _<_};
 ghost use lib.IntN.{pos};
 ghost use lib.ListN.{length, set, replicate};
 ghost use lib.Seq.{sets};
-ghost use Rattle.text.specs.Parts.{upTo, parts};
+ghost use Rattle.rows.specs.inner.Codes.{classTable};
+ghost use Rattle.text.specs.Parts.{untilByte, parts};
 ghost use Rattle.text.specs.Spelling.{digitsFrom, limited, digitsOf, numberOf, negative};
 ghost use Rattle.text.specs.Line.{isNumber, held, fieldsOf, spelled, valueOf, byFields, lineOf, rowOf};
 ghost use Rattle.text.specs.Text.{answerFrom, answerOf, rowsAfter};
-ghost use Rattle.text.specs.Stored.{rowsRead};
+ghost use Rattle.text.specs.inner.Stored.{rowsRead};
 ghost use Rattle.text.specs.declared.Digits.the-variants.{Is};
+use refusals::Answer;
 
 // Digits without a sign: their value, or that they are none.
 pub enum Digits {
@@ -35,12 +37,6 @@ pub struct Fields {
 pub enum Line {
     Row,
     Wrong(u64),
-}
-
-// A text: the number of its rows, or the number and the place of its refusal.
-pub enum Answer {
-    Accepted(usize),
-    Refused(u64, usize),
 }
 
 // What an empty field holds.
@@ -126,7 +122,7 @@ pub fn read_number(s: &[u8]) -> Number
 
 // The part of a text before the first `stop`, or all of it where there is none.
 pub fn first_part(s: &[u8], stop: u8) -> &[u8]
-    ensures { λ r. ⌜ now r ≡ upTo stop (now (s .entry)) ⌝ }
+    ensures { λ r. ⌜ now r ≡ untilByte stop (now (s .entry)) ⌝ }
 {
     let mut i = 0;
     while i < s.len() {
@@ -191,26 +187,27 @@ fn read_fields(line: &[u8], rows: &mut [i64], base: usize) -> Fields
 }
 
 // What becomes of a line of n fields, good where all are spelled right, the first of them the kind's.
-fn judge_line(kind: &[u8], good: bool, n: usize) -> Line
+fn judge_line(kind: &[u8], good: bool, n: usize, classes: &[[u8; 9]; 25]) -> Line
+    requires { ⌜ now classes ≡ classTable ⌝ }
     ensures { λ r. ⌜ r ≡ byFields good (now (kind .entry)) n ⌝ }
 {
     if !good {
-        return Line::Wrong(9);
+        return Line::Wrong(refusals::MISSPELT);
     }
     if kind.len() == 0 {
-        return Line::Wrong(9);
+        return Line::Wrong(refusals::MISSPELT);
     }
     let k = rows::nat(held_by(read_number(kind)));
     if k < 1 {
-        return Line::Wrong(2);
+        return Line::Wrong(refusals::UNKNOWN_KIND);
     }
     if 24 < k {
-        return Line::Wrong(2);
+        return Line::Wrong(refusals::UNKNOWN_KIND);
     }
-    if n == rows::width_of(k) + 1 {
+    if n == rows::width_of(classes, k) + 1 {
         Line::Row
     } else {
-        Line::Wrong(9)
+        Line::Wrong(refusals::MISSPELT)
     }
 }
 
@@ -226,15 +223,15 @@ fn fill_zeros(rows: &mut [i64], from: usize, to: usize)
 }
 
 // Reads a line to the ten numbers of the rows from `base` on, as far as they lie within the rows.
-fn read_line(line: &[u8], rows: &mut [i64], base: usize) -> Line
-    requires { ⌜ base + length (now line) < 2 ^ 32 ⌝ }
+fn read_line(line: &[u8], rows: &mut [i64], base: usize, classes: &[[u8; 9]; 25]) -> Line
+    requires { ⌜ (base + length (now line) < 2 ^ 32) × (now classes ≡ classTable) ⌝ }
     ensures { λ r. ⌜ r ≡ lineOf (now (line .entry)) ⌝ }
     ensures { λ _. ⌜ now (rows .exit) ≡ sets (now (rows .entry)) base (rowOf (now (line .entry))) ⌝ }
 {
     let found = read_fields(line, rows, base);
     let n = found.count;
     fill_zeros(rows, base + n, base + 10);
-    judge_line(first_part(line, b','), found.good, n)
+    judge_line(first_part(line, b','), found.good, n, classes)
 }
 
 // Reads a text's lines, where `lent` rows are lent. The rows' numbers go to `rows`, as far as they lie within it.
@@ -243,19 +240,20 @@ fn read_lines(text: &[u8], rows: &mut [i64], lent: usize) -> Answer
     ensures { λ r. ⌜ r ≡ answerFrom lent 0 (parts 10 (now (text .entry))) ⌝ }
     ensures { λ _. ⌜ now (rows .exit) ≡ sets (now (rows .entry)) 0 (rowsRead lent 0 (parts 10 (now (text .entry)))) ⌝ }
 {
+    let classes = rows::class_table();
     let mut rest = text;
     let mut place: usize = 0;
     while 0 < rest.len() {
         let line = first_part(rest, b'\n');
         let n = line.len();
         if rest.len() <= n {
-            return Answer::Refused(9, place);
+            return Answer::Refused(refusals::MISSPELT, place);
         }
-        if let Line::Wrong(k) = read_line(line, rows, place * 10) {
+        if let Line::Wrong(k) = read_line(line, rows, place * 10, &classes) {
             return Answer::Refused(k, place);
         }
         if lent <= place {
-            return Answer::Refused(10, place);
+            return Answer::Refused(refusals::CROWDED, place);
         }
         place += 1;
         rest = &rest[n + 1..];
@@ -269,7 +267,7 @@ pub fn read_text(text: &[u8], rows: &mut [i64]) -> Answer
     ensures { λ r. ⌜ now (rows .exit) ≡ rowsAfter (answerOf (now (text .entry)) (length (now (rows .entry)) / 10)) (now (text .entry)) (now (rows .entry)) ⌝ }
 {
     if 65536 < text.len() {
-        return Answer::Refused(8, 0);
+        return Answer::Refused(refusals::OVERLONG, 0);
     }
     let lent = rows.len() / 10;
     let found = read_lines(text, &mut rows[..0], lent);

@@ -1,6 +1,6 @@
 -- `calendar::is_allowed` meets its contract. Assumes nothing.
 use borrow.Author.Tests.{ne-eqb}
-use Rattle.calendar.specs.Scan.{allows}
+use Rattle.calendar.specs.inner.Scan.{allows}
 use Rattle.calendar.proofs.is_allowed.Statement.{statement}
 use Rattle.calendar.proofs.is_allowed.Tie as tie
 

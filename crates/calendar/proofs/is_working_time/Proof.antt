@@ -1,8 +1,8 @@
 -- `calendar::is_working_time` meets its contract. Assumes nothing.
 use borrow.Author.Needs.{needs}
-use mathlib.Core.Path.{_≡_, sym, ap, _∙_}
+use mathlib.Core.Path.{ap, _∙_}
 use Rattle.calendar.specs.declared.Here.{Here}
-use Rattle.calendar.specs.Scan.{allows}
+use Rattle.calendar.specs.inner.Scan.{allows}
 use Rattle.calendar.proofs.Stretches.{works-look}
 use Rattle.calendar.proofs.is_working_time.Statement.{statement}
 use Rattle.calendar.proofs.is_working_time.Tie as tie

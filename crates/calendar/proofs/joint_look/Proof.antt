@@ -1,12 +1,12 @@
 -- `calendar::joint_look` meets its contract: `s` is what the calendars passed leave. Assumes nothing.
 use borrow.Author.Needs.{needs}
-use Prim.Native.Nat.{ℕ, _+_, _*_, _-_, _/_, _≤_, max}
-use mathlib.Core.Path.{_≡_, sym, ap, _∙_}
+use Prim.Native.Nat.{_-_, _/_, _≤_}
+use mathlib.Core.Path.{_≡_, ap, _∙_}
 use native.Mathlib.Omega.{arith}
 use mathlib.Core.Bool.{true}
 use mathlib.Core.List.{foldl}
 use lib.ListN.{length}
-use Rattle.calendar.specs.Scan.{lookAt, withCalendar, jointLook}
+use Rattle.calendar.specs.inner.Scan.{lookAt, withCalendar, jointLook}
 use Rattle.calendar.proofs.Places.{listsBelow, joint-start, joint-more, joint-end}
 use Rattle.calendar.proofs.joint_look.Statement.{statement}
 use Rattle.calendar.proofs.joint_look.Tie as tie

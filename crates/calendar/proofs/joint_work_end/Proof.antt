@@ -7,7 +7,7 @@ use borrow.Author.Tests.{not-true, not-false}
 use Rattle.loops.specs.Numbers.{toNat}
 use Rattle.calendar.specs.Clock.{clock}
 use Rattle.calendar.specs.WorkEnd.{endFrom, jointWorkEnd}
-use Rattle.calendar.specs.Layout.{answerOf}
+use Rattle.calendar.specs.Layout.{saying}
 use Rattle.calendar.proofs.joint_work_end.Statement.{statement}
 use Rattle.calendar.proofs.joint_work_end.Tie as tie
 
@@ -27,7 +27,7 @@ end-from-requires c κs = search needs
 returns-2 : tie.Need-returns-2
 unfolding jointWorkEnd
 returns-2 c = rw (sym (c .before .before .before .joint-working .ensures) ∙ not-false (c .before .before .before .joint-working .result) (c .before .before .if1 .left))
-    ((c .end-from .ensures) ∙ ap answerOf (ap (endFrom clock _ _) ((c .before .amount .ensures) ∙ ap toNat (toZ-ofZ w64 (c .before .before .before .before .before .before .args .work) (c .before .before .before .before .before .before .fits .work)))))
+    ((c .end-from .ensures) ∙ ap saying (ap (endFrom clock _ _) ((c .before .amount .ensures) ∙ ap toNat (toZ-ofZ w64 (c .before .before .before .before .before .before .args .work) (c .before .before .before .before .before .before .fits .work)))))
 
 pub joint-work-end-spec : {M : Type 1} → statement M
 joint-work-end-spec =

@@ -1,6 +1,5 @@
 -- `calendar::joint_working` meets its contract. Assumes nothing.
 use borrow.Author.Needs.{needs}
-use mathlib.Core.Path.{_≡_, sym, ap, subst, _∙_}
 use Rattle.calendar.proofs.Stretches.{looked-at}
 use Rattle.calendar.proofs.joint_working.Statement.{statement}
 use Rattle.calendar.proofs.joint_working.Tie as tie

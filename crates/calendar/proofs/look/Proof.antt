@@ -1,10 +1,10 @@
 -- `calendar::look` meets its contract: `s` is what the windows passed leave. Assumes nothing.
 use borrow.Author.Needs.{needs}
-use Prim.Native.Nat.{ℕ, _+_, _*_, _-_, _/_, _≤_, max}
-use mathlib.Core.Path.{_≡_, sym, ap, _∙_}
+use Prim.Native.Nat.{_-_, _≤_, max}
+use mathlib.Core.Path.{_≡_, ap, _∙_}
 use native.Mathlib.Omega.{arith}
 use mathlib.Core.List.{foldl}
-use Rattle.calendar.specs.Scan.{withWindow, lookAt}
+use Rattle.calendar.specs.inner.Scan.{withWindow, lookAt}
 use Rattle.calendar.proofs.Places.{below, scan-start, scan-more, scan-end}
 use Rattle.calendar.proofs.look.Statement.{statement}
 use Rattle.calendar.proofs.look.Tie as tie

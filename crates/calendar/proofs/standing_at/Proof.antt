@@ -1,7 +1,7 @@
 -- `calendar::standing_at` meets its contract. Assumes nothing.
 use mathlib.Core.Path.{ap, _∙_}
 use mathlib.Core.Bool.{Bool}
-use Rattle.calendar.specs.Scan.{standing, standingAt}
+use Rattle.calendar.specs.inner.Scan.{standing, standingAt}
 use borrow.Author.Needs.{needs}
 use Rattle.calendar.proofs.standing_at.Statement.{statement}
 use Rattle.calendar.proofs.standing_at.Tie as tie

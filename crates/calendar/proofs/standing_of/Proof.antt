@@ -1,6 +1,6 @@
 -- `calendar::standing_of` meets its contract. Assumes nothing.
 use borrow.Author.Tests.{ne-eqb}
-use Rattle.calendar.specs.Scan.{standing}
+use Rattle.calendar.specs.inner.Scan.{standing}
 use Rattle.calendar.proofs.standing_of.Statement.{statement}
 use Rattle.calendar.proofs.standing_of.Tie as tie
 

@@ -1,5 +1,5 @@
 -- `calendar::with_calendar` meets its contract. Assumes nothing.
-use Rattle.calendar.specs.Scan.{withCalendar}
+use Rattle.calendar.specs.inner.Scan.{withCalendar}
 use borrow.Author.Needs.{needs}
 use Rattle.calendar.proofs.with_calendar.Statement.{statement}
 use Rattle.calendar.proofs.with_calendar.Tie as tie

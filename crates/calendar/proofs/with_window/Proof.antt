@@ -1,5 +1,5 @@
 -- `calendar::with_window` meets its contract. Assumes nothing.
-use Rattle.calendar.specs.Scan.{withWindow}
+use Rattle.calendar.specs.inner.Scan.{withWindow}
 use borrow.Author.Needs.{needs}
 use Rattle.calendar.proofs.with_window.Statement.{statement}
 use Rattle.calendar.proofs.with_window.Tie as tie

@@ -1,23 +1,17 @@
 use borrow.Author.Needs.{needs}
-use Prim.Native.Nat.{ℕ, _-_}
+use Prim.Native.Nat.{_-_}
 use mathlib.Core.Path.{_≡_, sym, _∙_}
 use mathlib.Core.Bool.{false}
 use native.Mathlib.Omega.{arith}
-use Rattle.loops.specs.Chain.{Stands}
+use Rattle.loops.specs.inner.Chain.{Stands}
 use Rattle.loops.specs.Search.{anyBelow}
 use Rattle.loops.proofs.SearchLaws.{any-hit}
 use Rattle.loops.proofs.Walks.{any-first, any-next, any-end}
 use Rattle.rows.specs.Cells.{rowCount}
-use Rattle.sheet.specs.Index.{ownedBy}
+use Rattle.sheet.specs.inner.Index.{ownedBy}
 use Rattle.candidates.proofs.Uses.{lists, lists-blind, lists-test, listed-are}
 use Rattle.candidates.proofs.is_listed.Statement.{statement}
 use Rattle.candidates.proofs.is_listed.Tie as tie
-use Rattle.candidates.proofs.is_listed.Reads as reads
-use Rattle.candidates.proofs.is_listed.Lts as lts
-use Rattle.rows.proofs.is_at.Reads as is-at-reads
-use Rattle.rows.proofs.row_count.Reads as row-count-reads
-use Rattle.sheet.proofs.first_owned.Reads as first-owned-reads
-use Rattle.sheet.proofs.next_owned.Reads as next-owned-reads
 
 abbrev Inv-loop : tie.InvT-loop
 Inv-loop rows owned q id n i₀ i = Stands (ownedBy rows q 6) (rowCount rows) i × (anyBelow (lists rows q id) i ≡ false)
@@ -25,39 +19,30 @@ Inv-loop rows owned q id n i₀ i = Stands (ownedBy rows q 6) (rowCount rows) i 
 abbrev μ-loop : tie.MeasureT-loop
 μ-loop rows owned q id n i₀ i = n - i
 
--- src/lib.rt:21:9
 row-count-requires : tie.Need-row-count-requires Inv-loop μ-loop
 row-count-requires c κs = search needs
 
--- src/lib.rt:22:9
 first-owned-requires : tie.Need-first-owned-requires Inv-loop μ-loop
 first-owned-requires c κs = ((c .before .pre .0), omega (arith, (c .before .pre .1)))
 
--- src/lib.rt:23:5
 loop-holds : tie.Need-loop-holds Inv-loop μ-loop
 loop-holds c = (search needs, any-first _ (c .first-owned .ensures) (lists-blind _ _ _))
 
--- src/lib.rt:24:12
 is-at-requires : tie.Need-is-at-requires Inv-loop μ-loop
 is-at-requires c κs = search needs
 
--- src/lib.rt:25:13
 returns : tie.Need-returns Inv-loop μ-loop
 returns c = any-hit _ _ _ _ (c .before .before .loop-test .taken) (c .before .before .before .before .before .row-count .ensures) (lists-test _ _ _ (c .before .before .loop-test .taken) (c .before .before .before .before .before .row-count .ensures) ((c .before .before .before .loop .inv .0)) (c .before .is-at .ensures) (c .if1 .taken)) ∙ sym (listed-are _ _ ((c .before .before .before .before .before .before .pre .1)) ((c .before .before .before .before .before .before .pre .2)) _)
 
--- src/lib.rt:27:9
 next-owned-requires : tie.Need-next-owned-requires Inv-loop μ-loop
 next-owned-requires c κs = search needs
 
--- src/lib.rt:23:5
 loop-less : tie.Need-loop-less Inv-loop μ-loop
 loop-less c = search needs
 
--- src/lib.rt:23:5
 loop-again : tie.Need-loop-again Inv-loop μ-loop
 loop-again c = (search needs, any-next _ (c .next-owned .ensures) (lists-blind _ _ _) ((c .before .before .before .before .loop .inv .1)) (lists-test _ _ _ (c .before .before .before .loop-test .taken) (c .before .before .before .before .before .before .row-count .ensures) ((c .before .before .before .before .loop .inv .0)) (c .before .before .is-at .ensures) (c .before .if1 .left)))
 
--- src/lib.rt:17:1
 returns-2 : tie.Need-returns-2 Inv-loop μ-loop
 returns-2 c = any-end _ _ _ _ (c .loop-test .left) (c .before .before .before .row-count .ensures) ((c .before .loop .inv .0)) ((c .before .loop .inv .1)) ∙ sym (listed-are _ _ ((c .before .before .before .before .pre .1)) ((c .before .before .before .before .pre .2)) _)
 

@@ -1,78 +1,95 @@
-use mathlib.Core.Path.{_≡_, sym}
+use mathlib.Core.Path.{sym}
 use native.Mathlib.Omega.{arith}
 use lib.Seq.{length-take-le}
 use borrow.Author.Needs.{needs}
 use Rattle.check_schedule.proofs.main.Statement.{statement}
 use Rattle.check_schedule.proofs.main.Tie as tie
-use Rattle.check_schedule.proofs.main.Reads as reads
-use Rattle.check_schedule.proofs.main.Lts as lts
-use Rattle.check_schedule.proofs.longest_answer.Reads as longest-answer-reads
-use Rattle.check_schedule.proofs.longest_text.Reads as longest-text-reads
-use Rattle.check_schedule.proofs.print_text.Reads as print-text-reads
-use Rattle.io.proofs.read_full.Reads as read-full-reads
-use Rattle.io.proofs.write_all.Reads as write-all-reads
 
--- src/main.rt:63:20
+slice-aggregate-arguments : tie.Need-slice-aggregate-arguments
+slice-aggregate-arguments c = search needs
+
+arguments-requires : tie.Need-arguments-requires
+arguments-requires c κs = search needs
+
+returns : tie.Need-returns
+returns c = search needs
+
 longest-text-requires : tie.Need-longest-text-requires
 longest-text-requires c κs = search needs
 
--- src/main.rt:64:41
-slice-aggregate-read-full : tie.Need-slice-aggregate-read-full
-slice-aggregate-read-full c = search needs
+slice-aggregate-read-input : tie.Need-slice-aggregate-read-input
+slice-aggregate-read-input c = search needs
 
--- src/main.rt:64:9
-read-full-requires : tie.Need-read-full-requires
-read-full-requires c κs = search needs
+slice-aggregate-read-input-2 : tie.Need-slice-aggregate-read-input-2
+slice-aggregate-read-input-2 c = search needs
 
--- src/main.rt:65:19
+slice-aggregate-read-input-3 : tie.Need-slice-aggregate-read-input-3
+slice-aggregate-read-input-3 c = search needs
+
+read-input-requires : tie.Need-read-input-requires
+read-input-requires c κs = search needs
+
+enum-known-input : tie.Need-enum-known-input
+enum-known-input c = search needs
+
+enum-told : tie.Need-enum-told
+enum-told c = search needs
+
+returns-2 : tie.Need-returns-2
+returns-2 c = search needs
+
 longest-answer-requires : tie.Need-longest-answer-requires
 longest-answer-requires c κs = search needs
 
--- src/main.rt:66:24
 array-share-prefix-text : tie.Need-array-share-prefix-text
-array-share-prefix-text c = search needs
+array-share-prefix-text c = let h = rw (c .before .before .input .given .1) at (c .before .before .before .before .before .read-input .ensures) in search needs
 
--- src/main.rt:66:24
 slice-aggregate-print-text : tie.Need-slice-aggregate-print-text
-slice-aggregate-print-text c = search needs
+slice-aggregate-print-text c = let h = rw (c .before .before .before .input .given .1) at (c .before .before .before .before .before .before .read-input .ensures) in search needs
 
--- src/main.rt:66:36
 slice-aggregate-print-text-2 : tie.Need-slice-aggregate-print-text-2
 slice-aggregate-print-text-2 c = search needs
 
--- src/main.rt:66:9
 print-text-requires : tie.Need-print-text-requires
 print-text-requires c κs = search needs
 
--- src/main.rt:67:34
+slice-aggregate-write-output : tie.Need-slice-aggregate-write-output
+slice-aggregate-write-output c = search needs
+
 array-share-prefix-out : tie.Need-array-share-prefix-out
 array-share-prefix-out c = search needs
 
--- src/main.rt:67:34
-slice-aggregate-write-all : tie.Need-slice-aggregate-write-all
-slice-aggregate-write-all c = sym (length-take-le _ _ (omega (arith, (c .before .out2 .given), (c .before .before .print-text .ensures .0))))
+slice-aggregate-write-output-2 : tie.Need-slice-aggregate-write-output-2
+slice-aggregate-write-output-2 c = sym (length-take-le _ _ (omega (arith, (c .before .before .out2 .given), (c .before .before .before .print-text .ensures .0))))
 
--- src/main.rt:67:5
-write-all-requires : tie.Need-write-all-requires
-write-all-requires c κs = search needs
+write-output-requires : tie.Need-write-output-requires
+write-output-requires c κs = search needs
 
--- src/main.rt:62:1
-returns : tie.Need-returns
-returns c = search needs
+returns-3 : tie.Need-returns-3
+returns-3 c = search needs
 
 pub main-spec : {M : Type 1} → statement M
 main-spec =
     tie.close
     (tie.spec
+    slice-aggregate-arguments
+    arguments-requires
+    returns
     longest-text-requires
-    slice-aggregate-read-full
-    read-full-requires
+    slice-aggregate-read-input
+    slice-aggregate-read-input-2
+    slice-aggregate-read-input-3
+    read-input-requires
+    enum-known-input
+    enum-told
+    returns-2
     longest-answer-requires
     array-share-prefix-text
     slice-aggregate-print-text
     slice-aggregate-print-text-2
     print-text-requires
+    slice-aggregate-write-output
     array-share-prefix-out
-    slice-aggregate-write-all
-    write-all-requires
-    returns)
+    slice-aggregate-write-output-2
+    write-output-requires
+    returns-3)

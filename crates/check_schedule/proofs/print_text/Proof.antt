@@ -1,74 +1,53 @@
-use mathlib.Core.Path.{_≡_, sym}
+use mathlib.Core.Path.{sym}
 use native.Mathlib.Omega.{arith}
 use lib.Seq.{length-take-le}
 use Rattle.check_schedule.proofs.Printing.{text-accepted, text-refused, few-rows}
 use borrow.Author.Needs.{needs}
 use Rattle.check_schedule.proofs.print_text.Statement.{statement}
 use Rattle.check_schedule.proofs.print_text.Tie as tie
-use Rattle.check_schedule.proofs.print_text.Reads as reads
-use Rattle.check_schedule.proofs.print_text.Lts as lts
-use Rattle.check_schedule.proofs.numbers.Reads as numbers-reads
-use Rattle.check_schedule.proofs.print_sheet.Reads as print-sheet-reads
-use Rattle.output.proofs.print_answer.Reads as print-answer-reads
-use Rattle.text.proofs.read_text.Reads as read-text-reads
 
--- src/main.rt:51:20
 numbers-requires : tie.Need-numbers-requires
 numbers-requires c κs = search needs
 
--- src/main.rt:52:38
 slice-aggregate-read-text : tie.Need-slice-aggregate-read-text
 slice-aggregate-read-text c = search needs
 
--- src/main.rt:52:9
 read-text-requires : tie.Need-read-text-requires
 read-text-requires c κs = search needs
 
--- src/main.rt:54:32
 enum-known-read : tie.Need-enum-known-read
 enum-known-read c = search needs
 
--- src/main.rt:55:23
 mul-end : tie.Need-mul-end
 mul-end c = record { fits = omega (arith, few-rows _ (c .before .before .before .before .before .before .numbers .result) (sym (c .before .before .before .before .before .before .numbers .ensures)) ((c .before .before .before .before .read-text .ensures .0)) (c .before .read .given .1)) }
 
--- src/main.rt:56:25
 array-share-prefix-rows : tie.Need-array-share-prefix-rows
 array-share-prefix-rows c = omega (arith, (c .before .before .before .rows2 .given), few-rows _ (c .before .before .before .before .before .before .numbers .result) (sym (c .before .before .before .before .before .before .numbers .ensures)) ((c .before .before .before .before .read-text .ensures .0)) (c .before .read .given .1))
 
--- src/main.rt:56:25
 slice-aggregate-print-sheet : tie.Need-slice-aggregate-print-sheet
 slice-aggregate-print-sheet c = sym (length-take-le _ _ (omega (arith, (c .before .before .before .before .rows2 .given), few-rows _ (c .before .before .before .before .before .before .before .numbers .result) (sym (c .before .before .before .before .before .before .before .numbers .ensures)) ((c .before .before .before .before .before .read-text .ensures .0)) (c .before .before .read .given .1))))
 
--- src/main.rt:56:13
 print-sheet-requires : tie.Need-print-sheet-requires
 print-sheet-requires c κs = search needs
 
--- src/main.rt:58:31
 enum-known-read-2 : tie.Need-enum-known-read-2
 enum-known-read-2 c = search needs
 
--- src/main.rt:58:108
 slice-aggregate-print-answer : tie.Need-slice-aggregate-print-answer
 slice-aggregate-print-answer c = search needs
 
--- src/main.rt:58:49
 print-answer-requires : tie.Need-print-answer-requires
 print-answer-requires c κs = search needs
 
--- src/main.rt:46:1
 same-length : tie.Need-same-length
 same-length c = search needs
 
--- src/main.rt:46:1
 returns : tie.Need-returns
 returns c = ((c .before .before .print-sheet .ensures .0), text-accepted _ (c .before .before .before .before .before .before .before .before .before .before .before .numbers .result) (sym (c .before .before .before .before .before .before .before .before .before .before .before .numbers .ensures)) ((c .before .before .before .before .before .before .before .before .before .read-text .ensures .0)) _ ((c .before .before .before .before .before .before .before .before .before .read-text .ensures .1)) (c .before .before .before .before .before .before .read .given .1) ((c .before .before .print-sheet .ensures .1)))
 
--- src/main.rt:46:1
 same-length-2 : tie.Need-same-length-2
 same-length-2 c = search needs
 
--- src/main.rt:46:1
 returns-2 : tie.Need-returns-2
 returns-2 c = text-refused _ (c .before .before .before .before .before .before .before .before .before .before .before .numbers .result) (sym (c .before .before .before .before .before .before .before .before .before .before .before .numbers .ensures)) ((c .before .before .before .before .before .before .before .before .before .read-text .ensures .0)) _ (c .before .before .before .before .before .before .before .before .before .before .before .before .before .before .pre) (c .before .before .before .before .before .before .read2 .given .1) (c .before .before .before .before .before .known-told2 .given .0 .1) (c .before .before .before .before .before .known-told2 .given .1 .0 .1) ((c .before .before .print-answer .ensures .0)) ((c .before .before .print-answer .ensures .1))
 

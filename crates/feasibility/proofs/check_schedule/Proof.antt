@@ -2,38 +2,27 @@ use Rattle.feasibility.proofs.Top.{refused-sheet, indexed-of, by-rows}
 use borrow.Author.Needs.{needs}
 use Rattle.feasibility.proofs.check_schedule.Statement.{statement}
 use Rattle.feasibility.proofs.check_schedule.Tie as tie
-use Rattle.feasibility.proofs.check_schedule.Reads as reads
-use Rattle.feasibility.proofs.check_schedule.Lts as lts
-use Rattle.feasibility.proofs.check_times.Reads as check-times-reads
-use Rattle.refusals.proofs.index.Reads as index-reads
 
--- src/lib.rt:76:9
 index-requires : tie.Need-index-requires
 index-requires c κs = search needs
 
--- src/lib.rt:82:44
 enum-told : tie.Need-enum-told
 enum-told c = search needs
 
--- src/lib.rt:82:26
 check-times-requires : tie.Need-check-times-requires
-check-times-requires c κs = indexed-of _ (c .before .before .before .before .before .before .before .before .before .index .ensures) ((c .before .before .before .before .enum-told .given .1))
+check-times-requires c κs = indexed-of _ (c .before .before .before .before .before .before .index .ensures) (c .before .before .before .before .enum-told .given .1)
 
--- src/lib.rt:83:26
 enum-known-verdict : tie.Need-enum-known-verdict
 enum-known-verdict c = search needs
 
--- src/lib.rt:73:1
 same-length : tie.Need-same-length
 same-length c = search needs
 
--- src/lib.rt:73:1
 returns : tie.Need-returns
 returns c = search needs
 
--- src/lib.rt:73:1
 returns-2 : tie.Need-returns-2
-returns-2 c = refused-sheet _ _ _ _ (by-rows _ ((c .before .before .before .before .before .before .index .ensures .verdict)) ((c .before .verdict .given .1)))
+returns-2 c = refused-sheet _ _ _ (by-rows _ (c .before .before .before .index .ensures .verdict) (c .before .verdict .given .1))
 
 pub check-schedule-spec : {M : Type 1} → statement M
 check-schedule-spec =

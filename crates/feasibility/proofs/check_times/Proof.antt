@@ -3,48 +3,33 @@ use Rattle.feasibility.proofs.Top.{refused-sheet, needed-of, by-none, b
 use borrow.Author.Needs.{needs}
 use Rattle.feasibility.proofs.check_times.Statement.{statement}
 use Rattle.feasibility.proofs.check_times.Tie as tie
-use Rattle.feasibility.proofs.check_times.Reads as reads
-use Rattle.feasibility.proofs.check_times.Lts as lts
-use Rattle.feasibility.proofs.write_findings.Reads as write-findings-reads
-use Rattle.pieces.proofs.held_of.Reads as held-of-reads
-use Rattle.times.proofs.needs_of.Reads as needs-of-reads
-use Rattle.times.proofs.refused.Reads as refused-reads
 
--- src/lib.rt:64:16
 held-of-requires : tie.Need-held-of-requires
 held-of-requires c κs = (accepted _ ((c .pre .accepted)), (c .pre .linked), (c .pre .by-owner))
 
--- src/lib.rt:65:16
 needs-of-requires : tie.Need-needs-of-requires
 needs-of-requires c κs = (accepted _ ((c .before .before .pre .accepted)), (c .before .before .pre .linked), (c .before .before .pre .by-owner), (c .before .held-of .ensures))
 
--- src/lib.rt:66:9
 refused-requires : tie.Need-refused-requires
 refused-requires c κs = search needs
 
--- src/lib.rt:68:68
 enum-told : tie.Need-enum-told
 enum-told c = search needs
 
--- src/lib.rt:68:26
 write-findings-requires : tie.Need-write-findings-requires
 write-findings-requires c κs = ((c .before .before .before .before .before .before .before .before .before .before .pre), (c .before .before .before .before .before .before .before .before .before .held-of .ensures), needed-of _ _ (c .before .before .before .before .before .before .before .needs-of .ensures) (c .before .before .before .before .before .refused .ensures) ((c .before .before .before .enum-told .given .1)), by-none _ ((c .before .before .before .before .before .before .before .before .before .before .pre .accepted)) (c .before .before .before .before .before .refused .ensures) ((c .before .before .before .enum-told .given .1)))
 
--- src/lib.rt:69:26
 enum-known-verdict : tie.Need-enum-known-verdict
 enum-known-verdict c = search needs
 
--- src/lib.rt:60:1
 same-length : tie.Need-same-length
 same-length c = search needs
 
--- src/lib.rt:60:1
 returns : tie.Need-returns
 returns c = search needs
 
--- src/lib.rt:60:1
 returns-2 : tie.Need-returns-2
-returns-2 c = refused-sheet _ _ _ _ (by-times _ ((c .before .before .before .before .before .before .before .before .pre .accepted)) (c .before .before .before .refused .ensures) ((c .before .verdict .given .1)))
+returns-2 c = refused-sheet _ _ _ (by-times _ ((c .before .before .before .before .before .before .before .before .pre .accepted)) (c .before .before .before .refused .ensures) ((c .before .verdict .given .1)))
 
 pub check-times-spec : {M : Type 1} → statement M
 check-times-spec =

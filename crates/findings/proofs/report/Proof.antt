@@ -3,23 +3,16 @@ use mathlib.Core.Path.{sym, _∙_}
 use borrow.Author.Needs.{needs}
 use Rattle.findings.proofs.report.Statement.{statement}
 use Rattle.findings.proofs.report.Tie as tie
-use Rattle.findings.proofs.report.Reads as reads
-use Rattle.findings.proofs.report.Lts as lts
-use Rattle.findings.proofs.put.Reads as put-reads
 
--- src/lib.rt:101:9
 put-requires : tie.Need-put-requires
 put-requires c κs = search needs
 
--- src/lib.rt:101:9
 same-length : tie.Need-same-length
 same-length c = search needs
 
--- src/lib.rt:101:9
 returns : tie.Need-returns
 returns c = rw (c .before .before .before .if1 .taken) (c .before .put .ensures ∙ sym (emit-one _ _))
 
--- src/lib.rt:97:1
 returns-2 : tie.Need-returns-2
 returns-2 c = rw (c .if1 .left) (sym (emit-none _))
 

@@ -1,68 +1,52 @@
 use borrow.Author.Needs.{needs}
 use borrow.Author.Tests.{lt-ltb, le-ltb}
-use Rattle.load.specs.Load.{heldBy}
+use Rattle.load.specs.Load.{taken}
 use Rattle.load.proofs.held_at.Statement.{statement}
 use Rattle.load.proofs.held_at.Tie as tie
-use Rattle.load.proofs.held_at.Reads as reads
-use Rattle.load.proofs.held_at.Lts as lts
 
--- src/lib.rt:13:14
 mul-if1 : tie.Need-mul-if1
 mul-if1 c = search needs
 
--- src/lib.rt:13:12
 mul-if1-2 : tie.Need-mul-if1-2
 mul-if1-2 c = search needs
 
--- src/lib.rt:13:12
 element-copy-out-if1 : tie.Need-element-copy-out-if1
 element-copy-out-if1 c = search needs
 
--- src/lib.rt:14:9
 returns : tie.Need-returns
-unfolding heldBy
+unfolding taken
 returns c = simp (lt-ltb _ _ (c .if1 .taken))
 
--- src/lib.rt:16:14
 mul-if2 : tie.Need-mul-if2
 mul-if2 c = search needs
 
--- src/lib.rt:16:14
 add-if2 : tie.Need-add-if2
 add-if2 c = search needs
 
--- src/lib.rt:16:12
 mul-if2-2 : tie.Need-mul-if2-2
 mul-if2-2 c = search needs
 
--- src/lib.rt:16:12
 element-copy-out-if2 : tie.Need-element-copy-out-if2
 element-copy-out-if2 c = search needs
 
--- src/lib.rt:17:18
 mul-result : tie.Need-mul-result
 mul-result c = search needs
 
--- src/lib.rt:17:18
 add-result : tie.Need-add-result
 add-result c = search needs
 
--- src/lib.rt:17:16
 mul-result-2 : tie.Need-mul-result-2
 mul-result-2 c = search needs
 
--- src/lib.rt:17:16
 element-copy-out-result : tie.Need-element-copy-out-result
 element-copy-out-result c = search needs
 
--- src/lib.rt:17:9
 returns-2 : tie.Need-returns-2
-unfolding heldBy
+unfolding taken
 returns-2 c = simp (le-ltb _ _ (c .before .before .before .if1 .left), lt-ltb _ _ (c .before .if2 .taken))
 
--- src/lib.rt:9:1
 returns-3 : tie.Need-returns-3
-unfolding heldBy
+unfolding taken
 returns-3 c = simp (le-ltb _ _ (c .before .before .if1 .left), le-ltb _ _ (c .if2 .left))
 
 pub held-at-spec : {M : Type 1} → statement M

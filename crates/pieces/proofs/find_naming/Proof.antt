@@ -1,22 +1,16 @@
 use borrow.Author.Needs.{needs}
 use Rattle.pieces.proofs.Chains.{found-here, found-none}
-use Rattle.pieces.specs.Bookings.{names}
-use Rattle.sheet.specs.Index.{ownedBy}
+use Rattle.pieces.specs.inner.Bookings.{names}
+use Rattle.sheet.specs.inner.Index.{ownedBy}
 use Rattle.rows.specs.Cells.{rowCount}
 use Rattle.loops.proofs.Walks.{any-first, any-next}
 use Rattle.loops.specs.Search.{anyBelow}
-use Rattle.loops.specs.Chain.{Stands}
+use Rattle.loops.specs.inner.Chain.{Stands}
 use mathlib.Core.Bool.{false}
 use mathlib.Core.Path.{_≡_, sym, _∙_}
 use Prim.Native.Nat.{_-_}
 use Rattle.pieces.proofs.find_naming.Statement.{statement}
 use Rattle.pieces.proofs.find_naming.Tie as tie
-use Rattle.pieces.proofs.find_naming.Reads as reads
-use Rattle.pieces.proofs.find_naming.Lts as lts
-use Rattle.pieces.proofs.names_at.Reads as names-at-reads
-use Rattle.rows.proofs.row_count.Reads as row-count-reads
-use Rattle.sheet.proofs.first_owned.Reads as first-owned-reads
-use Rattle.sheet.proofs.next_owned.Reads as next-owned-reads
 
 abbrev Inv-loop : tie.InvT-loop
 Inv-loop rows owned o x a b n i₀ i = Stands (ownedBy rows o x) (rowCount rows) i × (anyBelow (names rows x a b) i ≡ false)
@@ -24,39 +18,30 @@ Inv-loop rows owned o x a b n i₀ i = Stands (ownedBy rows o x) (rowCount rows)
 abbrev μ-loop : tie.MeasureT-loop
 μ-loop rows owned o x a b n i₀ i = n - i
 
--- src/lib.rt:62:9
 row-count-requires : tie.Need-row-count-requires Inv-loop μ-loop
 row-count-requires c κs = search needs
 
--- src/lib.rt:63:9
 first-owned-requires : tie.Need-first-owned-requires Inv-loop μ-loop
 first-owned-requires c κs = search needs
 
--- src/lib.rt:64:5
 loop-holds : tie.Need-loop-holds Inv-loop μ-loop
 loop-holds c = (search needs, any-first _ (c .first-owned .ensures) ((c .before .before .pre .2)))
 
--- src/lib.rt:65:12
 names-at-requires : tie.Need-names-at-requires Inv-loop μ-loop
 names-at-requires c κs = search needs
 
--- src/lib.rt:66:13
 returns : tie.Need-returns Inv-loop μ-loop
 returns c = found-here _ _ _ _ (c .before .before .loop-test .taken) (c .before .before .before .before .before .row-count .ensures) ((c .before .before .before .loop .inv .1)) (sym (c .before .names-at .ensures) ∙ (c .if1 .taken))
 
--- src/lib.rt:68:9
 next-owned-requires : tie.Need-next-owned-requires Inv-loop μ-loop
 next-owned-requires c κs = search needs
 
--- src/lib.rt:64:5
 loop-less : tie.Need-loop-less Inv-loop μ-loop
 loop-less c = search needs
 
--- src/lib.rt:64:5
 loop-again : tie.Need-loop-again Inv-loop μ-loop
 loop-again c = (search needs, any-next _ (c .next-owned .ensures) ((c .before .before .before .before .before .before .before .pre .2)) ((c .before .before .before .before .loop .inv .1)) (sym (c .before .before .names-at .ensures) ∙ (c .before .if1 .left)))
 
--- src/lib.rt:58:1
 returns-2 : tie.Need-returns-2 Inv-loop μ-loop
 returns-2 c = found-none _ _ _ _ (c .loop-test .left) (c .before .before .before .row-count .ensures) ((c .before .loop .inv .0)) ((c .before .loop .inv .1))
 

@@ -1,27 +1,19 @@
-use Rattle.pieces.specs.Bookings.{firstOn}
-use mathlib.Core.Path.{_≡_, sym, ap, ap₂, _∙_}
+use Rattle.pieces.specs.inner.Bookings.{firstOn}
+use mathlib.Core.Path.{sym, _∙_}
 use borrow.Author.Needs.{needs}
 use Rattle.pieces.proofs.first_at.Statement.{statement}
 use Rattle.pieces.proofs.first_at.Tie as tie
-use Rattle.pieces.proofs.first_at.Reads as reads
-use Rattle.pieces.proofs.first_at.Lts as lts
-use Rattle.pieces.proofs.is_first.Reads as is-first-reads
-use Rattle.rows.proofs.is_at.Reads as is-at-reads
 
--- src/lib.rt:108:8
 is-at-requires : tie.Need-is-at-requires
 is-at-requires c κs = search needs
 
--- src/lib.rt:109:9
 is-first-requires : tie.Need-is-first-requires
 is-first-requires c κs = ((c .before .before .pre .0), (c .before .before .pre .1), (c .before .before .pre .2), (sym (c .before .is-at .ensures) ∙ (c .if1 .taken)))
 
--- src/lib.rt:109:9
 returns : tie.Need-returns
 unfolding firstOn
 returns c = rw (sym (c .before .before .is-at .ensures) ∙ (c .before .if1 .taken)) (c .is-first .ensures)
 
--- src/lib.rt:104:1
 returns-2 : tie.Need-returns-2
 unfolding firstOn
 returns-2 c = rw (sym (c .before .is-at .ensures) ∙ (c .if1 .left))

@@ -1,26 +1,18 @@
-use mathlib.Core.Path.{_≡_, sym, ap, ap₂, _∙_}
+use mathlib.Core.Path.{sym, _∙_}
 use Rattle.pieces.proofs.Companions.{held-booking, held-none}
 use borrow.Author.Needs.{needs}
 use Rattle.pieces.proofs.held_at.Statement.{statement}
 use Rattle.pieces.proofs.held_at.Tie as tie
-use Rattle.pieces.proofs.held_at.Reads as reads
-use Rattle.pieces.proofs.held_at.Lts as lts
-use Rattle.pieces.proofs.is_held.Reads as is-held-reads
-use Rattle.rows.proofs.is_at.Reads as is-at-reads
 
--- src/lib.rt:223:8
 is-at-requires : tie.Need-is-at-requires
 is-at-requires c κs = search needs
 
--- src/lib.rt:224:9
 is-held-requires : tie.Need-is-held-requires
 is-held-requires c κs = ((c .before .before .pre .0), (c .before .before .pre .1), (c .before .before .pre .2), (c .before .before .pre .3), (c .before .before .pre .4), (sym (c .before .is-at .ensures) ∙ (c .if1 .taken)))
 
--- src/lib.rt:224:9
 returns : tie.Need-returns
 returns c = (c .is-held .ensures) ∙ sym (held-booking _ ((c .before .before .before .pre .0)) _ ((c .before .before .before .pre .4)) (sym (c .before .before .is-at .ensures) ∙ (c .before .if1 .taken)))
 
--- src/lib.rt:213:1
 returns-2 : tie.Need-returns-2
 returns-2 c = sym (held-none _ _ (sym (c .before .is-at .ensures) ∙ (c .if1 .left)))
 

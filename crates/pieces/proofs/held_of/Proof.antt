@@ -1,18 +1,13 @@
 use borrow.Author.Needs.{needs}
-use Rattle.pieces.specs.Held.{heldAt}
-use Rattle.pieces.proofs.Marks.{Filled, filled-start, filled-turn, held-end}
+use Rattle.loops.proofs.StoreLaws.{Filled, filled-start, filled-turn}
+use Rattle.pieces.specs.inner.Held.{heldAt}
+use Rattle.pieces.proofs.Marks.{held-end}
 use mathlib.Core.Bool.{cond}
 use Prim.Native.Nat.{_-_, _≤_}
 use native.Mathlib.Omega.{arith}
-use mathlib.Core.Path.{_≡_, sym, ap, ap₂, _∙_}
+use mathlib.Core.Path.{ap}
 use Rattle.pieces.proofs.held_of.Statement.{statement}
 use Rattle.pieces.proofs.held_of.Tie as tie
-use Rattle.pieces.proofs.held_of.Reads as reads
-use Rattle.pieces.proofs.held_of.Lts as lts
-use Rattle.pieces.proofs.firsts_of.Reads as firsts-of-reads
-use Rattle.pieces.proofs.held_at.Reads as held-at-reads
-use Rattle.pieces.proofs.mark.Reads as mark-reads
-use Rattle.rows.proofs.row_count.Reads as row-count-reads
 
 abbrev Inv-loop : tie.InvT-loop
 Inv-loop rows links owned n firsts held₀ k₀ held k = (k ≤ n) × Filled (λ j. cond (heldAt rows j) 1 0) k held
@@ -20,41 +15,32 @@ Inv-loop rows links owned n firsts held₀ k₀ held k = (k ≤ n) × Filled (λ
 abbrev μ-loop : tie.MeasureT-loop
 μ-loop rows links owned n firsts held₀ k₀ held k = n - k
 
--- src/lib.rt:234:9
 row-count-requires : tie.Need-row-count-requires Inv-loop μ-loop
 row-count-requires c κs = search needs
 
--- src/lib.rt:235:18
 firsts-of-requires : tie.Need-firsts-of-requires Inv-loop μ-loop
 firsts-of-requires c κs = search needs
 
--- src/lib.rt:238:5
 loop-holds : tie.Need-loop-holds Inv-loop μ-loop
-loop-holds c = (search needs, filled-start _ 0)
+loop-holds c = (search needs, filled-start _)
 
--- src/lib.rt:239:28
 held-at-requires : tie.Need-held-at-requires Inv-loop μ-loop
 held-at-requires c κs = ((c .before .before .before .before .before .before .pre .0), (c .before .before .before .before .before .before .pre .1), (c .before .before .before .before .before .before .pre .2), (c .before .before .before .before .firsts-of .ensures), omega (arith, (c .before .before .loop-test .taken), (c .before .before .before .before .before .row-count .ensures)))
 
--- src/lib.rt:239:9
 mark-requires : tie.Need-mark-requires Inv-loop μ-loop
 mark-requires c κs = (omega (arith, (c .before .before .before .loop-test .taken), (c .before .before .before .before .before .before .row-count .ensures), (c .before .before .before .before .before .before .before .pre .1 .short)))
 
--- src/lib.rt:240:9
 add-k : tie.Need-add-k Inv-loop μ-loop
 add-k c = search needs
 
--- src/lib.rt:238:5
 loop-less : tie.Need-loop-less Inv-loop μ-loop
 loop-less c = search needs
 
--- src/lib.rt:238:5
 loop-again : tie.Need-loop-again Inv-loop μ-loop
 loop-again c = (search needs, filled-turn _ _ _ _ _ (omega (arith, (c .before .before .before .before .loop-test .taken), (c .before .before .before .before .before .before .before .row-count .ensures), (c .before .before .before .before .before .before .before .before .pre .1 .short))) (ap (λ b. cond b 1 0) (c .before .held-at .ensures)) (c .mark .ensures) ((c .before .before .before .before .before .loop .inv .1)))
 
--- src/lib.rt:230:1
 returns : tie.Need-returns Inv-loop μ-loop
-returns c = held-end _ _ _ _ (c .loop-test .left) (c .before .before .before .row-count .ensures) ((c .before .before .before .before .pre .1 .short)) ((c .before .loop .inv .1))
+returns c = held-end _ _ _ _ (c .loop-test .left) ((c .before .loop .inv .0)) (c .before .before .before .row-count .ensures) ((c .before .before .before .before .pre .1 .short)) ((c .before .loop .inv .1))
 
 pub held-of-spec : {M : Type 1} → statement M
 held-of-spec =

@@ -1,43 +1,30 @@
-use Rattle.pieces.specs.Bookings.{holdsFor}
-use mathlib.Core.Path.{_≡_, sym, ap, ap₂, _∙_}
+use Rattle.pieces.specs.inner.Bookings.{holdsFor}
+use mathlib.Core.Path.{sym, _∙_}
 use Rattle.pieces.proofs.Chains.{piece-kind}
 use borrow.Author.Needs.{needs}
 use Rattle.pieces.proofs.holds_for.Statement.{statement}
 use Rattle.pieces.proofs.holds_for.Tie as tie
-use Rattle.pieces.proofs.holds_for.Reads as reads
-use Rattle.pieces.proofs.holds_for.Lts as lts
-use Rattle.pieces.proofs.in_piece.Reads as in-piece-reads
-use Rattle.pieces.proofs.is_companion.Reads as is-companion-reads
-use Rattle.rows.proofs.is_at.Reads as is-at-reads
-use Rattle.rows.proofs.num_at.Reads as num-at-reads
 
--- src/lib.rt:161:8
 in-piece-requires : tie.Need-in-piece-requires
 in-piece-requires c κs = search needs
 
--- src/lib.rt:162:13
 num-at-requires : tie.Need-num-at-requires
 num-at-requires c κs = search needs
 
--- src/lib.rt:163:12
 is-at-requires : tie.Need-is-at-requires
 is-at-requires c κs = search needs
 
--- src/lib.rt:164:13
 returns : tie.Need-returns
 unfolding holdsFor
 returns c = rw (sym (c .before .before .before .before .in-piece .ensures) ∙ (c .before .before .before .if1 .taken), ← (c .before .before .num-at .ensures), sym (c .before .is-at .ensures) ∙ (c .if2 .taken))
 
--- src/lib.rt:166:9
 is-companion-requires : tie.Need-is-companion-requires
 is-companion-requires c κs = ((c .before .before .before .before .before .pre .0), (c .before .before .before .before .before .pre .1), (c .before .before .before .before .before .pre .2), (c .before .before .before .before .before .pre .3), piece-kind _ _ _ (sym (c .before .before .before .before .in-piece .ensures) ∙ (c .before .before .before .if1 .taken)))
 
--- src/lib.rt:166:9
 returns-2 : tie.Need-returns-2
 unfolding holdsFor
 returns-2 c = rw (sym (c .before .before .before .before .before .in-piece .ensures) ∙ (c .before .before .before .before .if1 .taken), ← (c .before .before .before .num-at .ensures), sym (c .before .before .is-at .ensures) ∙ (c .before .if2 .left)) (c .is-companion .ensures)
 
--- src/lib.rt:157:1
 returns-3 : tie.Need-returns-3
 unfolding holdsFor
 returns-3 c = rw (sym (c .before .in-piece .ensures) ∙ (c .if1 .left))

@@ -1,46 +1,33 @@
-use Rattle.pieces.specs.Bookings.{inPiece}
+use Rattle.pieces.specs.inner.Bookings.{inPiece}
 use lib.Dec.{eqb}
 use mathlib.Core.Path.{sym, ap₂, _∙_}
 use borrow.Author.Needs.{needs}
 use Rattle.pieces.proofs.in_piece.Statement.{statement}
 use Rattle.pieces.proofs.in_piece.Tie as tie
-use Rattle.pieces.proofs.in_piece.Reads as reads
-use Rattle.pieces.proofs.in_piece.Lts as lts
-use Rattle.pieces.proofs.key_at.Reads as key-at-reads
-use Rattle.rows.proofs.is_at.Reads as is-at-reads
-use Rattle.rows.proofs.num_at.Reads as num-at-reads
 
--- src/lib.rt:36:8
 is-at-requires : tie.Need-is-at-requires
 is-at-requires c κs = search needs
 
--- src/lib.rt:37:36
 num-at-requires : tie.Need-num-at-requires
 num-at-requires c κs = search needs
 
--- src/lib.rt:37:12
 is-at-requires-2 : tie.Need-is-at-requires-2
 is-at-requires-2 c κs = search needs
 
--- src/lib.rt:38:20
 key-at-requires : tie.Need-key-at-requires
 key-at-requires c κs = search needs
 
--- src/lib.rt:38:39
 key-at-requires-2 : tie.Need-key-at-requires-2
 key-at-requires-2 c κs = search needs
 
--- src/lib.rt:38:13
 returns : tie.Need-returns
 unfolding inPiece
 returns c = rw (sym (c .before .before .before .before .before .before .is-at .ensures) ∙ (c .before .before .before .before .before .if1 .taken), ← (c .before .before .before .before .num-at .ensures), sym (c .before .before .before .is-at2 .ensures) ∙ (c .before .before .if2 .taken)) (ap₂ eqb (c .before .key-at .ensures) (c .key-at2 .ensures))
 
--- src/lib.rt:33:1
 returns-2 : tie.Need-returns-2
 unfolding inPiece
 returns-2 c = rw (sym (c .before .before .before .before .is-at .ensures) ∙ (c .before .before .before .if1 .taken), ← (c .before .before .num-at .ensures), sym (c .before .is-at2 .ensures) ∙ (c .if2 .left))
 
--- src/lib.rt:33:1
 returns-3 : tie.Need-returns-3
 unfolding inPiece
 returns-3 c = rw (sym (c .before .is-at .ensures) ∙ (c .if1 .left))

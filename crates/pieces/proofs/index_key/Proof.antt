@@ -3,34 +3,25 @@ use native.Mathlib.Omega.{arith}
 use Rattle.pieces.proofs.Indices.{low, middle, upper, pos-fits}
 use Rattle.pieces.proofs.index_key.Statement.{statement}
 use Rattle.pieces.proofs.index_key.Tie as tie
-use Rattle.pieces.proofs.index_key.Reads as reads
-use Rattle.pieces.proofs.index_key.Lts as lts
 
--- src/lib.rt:20:9
 returns : tie.Need-returns
 returns c = low _ (c .before .fits .x) (c .if1 .taken)
 
--- src/lib.rt:23:17
 add-result : tie.Need-add-result
 add-result c = let m = middle _ (c .before .before .fits .x) (c .before .if1 .left) (c .if2 .taken) in rw (toZ-ofZ (c .before .before .fits .x), m .sum) (pos-fits _ (m .small))
 
--- src/lib.rt:23:16
 cast-result : tie.Need-cast-result
 cast-result c = let m = middle _ (c .before .before .fits .x) (c .before .if1 .left) (c .if2 .taken) in rw (toZ-ofZ (c .before .before .fits .x), m .sum, toZ-ofZ (pos-fits _ (m .small))) (tt, record { fits = omega (arith, m .small) })
 
--- src/lib.rt:23:9
 returns-2 : tie.Need-returns-2
 returns-2 c = let m = middle _ (c .before .before .fits .x) (c .before .if1 .left) (c .if2 .taken) in rw (toZ-ofZ (c .before .before .fits .x), m .sum, toZ-ofZ (pos-fits _ (m .small))) (m .key)
 
--- src/lib.rt:25:5
 cast-result-2 : tie.Need-cast-result-2
 cast-result-2 c = let u = upper _ (c .before .before .fits .x) (c .if2 .left) in rw (toZ-ofZ (c .before .before .fits .x)) (u .0, record { fits = omega (arith, u .2) })
 
--- src/lib.rt:25:5
 add-result-2 : tie.Need-add-result-2
 add-result-2 c = let u = upper _ (c .before .before .fits .x) (c .if2 .left) in rw (toZ-ofZ (c .before .before .fits .x)) (record { fits = omega (arith, u .2) })
 
--- src/lib.rt:16:1
 returns-3 : tie.Need-returns-3
 returns-3 c = let u = upper _ (c .before .before .fits .x) (c .if2 .left) in rw (toZ-ofZ (c .before .before .fits .x)) (u .1)
 

@@ -1,24 +1,18 @@
 use borrow.Author.Needs.{needs}
-use Rattle.pieces.specs.Bookings.{sameBooking}
+use Rattle.pieces.specs.inner.Bookings.{sameBooking}
 use Rattle.pieces.proofs.Chains.{same-blind, not-first, is-first}
 use Rattle.sheet.proofs.Tables.{own-below}
-use Rattle.sheet.specs.Index.{ownedBy}
+use Rattle.sheet.specs.inner.Index.{ownedBy}
 use Rattle.rows.specs.Cells.{rowCount}
-use Rattle.loops.proofs.Walks.{any-first, any-next, any-end}
+use Rattle.loops.proofs.Walks.{any-first, any-next}
 use Rattle.loops.specs.Search.{anyBelow}
-use Rattle.loops.specs.Chain.{Stands}
+use Rattle.loops.specs.inner.Chain.{Stands}
 use mathlib.Core.Bool.{false}
-use Prim.Native.Nat.{_-_, _≤_}
+use Prim.Native.Nat.{_-_}
 use native.Mathlib.Omega.{arith}
-use mathlib.Core.Path.{_≡_, sym, ap, ap₂, _∙_}
+use mathlib.Core.Path.{_≡_, sym, _∙_}
 use Rattle.pieces.proofs.is_first.Statement.{statement}
 use Rattle.pieces.proofs.is_first.Tie as tie
-use Rattle.pieces.proofs.is_first.Reads as reads
-use Rattle.pieces.proofs.is_first.Lts as lts
-use Rattle.pieces.proofs.is_same.Reads as is-same-reads
-use Rattle.sheet.proofs.first_owned.Reads as first-owned-reads
-use Rattle.sheet.proofs.next_owned.Reads as next-owned-reads
-use Rattle.sheet.proofs.owner_of.Reads as owner-of-reads
 
 abbrev Inv-loop : tie.InvT-loop
 Inv-loop rows links owned k o j₀ j = Stands (ownedBy rows o 23) (rowCount rows) j × (anyBelow (sameBooking rows k) j ≡ false)
@@ -26,39 +20,30 @@ Inv-loop rows links owned k o j₀ j = Stands (ownedBy rows o 23) (rowCount rows
 abbrev μ-loop : tie.MeasureT-loop
 μ-loop rows links owned k o j₀ j = k - j
 
--- src/lib.rt:93:9
 owner-of-requires : tie.Need-owner-of-requires Inv-loop μ-loop
 owner-of-requires c κs = search needs
 
--- src/lib.rt:94:9
 first-owned-requires : tie.Need-first-owned-requires Inv-loop μ-loop
 first-owned-requires c κs = ((c .before .pre .1), rw (c .owner-of .ensures) (own-below _ _))
 
--- src/lib.rt:95:5
 loop-holds : tie.Need-loop-holds Inv-loop μ-loop
 loop-holds c = (search needs, any-first _ (c .first-owned .ensures) (same-blind _ _ _ ((c .before .before .pre .3)) (c .before .owner-of .ensures)))
 
--- src/lib.rt:96:12
 is-same-requires : tie.Need-is-same-requires Inv-loop μ-loop
 is-same-requires c κs = search needs
 
--- src/lib.rt:97:13
 returns : tie.Need-returns Inv-loop μ-loop
 returns c = not-first _ _ _ (c .before .before .loop-test .taken) (sym (c .before .is-same .ensures) ∙ (c .if1 .taken))
 
--- src/lib.rt:99:9
 next-owned-requires : tie.Need-next-owned-requires Inv-loop μ-loop
 next-owned-requires c κs = ((c .before .before .before .before .before .before .pre .1), (c .before .before .before .loop .inv .0), omega (arith, (c .before .before .loop-test .taken), (c .before .before .before .before .before .before .pre .2)))
 
--- src/lib.rt:95:5
 loop-less : tie.Need-loop-less Inv-loop μ-loop
 loop-less c = search needs
 
--- src/lib.rt:95:5
 loop-again : tie.Need-loop-again Inv-loop μ-loop
 loop-again c = (search needs, any-next _ (c .next-owned .ensures) (same-blind _ _ _ ((c .before .before .before .before .before .before .before .pre .3)) (c .before .before .before .before .before .before .owner-of .ensures)) ((c .before .before .before .before .loop .inv .1)) (sym (c .before .before .is-same .ensures) ∙ (c .before .if1 .left)))
 
--- src/lib.rt:89:1
 returns-2 : tie.Need-returns-2 Inv-loop μ-loop
 returns-2 c = is-first _ _ _ (c .loop-test .left) ((c .before .loop .inv .1))
 

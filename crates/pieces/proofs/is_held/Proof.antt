@@ -2,24 +2,17 @@ use borrow.Author.Needs.{needs}
 use Rattle.loops.proofs.SearchLaws.{any-hit}
 use Rattle.pieces.proofs.Chains.{firstHolds, first-blind, firsts-enough}
 use Rattle.sheet.proofs.Tables.{own-below}
-use Rattle.sheet.specs.Index.{ownedBy}
+use Rattle.sheet.specs.inner.Index.{ownedBy}
 use Rattle.rows.specs.Cells.{rowCount}
 use Rattle.loops.proofs.Walks.{any-first, any-next, any-end}
 use Rattle.loops.specs.Search.{anyBelow}
-use Rattle.loops.specs.Chain.{Stands}
+use Rattle.loops.specs.inner.Chain.{Stands}
 use mathlib.Core.Bool.{false}
-use Prim.Native.Nat.{_-_, _≤_}
+use Prim.Native.Nat.{_-_}
 use native.Mathlib.Omega.{arith}
-use mathlib.Core.Path.{_≡_, sym, ap, ap₂, _∙_}
+use mathlib.Core.Path.{_≡_, sym, _∙_}
 use Rattle.pieces.proofs.is_held.Statement.{statement}
 use Rattle.pieces.proofs.is_held.Tie as tie
-use Rattle.pieces.proofs.is_held.Reads as reads
-use Rattle.pieces.proofs.is_held.Lts as lts
-use Rattle.pieces.proofs.first_holds.Reads as first-holds-reads
-use Rattle.rows.proofs.row_count.Reads as row-count-reads
-use Rattle.sheet.proofs.first_owned.Reads as first-owned-reads
-use Rattle.sheet.proofs.next_owned.Reads as next-owned-reads
-use Rattle.sheet.proofs.owner_of.Reads as owner-of-reads
 
 abbrev Inv-loop : tie.InvT-loop
 Inv-loop rows links owned firsts k n o j₀ j = Stands (ownedBy rows o 23) (rowCount rows) j × (anyBelow (firstHolds rows k) j ≡ false)
@@ -27,43 +20,33 @@ Inv-loop rows links owned firsts k n o j₀ j = Stands (ownedBy rows o 23) (rowC
 abbrev μ-loop : tie.MeasureT-loop
 μ-loop rows links owned firsts k n o j₀ j = n - j
 
--- src/lib.rt:200:9
 row-count-requires : tie.Need-row-count-requires Inv-loop μ-loop
 row-count-requires c κs = search needs
 
--- src/lib.rt:201:9
 owner-of-requires : tie.Need-owner-of-requires Inv-loop μ-loop
 owner-of-requires c κs = search needs
 
--- src/lib.rt:202:9
 first-owned-requires : tie.Need-first-owned-requires Inv-loop μ-loop
 first-owned-requires c κs = ((c .before .before .pre .2), rw (c .owner-of .ensures) (own-below _ _))
 
--- src/lib.rt:203:5
 loop-holds : tie.Need-loop-holds Inv-loop μ-loop
 loop-holds c = (search needs, any-first _ (c .first-owned .ensures) (first-blind _ _ _ ((c .before .before .before .pre .5)) (c .before .owner-of .ensures)))
 
--- src/lib.rt:204:12
 first-holds-requires : tie.Need-first-holds-requires Inv-loop μ-loop
 first-holds-requires c κs = ((c .before .before .before .before .before .pre .0), (c .before .before .before .before .before .pre .1), (c .before .before .before .before .before .pre .2), (c .before .before .before .before .before .pre .3), omega (arith, (c .loop-test .taken), (c .before .before .before .before .row-count .ensures)))
 
--- src/lib.rt:205:13
 returns : tie.Need-returns Inv-loop μ-loop
 returns c = any-hit _ _ _ _ (c .before .before .loop-test .taken) (c .before .before .before .before .before .before .row-count .ensures) (sym (c .before .first-holds .ensures) ∙ (c .if1 .taken)) ∙ firsts-enough _ _
 
--- src/lib.rt:207:9
 next-owned-requires : tie.Need-next-owned-requires Inv-loop μ-loop
 next-owned-requires c κs = search needs
 
--- src/lib.rt:203:5
 loop-less : tie.Need-loop-less Inv-loop μ-loop
 loop-less c = search needs
 
--- src/lib.rt:203:5
 loop-again : tie.Need-loop-again Inv-loop μ-loop
 loop-again c = (search needs, any-next _ (c .next-owned .ensures) (first-blind _ _ _ ((c .before .before .before .before .before .before .before .before .pre .5)) (c .before .before .before .before .before .before .owner-of .ensures)) ((c .before .before .before .before .loop .inv .1)) (sym (c .before .before .first-holds .ensures) ∙ (c .before .if1 .left)))
 
--- src/lib.rt:190:1
 returns-2 : tie.Need-returns-2 Inv-loop μ-loop
 returns-2 c = any-end _ _ _ _ (c .loop-test .left) (c .before .before .before .before .row-count .ensures) ((c .before .loop .inv .0)) ((c .before .loop .inv .1)) ∙ firsts-enough _ _
 

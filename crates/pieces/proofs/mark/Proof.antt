@@ -1,22 +1,16 @@
 use borrow.Author.Needs.{needs}
 use Rattle.pieces.proofs.mark.Statement.{statement}
 use Rattle.pieces.proofs.mark.Tie as tie
-use Rattle.pieces.proofs.mark.Reads as reads
-use Rattle.pieces.proofs.mark.Lts as lts
 
--- src/lib.rt:119:9
 element-write-marks : tie.Need-element-write-marks
 element-write-marks c = search needs
 
--- src/lib.rt:121:9
 element-write-marks-2 : tie.Need-element-write-marks-2
 element-write-marks-2 c = search needs
 
--- src/lib.rt:114:1
 returns : tie.Need-returns
 returns c = rw (c .if1 .taken)
 
--- src/lib.rt:114:1
 returns-2 : tie.Need-returns-2
 returns-2 c = rw (c .if1 .left)
 

@@ -1,35 +1,26 @@
-use Rattle.pieces.specs.Bookings.{names}
+use Rattle.pieces.specs.inner.Bookings.{names}
 use mathlib.Core.Path.{sym, _∙_}
 use borrow.Author.Needs.{needs}
 use Rattle.pieces.proofs.names_at.Statement.{statement}
 use Rattle.pieces.proofs.names_at.Tie as tie
-use Rattle.pieces.proofs.names_at.Reads as reads
-use Rattle.pieces.proofs.names_at.Lts as lts
-use Rattle.rows.proofs.is_at.Reads as is-at-reads
 
--- src/lib.rt:49:8
 is-at-requires : tie.Need-is-at-requires
 is-at-requires c κs = search needs
 
--- src/lib.rt:50:12
 is-at-requires-2 : tie.Need-is-at-requires-2
 is-at-requires-2 c κs = search needs
 
--- src/lib.rt:51:13
 is-at-requires-3 : tie.Need-is-at-requires-3
 is-at-requires-3 c κs = search needs
 
--- src/lib.rt:51:13
 returns : tie.Need-returns
 unfolding names
 returns c = rw (sym (c .before .before .before .before .is-at .ensures) ∙ (c .before .before .before .if1 .taken), sym (c .before .before .is-at2 .ensures) ∙ (c .before .if2 .taken)) (c .is-at3 .ensures)
 
--- src/lib.rt:46:1
 returns-2 : tie.Need-returns-2
 unfolding names
 returns-2 c = rw (sym (c .before .before .before .is-at .ensures) ∙ (c .before .before .if1 .taken), sym (c .before .is-at2 .ensures) ∙ (c .if2 .left))
 
--- src/lib.rt:46:1
 returns-3 : tie.Need-returns-3
 unfolding names
 returns-3 c = rw (sym (c .before .is-at .ensures) ∙ (c .if1 .left))

@@ -4,8 +4,6 @@ use mathlib.Core.Path.{refl}
 use Rattle.rounding.proofs.Laws.{nan-above, number-below}
 use Rattle.rounding.proofs.float_from_bits.Statement.{statement}
 use Rattle.rounding.proofs.float_from_bits.Tie as tie
-use Rattle.rounding.proofs.float_from_bits.Reads as reads
-use Rattle.rounding.proofs.float_from_bits.Lts as lts
 
 returns : tie.Need-returns
 unfolding ofBits div

@@ -6,39 +6,29 @@ use Rattle.rows.proofs.Signs.{cell-past, cell-wide}
 use borrow.Author.Needs.{needs}
 use Rattle.rows.proofs.cell_at.Statement.{statement}
 use Rattle.rows.proofs.cell_at.Tie as tie
-use Rattle.rows.proofs.cell_at.Reads as reads
-use Rattle.rows.proofs.cell_at.Lts as lts
 
--- src/lib.rt:242:22
 mul-at : tie.Need-mul-at
 mul-at c = search needs
 
--- src/lib.rt:242:22
 add-at : tie.Need-add-at
 add-at c = search needs
 
--- src/lib.rt:244:24
 mul-result : tie.Need-mul-result
 mul-result c = search needs
 
--- src/lib.rt:244:24
 shared-slice-copy-out-result : tie.Need-shared-slice-copy-out-result
 shared-slice-copy-out-result c = search needs
 
--- src/lib.rt:244:17
 returns : tie.Need-returns
 unfolding cell
 returns c = let h : c .before .before .before .before .args .c < 10 = omega arith in rw (lt-ltb (c .before .before .before .before .args .c) 10 h) (search needs)
 
--- src/lib.rt:237:1
 returns-2 : tie.Need-returns-2
 returns-2 c = cell-past _ _ _ (omega arith)
 
--- src/lib.rt:237:1
 returns-3 : tie.Need-returns-3
 returns-3 c = cell-past _ _ _ (omega arith)
 
--- src/lib.rt:237:1
 returns-4 : tie.Need-returns-4
 returns-4 c = cell-wide _ _ _ (omega arith)
 

@@ -1,36 +1,42 @@
-use Rattle.rows.proofs.Tables.{class-at, class-wide}
+use native.Mathlib.Omega.{arith}
+use Rattle.rows.proofs.Tables.{class-at, class-past, class-wide}
 use borrow.Author.Needs.{needs}
 use Rattle.rows.proofs.class_of.Statement.{statement}
 use Rattle.rows.proofs.class_of.Tie as tie
-use Rattle.rows.proofs.class_of.Reads as reads
-use Rattle.rows.proofs.class_of.Lts as lts
-use Rattle.rows.proofs.columns_of.Reads as columns-of-reads
 
--- src/lib.rt:91:9
 returns : tie.Need-returns
 returns c = search needs
 
--- src/lib.rt:94:23
-columns-of-requires : tie.Need-columns-of-requires
-columns-of-requires c κs = search needs
-
--- src/lib.rt:95:24
 sub-result : tie.Need-sub-result
 sub-result c = search needs
 
--- src/lib.rt:95:16
-array-read-result : tie.Need-array-read-result
-array-read-result c = search needs
+mul-result : tie.Need-mul-result
+mul-result c = search needs
 
--- src/lib.rt:95:9
+index-1-result : tie.Need-index-1-result
+index-1-result c = search needs
+
+index-2-result : tie.Need-index-2-result
+index-2-result c = search needs
+
 returns-2 : tie.Need-returns-2
-returns-2 c = rw (c .columns-of .ensures) (class-at (c .before .before .before .args .kind) _ (c .before .before .if1 .left))
+returns-2 c = class-at _ _ (c .before .before .before .before .pre) (c .before .before .before .if1 .left)
 
--- src/lib.rt:87:1
 returns-3 : tie.Need-returns-3
-returns-3 c = rw (class-wide (c .before .before .args .kind) (c .before .before .args .c) (c .if2 .left))
+returns-3 c = class-past _ _ (c .before .before .if1 .left) (omega arith)
+
+returns-4 : tie.Need-returns-4
+returns-4 c = rw (class-wide (c .before .before .args .kind) (c .before .before .args .c) (c .if2 .left))
 
 pub class-of-spec : {M : Type 1} → statement M
 class-of-spec =
     tie.close
-    (tie.spec returns columns-of-requires sub-result array-read-result returns-2 returns-3)
+    (tie.spec
+    returns
+    sub-result
+    mul-result
+    index-1-result
+    index-2-result
+    returns-2
+    returns-3
+    returns-4)

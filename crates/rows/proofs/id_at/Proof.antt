@@ -7,23 +7,16 @@ use native.Mathlib.Omega.{arith}
 use borrow.Author.Needs.{needs, sfits-of}
 use Rattle.rows.proofs.id_at.Statement.{statement}
 use Rattle.rows.proofs.id_at.Tie as tie
-use Rattle.rows.proofs.id_at.Reads as reads
-use Rattle.rows.proofs.id_at.Lts as lts
-use Rattle.rows.proofs.cell_at.Reads as cell-at-reads
 
--- src/lib.rt:277:9
 cell-at-requires : tie.Need-cell-at-requires
 cell-at-requires c κs = search needs
 
--- src/lib.rt:278:27
 cast-result : tie.Need-cast-result
 cast-result c = cast (c .before .cell-at .result) (sfits-of (c .before .cell-at .ok)) (c .if1 .left)
 
--- src/lib.rt:273:1
 returns : tie.Need-returns
 returns c = (nat-under (c .before .cell-at .result) (sfits-of (c .before .cell-at .ok)) (c .if1 .taken) ∙ ap toNat (c .before .cell-at .ensures), omega arith)
 
--- src/lib.rt:273:1
 returns-2 : tie.Need-returns-2
 returns-2 c = let f : SFits w64 (c .before .cell-at .result) = sfits-of (c .before .cell-at .ok) in (nat-over (c .before .cell-at .result) f (c .if1 .left) ∙ ap toNat (c .before .cell-at .ensures), rw (nat-over (c .before .cell-at .result) f (c .if1 .left)) (nat-bound (c .before .cell-at .result) f))
 

@@ -2,33 +2,22 @@ use Rattle.rows.proofs.Signed.{in-range, or-none, out-of-range}
 use borrow.Author.Needs.{needs}
 use Rattle.rows.proofs.in_class.Statement.{statement}
 use Rattle.rows.proofs.in_class.Tie as tie
-use Rattle.rows.proofs.in_class.Reads as reads
-use Rattle.rows.proofs.in_class.Lts as lts
-use Rattle.rows.proofs.in_range.Reads as in-range-reads
-use Rattle.rows.proofs.is_none.Reads as is-none-reads
-use Rattle.rows.proofs.or_none.Reads as or-none-reads
 
--- src/lib.rt:162:8
 in-range-requires : tie.Need-in-range-requires
 in-range-requires c κs = search needs
 
--- src/lib.rt:163:9
 returns : tie.Need-returns
 returns c = in-range _ _ (c .before .before .fits .x) (c .before .in-range .ensures) (c .if1 .taken)
 
--- src/lib.rt:165:8
 or-none-requires : tie.Need-or-none-requires
 or-none-requires c κs = search needs
 
--- src/lib.rt:166:9
 is-none-requires : tie.Need-is-none-requires
 is-none-requires c κs = search needs
 
--- src/lib.rt:166:9
 returns-2 : tie.Need-returns-2
 returns-2 c = or-none _ _ (c .before .before .before .before .before .fits .x) (c .before .before .before .before .in-range .ensures) (c .before .before .before .if1 .left) (c .before .before .or-none .ensures) (c .before .if2 .taken) (c .is-none .ensures)
 
--- src/lib.rt:159:1
 returns-3 : tie.Need-returns-3
 returns-3 c = out-of-range _ _ (c .before .before .before .before .fits .x) (c .before .before .before .in-range .ensures) (c .before .before .if1 .left) (c .before .or-none .ensures) (c .if2 .left)
 

@@ -3,15 +3,10 @@ use mir.Facts.{toZ-ofZ}
 use borrow.Author.Needs.{needs}
 use Rattle.rows.proofs.is_none.Statement.{statement}
 use Rattle.rows.proofs.is_none.Tie as tie
-use Rattle.rows.proofs.is_none.Reads as reads
-use Rattle.rows.proofs.is_none.Lts as lts
-use Rattle.rows.proofs.is_within.Reads as is-within-reads
 
--- src/lib.rt:107:5
 is-within-requires : tie.Need-is-within-requires
 is-within-requires c κs = search needs
 
--- src/lib.rt:104:1
 returns : tie.Need-returns
 unfolding isNone
 returns c = rw (toZ-ofZ (c .before .fits .x)) at (c .is-within .ensures)

@@ -1,16 +1,10 @@
 use Rattle.rows.proofs.Signed.{above-low, below-low}
-use Rattle.rows.specs.Ranges.{within}
-use mir.Facts.{toZ-ofZ}
 use Rattle.rows.proofs.is_within.Statement.{statement}
 use Rattle.rows.proofs.is_within.Tie as tie
-use Rattle.rows.proofs.is_within.Reads as reads
-use Rattle.rows.proofs.is_within.Lts as lts
 
--- src/lib.rt:98:1
 returns : tie.Need-returns
 returns c = above-low _ _ _ (c .before .fits .low) (c .before .fits .high) (c .before .fits .x) (c .if1 .taken)
 
--- src/lib.rt:98:1
 returns-2 : tie.Need-returns-2
 returns-2 c = below-low _ _ _ (c .before .fits .low) (c .before .fits .high) (c .before .fits .x) (c .if1 .left)
 

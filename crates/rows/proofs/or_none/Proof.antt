@@ -1,113 +1,13 @@
-use Rattle.loops.proofs.Arms.{from, past}
-use lib.ListN.{List·getD-eq-default}
-use Rattle.rows.specs.Class.{classes, blank-c}
+use Rattle.rows.proofs.Tables.{none-test}
 use borrow.Author.Needs.{needs}
 use Rattle.rows.proofs.or_none.Statement.{statement}
 use Rattle.rows.proofs.or_none.Tie as tie
-use Rattle.rows.proofs.or_none.Reads as reads
-use Rattle.rows.proofs.or_none.Lts as lts
 
--- src/lib.rt:193:1
+range-at-requires : tie.Need-range-at-requires
+range-at-requires c κs = search needs
+
 returns : tie.Need-returns
-returns c = search needs
-
--- src/lib.rt:193:1
-returns-2 : tie.Need-returns-2
-returns-2 c = search needs
-
--- src/lib.rt:193:1
-returns-3 : tie.Need-returns-3
-returns-3 c = search needs
-
--- src/lib.rt:193:1
-returns-4 : tie.Need-returns-4
-returns-4 c = search needs
-
--- src/lib.rt:193:1
-returns-5 : tie.Need-returns-5
-returns-5 c = search needs
-
--- src/lib.rt:193:1
-returns-6 : tie.Need-returns-6
-returns-6 c = search needs
-
--- src/lib.rt:193:1
-returns-7 : tie.Need-returns-7
-returns-7 c = search needs
-
--- src/lib.rt:193:1
-returns-8 : tie.Need-returns-8
-returns-8 c = search needs
-
--- src/lib.rt:193:1
-returns-9 : tie.Need-returns-9
-returns-9 c = search needs
-
--- src/lib.rt:193:1
-returns-10 : tie.Need-returns-10
-returns-10 c = search needs
-
--- src/lib.rt:193:1
-returns-11 : tie.Need-returns-11
-returns-11 c = search needs
-
--- src/lib.rt:193:1
-returns-12 : tie.Need-returns-12
-returns-12 c = search needs
-
--- src/lib.rt:193:1
-returns-13 : tie.Need-returns-13
-returns-13 c = search needs
-
--- src/lib.rt:193:1
-returns-14 : tie.Need-returns-14
-returns-14 c = search needs
-
--- src/lib.rt:193:1
-returns-15 : tie.Need-returns-15
-returns-15 c = search needs
-
--- src/lib.rt:193:1
-returns-16 : tie.Need-returns-16
-returns-16 c = search needs
-
--- src/lib.rt:193:1
-returns-17 : tie.Need-returns-17
-returns-17 c = search needs
-
--- src/lib.rt:193:1
-returns-18 : tie.Need-returns-18
-returns-18 c = search needs
-
--- src/lib.rt:193:1
-returns-19 : tie.Need-returns-19
-returns-19 c = search needs
-
--- src/lib.rt:193:1
-returns-20 : tie.Need-returns-20
-returns-20 c = rw (List·getD-eq-default classes blank-c {n = c .before .args .class} (past (past (past (past (past (past (past (past (past (past (past (past (past (past (past (past (past (past (past (from _) (c .match .rest .0 .0 .0 .0 .0 .0 .0 .0 .0 .0 .0 .0 .0 .0 .0 .0 .0 .0 .1)) (c .match .rest .0 .0 .0 .0 .0 .0 .0 .0 .0 .0 .0 .0 .0 .0 .0 .0 .0 .1)) (c .match .rest .0 .0 .0 .0 .0 .0 .0 .0 .0 .0 .0 .0 .0 .0 .0 .0 .1)) (c .match .rest .0 .0 .0 .0 .0 .0 .0 .0 .0 .0 .0 .0 .0 .0 .0 .1)) (c .match .rest .0 .0 .0 .0 .0 .0 .0 .0 .0 .0 .0 .0 .0 .0 .1)) (c .match .rest .0 .0 .0 .0 .0 .0 .0 .0 .0 .0 .0 .0 .0 .1)) (c .match .rest .0 .0 .0 .0 .0 .0 .0 .0 .0 .0 .0 .0 .1)) (c .match .rest .0 .0 .0 .0 .0 .0 .0 .0 .0 .0 .0 .1)) (c .match .rest .0 .0 .0 .0 .0 .0 .0 .0 .0 .0 .1)) (c .match .rest .0 .0 .0 .0 .0 .0 .0 .0 .0 .1)) (c .match .rest .0 .0 .0 .0 .0 .0 .0 .0 .1)) (c .match .rest .0 .0 .0 .0 .0 .0 .0 .1)) (c .match .rest .0 .0 .0 .0 .0 .0 .1)) (c .match .rest .0 .0 .0 .0 .0 .1)) (c .match .rest .0 .0 .0 .0 .1)) (c .match .rest .0 .0 .0 .1)) (c .match .rest .0 .0 .1)) (c .match .rest .0 .1)) (c .match .rest .1)))
+returns c = none-test _ (c .range-at .ensures)
 
 pub or-none-spec : {M : Type 1} → statement M
-or-none-spec =
-    tie.close
-    (tie.spec
-    returns
-    returns-2
-    returns-3
-    returns-4
-    returns-5
-    returns-6
-    returns-7
-    returns-8
-    returns-9
-    returns-10
-    returns-11
-    returns-12
-    returns-13
-    returns-14
-    returns-15
-    returns-16
-    returns-17
-    returns-18
-    returns-19
-    returns-20)
+or-none-spec = tie.close (tie.spec range-at-requires returns)

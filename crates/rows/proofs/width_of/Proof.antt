@@ -5,45 +5,34 @@ use native.Mathlib.Omega.{arith}
 use Prim.Native.Nat.{_≤_, _-_, _+_}
 use Rattle.rows.proofs.width_of.Statement.{statement}
 use Rattle.rows.proofs.width_of.Tie as tie
-use Rattle.rows.proofs.width_of.Reads as reads
-use Rattle.rows.proofs.width_of.Lts as lts
-use Rattle.rows.proofs.class_of.Reads as class-of-reads
 
 abbrev Inv-loop : tie.InvT-loop
-Inv-loop kind c₀ c = (1 ≤ c) × (c ≤ 10) × (c ≤ width kind + 1)
+Inv-loop table kind c₀ c = (1 ≤ c) × (c ≤ 10) × (c ≤ width kind + 1)
 
 abbrev μ-loop : tie.MeasureT-loop
-μ-loop kind c₀ c = 10 - c
+μ-loop table kind c₀ c = 10 - c
 
--- src/lib.rt:129:5
 loop-holds : tie.Need-loop-holds Inv-loop μ-loop
 loop-holds c = omega arith
 
--- src/lib.rt:130:12
 class-of-requires : tie.Need-class-of-requires Inv-loop μ-loop
 class-of-requires c κs = search needs
 
--- src/lib.rt:131:20
 sub-result : tie.Need-sub-result Inv-loop μ-loop
 sub-result c = omega arith
 
--- src/lib.rt:131:13
 returns : tie.Need-returns Inv-loop μ-loop
 returns c = let h : 1 ≤ c .before .before .before .loop .c = omega arith in omega (arith, width-here (c .before .before .before .before .args .kind) (c .before .before .before .loop .c) h (c .before .class-of .ensures) (c .if1 .taken))
 
--- src/lib.rt:133:9
 add-c : tie.Need-add-c Inv-loop μ-loop
 add-c c = omega arith
 
--- src/lib.rt:129:5
 loop-less : tie.Need-loop-less Inv-loop μ-loop
 loop-less c = omega arith
 
--- src/lib.rt:129:5
 loop-again : tie.Need-loop-again Inv-loop μ-loop
 loop-again c = let h : 1 ≤ c .before .before .before .loop .c = omega arith in let m = width-more (c .before .before .before .before .args .kind) (c .before .before .before .loop .c) h (c .before .class-of .ensures) (c .if1 .left) in (omega arith, omega arith, omega arith)
 
--- src/lib.rt:125:1
 returns-2 : tie.Need-returns-2 Inv-loop μ-loop
 returns-2 c = omega (arith, width-most (c .before .before .args .kind))
 

@@ -1,35 +1,23 @@
 use borrow.Author.Needs.{needs}
-use mathlib.Core.Path.{_≡_, refl, sym, ap, _∙_}
-use native.Mathlib.Omega.{arith}
-use Rattle.sheet.specs.Index.{orEnd}
 use Rattle.sheet.proofs.Tables.{small, nth-below, past-end}
 use Rattle.sheet.proofs.constraint_at.Statement.{statement}
 use Rattle.sheet.proofs.constraint_at.Tie as tie
-use Rattle.sheet.proofs.constraint_at.Reads as reads
-use Rattle.sheet.proofs.constraint_at.Lts as lts
-use Rattle.rows.proofs.row_count.Reads as row-count-reads
 
--- src/lib.rt:185:16
 mul-result : tie.Need-mul-result
 mul-result c = search needs
 
--- src/lib.rt:185:16
 element-copy-out-result : tie.Need-element-copy-out-result
 element-copy-out-result c = search needs
 
--- src/lib.rt:185:16
 cast-result : tie.Need-cast-result
 cast-result c = small _ ((c .before .before .pre .number) _ ((c .before .if1 .taken))) (nth-below _ _ _) ((c .before .before .pre .short))
 
--- src/lib.rt:185:9
 returns : tie.Need-returns
 returns c = (c .before .before .pre .number) _ ((c .before .if1 .taken))
 
--- src/lib.rt:187:5
 row-count-requires : tie.Need-row-count-requires
 row-count-requires c κs = search needs
 
--- src/lib.rt:180:1
 returns-2 : tie.Need-returns-2
 returns-2 c = past-end _ _ _ (c .row-count .ensures) (c .before .before .pre .short) (c .before .if1 .left)
 

@@ -3,20 +3,14 @@ use borrow.Author.Tests.{le-leb, lt-leb}
 use Rattle.sheet.specs.Places.{isConstraint}
 use Rattle.sheet.proofs.is_constraint.Statement.{statement}
 use Rattle.sheet.proofs.is_constraint.Tie as tie
-use Rattle.sheet.proofs.is_constraint.Reads as reads
-use Rattle.sheet.proofs.is_constraint.Lts as lts
-use Rattle.rows.proofs.num_at.Reads as num-at-reads
 
--- src/lib.rt:147:9
 num-at-requires : tie.Need-num-at-requires
 num-at-requires c κs = search needs
 
--- src/lib.rt:144:1
 returns : tie.Need-returns
 unfolding isConstraint
 returns c = rw (← (c .before .num-at .ensures), le-leb _ _ (c .if1 .taken))
 
--- src/lib.rt:144:1
 returns-2 : tie.Need-returns-2
 unfolding isConstraint
 returns-2 c = rw (← (c .before .num-at .ensures), lt-leb _ _ (c .if1 .left))

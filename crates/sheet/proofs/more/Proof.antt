@@ -2,18 +2,13 @@ use borrow.Author.Needs.{needs}
 use native.Mathlib.Omega.{arith}
 use Rattle.sheet.proofs.more.Statement.{statement}
 use Rattle.sheet.proofs.more.Tie as tie
-use Rattle.sheet.proofs.more.Reads as reads
-use Rattle.sheet.proofs.more.Lts as lts
 
--- src/lib.rt:114:14
 add-result : tie.Need-add-result
 add-result c = search needs
 
--- src/lib.rt:110:1
 returns : tie.Need-returns
 returns c = rw (c .if1 .taken) (omega arith)
 
--- src/lib.rt:110:1
 returns-2 : tie.Need-returns-2
 returns-2 c = rw (c .if1 .left) (omega arith)
 

@@ -1,31 +1,22 @@
 use borrow.Author.Needs.{needs}
-use native.Mathlib.Omega.{arith}
 use Rattle.loops.proofs.ChainLaws.{fits, links-next}
 use Rattle.loops.proofs.Walks.{stands}
 use Rattle.sheet.proofs.Owning.{first-join, owned-blind, owned-stands}
 use Rattle.sheet.proofs.next_owned.Statement.{statement}
 use Rattle.sheet.proofs.next_owned.Tie as tie
-use Rattle.sheet.proofs.next_owned.Reads as reads
-use Rattle.sheet.proofs.next_owned.Lts as lts
-use Rattle.sheet.proofs.skip_to.Reads as skip-to-reads
 
--- src/lib.rt:358:13
 mul-j : tie.Need-mul-j
 mul-j c = search needs
 
--- src/lib.rt:358:13
 element-copy-out-j : tie.Need-element-copy-out-j
 element-copy-out-j c = search needs
 
--- src/lib.rt:358:13
 cast-j : tie.Need-cast-j
 cast-j c = fits _ _ _ _ (links-next _ _ _ _ _ _ ((c .before .pre .0 .links)) (owned-stands _ _ _ _ ((c .before .pre .1)) .here ((c .before .pre .2))) ((c .before .pre .2))) ((c .before .pre .0 .short))
 
--- src/lib.rt:359:5
 skip-to-requires : tie.Need-skip-to-requires
 skip-to-requires c κs = ((c .before .pre .0), stands _ _ _ (links-next _ _ _ _ _ _ ((c .before .pre .0 .links)) (owned-stands _ _ _ _ ((c .before .pre .1)) .here ((c .before .pre .2))) ((c .before .pre .2))))
 
--- src/lib.rt:354:1
 returns : tie.Need-returns
 returns c = first-join _ _ _ _ _ _ (owned-blind _ _ _) (links-next _ _ _ _ _ _ ((c .before .before .pre .0 .links)) (owned-stands _ _ _ _ ((c .before .before .pre .1)) .here ((c .before .before .pre .2))) ((c .before .before .pre .2))) (c .skip-to .ensures)
 

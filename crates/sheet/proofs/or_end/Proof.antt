@@ -1,29 +1,21 @@
 use borrow.Author.Needs.{needs}
-use Rattle.sheet.specs.Index.{orEnd}
+use Rattle.sheet.specs.inner.Index.{orEnd}
 use Rattle.sheet.proofs.or_end.Statement.{statement}
 use Rattle.sheet.proofs.or_end.Tie as tie
-use Rattle.sheet.proofs.or_end.Reads as reads
-use Rattle.sheet.proofs.or_end.Lts as lts
-use Rattle.rows.proofs.row_count.Reads as row-count-reads
 
--- src/lib.rt:210:19
 enum-known-f : tie.Need-enum-known-f
 enum-known-f c = search needs
 
--- src/lib.rt:211:27
 enum-told : tie.Need-enum-told
 enum-told c = search needs
 
--- src/lib.rt:211:27
 row-count-requires : tie.Need-row-count-requires
 row-count-requires c κs = search needs
 
--- src/lib.rt:206:1
 returns : tie.Need-returns
 unfolding orEnd
 returns c = rw (c .before .f .given .1)
 
--- src/lib.rt:206:1
 returns-2 : tie.Need-returns-2
 unfolding orEnd
 returns-2 c = rw (c .before .enum-told .given .1) (c .row-count .ensures)

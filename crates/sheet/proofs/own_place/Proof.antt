@@ -1,118 +1,83 @@
 use borrow.Author.Needs.{needs}
-use mathlib.Core.Path.{_≡_, refl, sym, ap, _∙_}
+use mathlib.Core.Path.{ap, _∙_}
 use Rattle.sheet.specs.Places.{placeOf}
-use Rattle.sheet.specs.Index.{orEnd, ownerOf}
+use Rattle.sheet.specs.inner.Index.{orEnd, ownerOf}
 use Rattle.sheet.proofs.Tables.{own-at, own-none, own-requirement, own-constraint}
 use Rattle.sheet.proofs.own_place.Statement.{statement}
 use Rattle.sheet.proofs.own_place.Tie as tie
-use Rattle.sheet.proofs.own_place.Reads as reads
-use Rattle.sheet.proofs.own_place.Lts as lts
-use Rattle.rows.proofs.num_at.Reads as num-at-reads
-use Rattle.rows.proofs.row_count.Reads as row-count-reads
-use Rattle.sheet.proofs.constraint_at.Reads as constraint-at-reads
-use Rattle.sheet.proofs.find_activity.Reads as find-activity-reads
-use Rattle.sheet.proofs.find_requirement.Reads as find-requirement-reads
-use Rattle.sheet.proofs.find_resource.Reads as find-resource-reads
-use Rattle.sheet.proofs.find_task.Reads as find-task-reads
-use Rattle.sheet.proofs.or_end.Reads as or-end-reads
-use Rattle.sheet.proofs.owner_kind.Reads as owner-kind-reads
 
--- src/lib.rt:219:24
 num-at-requires : tie.Need-num-at-requires
 num-at-requires c κs = search needs
 
--- src/lib.rt:219:9
 owner-kind-requires : tie.Need-owner-kind-requires
 owner-kind-requires c κs = search needs
 
--- src/lib.rt:221:52
 num-at-requires-2 : tie.Need-num-at-requires-2
 num-at-requires-2 c κs = search needs
 
--- src/lib.rt:221:29
 find-task-requires : tie.Need-find-task-requires
 find-task-requires c κs = search needs
 
--- src/lib.rt:221:9
 or-end-requires : tie.Need-or-end-requires
 or-end-requires c κs = search needs
 
--- src/lib.rt:221:9
 returns : tie.Need-returns
 unfolding ownerOf
 returns c = (c .or-end .ensures) ∙ ap (orEnd _) ((c .before .find-task .ensures) ∙ ap (placeOf _ 1) (c .before .before .num-at2 .ensures)) ∙ own-at _ _ (c .before .before .before .before .before .num-at .ensures) (c .before .before .before .before .owner-kind .ensures) 1 (c .before .before .before .if1 .taken)
 
--- src/lib.rt:224:56
 num-at-requires-3 : tie.Need-num-at-requires-3
 num-at-requires-3 c κs = search needs
 
--- src/lib.rt:224:29
 find-activity-requires : tie.Need-find-activity-requires
 find-activity-requires c κs = search needs
 
--- src/lib.rt:224:9
 or-end-requires-2 : tie.Need-or-end-requires-2
 or-end-requires-2 c κs = search needs
 
--- src/lib.rt:224:9
 returns-2 : tie.Need-returns-2
 unfolding ownerOf
 returns-2 c = (c .or-end2 .ensures) ∙ ap (orEnd _) ((c .before .find-activity .ensures) ∙ ap (placeOf _ 2) (c .before .before .num-at3 .ensures)) ∙ own-at _ _ (c .before .before .before .before .before .before .num-at .ensures) (c .before .before .before .before .before .owner-kind .ensures) 2 (c .before .before .before .if2 .taken)
 
--- src/lib.rt:227:13
 num-at-requires-4 : tie.Need-num-at-requires-4
 num-at-requires-4 c κs = search needs
 
--- src/lib.rt:228:13
 num-at-requires-5 : tie.Need-num-at-requires-5
 num-at-requires-5 c κs = search needs
 
--- src/lib.rt:229:29
 find-requirement-requires : tie.Need-find-requirement-requires
 find-requirement-requires c κs = search needs
 
--- src/lib.rt:229:9
 or-end-requires-3 : tie.Need-or-end-requires-3
 or-end-requires-3 c κs = search needs
 
--- src/lib.rt:229:9
 returns-3 : tie.Need-returns-3
 returns-3 c = own-requirement _ _ (c .before .before .before .before .before .before .before .before .num-at .ensures) (c .before .before .before .before .before .before .before .owner-kind .ensures) (c .before .before .before .before .if3 .taken) (c .before .before .before .num-at4 .ensures) (c .before .before .num-at5 .ensures) (c .before .find-requirement .ensures) (c .or-end3 .ensures)
 
--- src/lib.rt:232:56
 num-at-requires-6 : tie.Need-num-at-requires-6
 num-at-requires-6 c κs = search needs
 
--- src/lib.rt:232:29
 find-resource-requires : tie.Need-find-resource-requires
 find-resource-requires c κs = search needs
 
--- src/lib.rt:232:9
 or-end-requires-4 : tie.Need-or-end-requires-4
 or-end-requires-4 c κs = search needs
 
--- src/lib.rt:232:9
 returns-4 : tie.Need-returns-4
 unfolding ownerOf
 returns-4 c = (c .or-end4 .ensures) ∙ ap (orEnd _) ((c .before .find-resource .ensures) ∙ ap (placeOf _ 11) (c .before .before .num-at6 .ensures)) ∙ own-at _ _ (c .before .before .before .before .before .before .before .before .num-at .ensures) (c .before .before .before .before .before .before .before .owner-kind .ensures) 11 (c .before .before .before .if4 .taken)
 
--- src/lib.rt:235:45
 num-at-requires-7 : tie.Need-num-at-requires-7
 num-at-requires-7 c κs = search needs
 
--- src/lib.rt:235:9
 constraint-at-requires : tie.Need-constraint-at-requires
 constraint-at-requires c κs = search needs
 
--- src/lib.rt:235:9
 returns-5 : tie.Need-returns-5
 returns-5 c = own-constraint _ _ (c .before .before .before .before .before .before .before .before .num-at .ensures) (c .before .before .before .before .before .before .before .owner-kind .ensures) (c .before .before .if5 .taken) (c .before .num-at7 .ensures) (c .constraint-at .ensures)
 
--- src/lib.rt:237:5
 row-count-requires : tie.Need-row-count-requires
 row-count-requires c κs = search needs
 
--- src/lib.rt:215:1
 returns-6 : tie.Need-returns-6
 returns-6 c = (c .row-count .ensures) ∙ own-none _ _ (c .before .before .before .before .before .before .before .num-at .ensures) (c .before .before .before .before .before .before .owner-kind .ensures) (c .before .before .before .before .before .if1 .left) (c .before .before .before .before .if2 .left) (c .before .before .before .if3 .left) (c .before .before .if4 .left) (c .before .if5 .left)
 

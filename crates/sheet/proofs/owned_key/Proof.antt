@@ -1,31 +1,22 @@
 use borrow.Author.Needs.{needs}
 use native.Mathlib.Omega.{arith}
-use Rattle.sheet.specs.Index.{ownedKey}
+use Rattle.sheet.specs.inner.Index.{ownedKey}
 use Rattle.sheet.proofs.Tables.{own-read}
 use Rattle.sheet.proofs.owned_key.Statement.{statement}
 use Rattle.sheet.proofs.owned_key.Tie as tie
-use Rattle.sheet.proofs.owned_key.Reads as reads
-use Rattle.sheet.proofs.owned_key.Lts as lts
-use Rattle.rows.proofs.num_at.Reads as num-at-reads
-use Rattle.sheet.proofs.owner_of.Reads as owner-of-reads
 
--- src/lib.rt:308:9
 owner-of-requires : tie.Need-owner-of-requires
 owner-of-requires c κs = search needs
 
--- src/lib.rt:309:17
 num-at-requires : tie.Need-num-at-requires
 num-at-requires c κs = search needs
 
--- src/lib.rt:310:5
 mul-result : tie.Need-mul-result
 mul-result c = let h = own-read _ _ (c .before .owner-of .ensures) ((c .before .before .pre .0 .short)) in omega arith
 
--- src/lib.rt:310:5
 add-result : tie.Need-add-result
 add-result c = let h = own-read _ _ (c .before .owner-of .ensures) ((c .before .before .pre .0 .short)) in omega arith
 
--- src/lib.rt:304:1
 returns : tie.Need-returns
 unfolding ownedKey
 returns c = rw ((c .before .owner-of .ensures), (c .num-at .ensures))

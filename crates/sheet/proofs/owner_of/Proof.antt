@@ -2,22 +2,16 @@ use borrow.Author.Needs.{needs}
 use Rattle.sheet.proofs.Tables.{small, own-below}
 use Rattle.sheet.proofs.owner_of.Statement.{statement}
 use Rattle.sheet.proofs.owner_of.Tie as tie
-use Rattle.sheet.proofs.owner_of.Reads as reads
-use Rattle.sheet.proofs.owner_of.Lts as lts
 
--- src/lib.rt:281:5
 mul-result : tie.Need-mul-result
 mul-result c = search needs
 
--- src/lib.rt:281:5
 element-copy-out-result : tie.Need-element-copy-out-result
 element-copy-out-result c = search needs
 
--- src/lib.rt:281:5
 cast-result : tie.Need-cast-result
 cast-result c = small _ ((c .before .pre .0 .own) _ ((c .before .pre .1))) (own-below _ _) ((c .before .pre .0 .short))
 
--- src/lib.rt:277:1
 returns : tie.Need-returns
 returns c = (c .before .pre .0 .own) _ ((c .before .pre .1))
 

@@ -2,26 +2,19 @@ use borrow.Author.Needs.{needs}
 use Rattle.sheet.proofs.Tables.{small, res-below}
 use Rattle.sheet.proofs.resource_of.Statement.{statement}
 use Rattle.sheet.proofs.resource_of.Tie as tie
-use Rattle.sheet.proofs.resource_of.Reads as reads
-use Rattle.sheet.proofs.resource_of.Lts as lts
 
--- src/lib.rt:289:11
 add-result : tie.Need-add-result
 add-result c = search needs
 
--- src/lib.rt:289:5
 mul-result : tie.Need-mul-result
 mul-result c = search needs
 
--- src/lib.rt:289:5
 element-copy-out-result : tie.Need-element-copy-out-result
 element-copy-out-result c = search needs
 
--- src/lib.rt:289:5
 cast-result : tie.Need-cast-result
 cast-result c = small _ ((c .before .pre .0 .res) _ ((c .before .pre .1))) (res-below _ _) ((c .before .pre .0 .short))
 
--- src/lib.rt:285:1
 returns : tie.Need-returns
 returns c = (c .before .pre .0 .res) _ ((c .before .pre .1))
 

@@ -1,15 +1,10 @@
 use borrow.Author.Needs.{needs}
-use Prim.Native.Nat.{ℕ, _≤_, _<_, _+_, _-_, _*_, _%_}
+use Prim.Native.Nat.{_-_}
 use native.Mathlib.Omega.{arith}
 use Rattle.loops.proofs.ChainLaws.{links-next, fits}
-use Rattle.rows.specs.Cells.{rowCount}
 use Rattle.sheet.proofs.Owning.{Skipping, skip-start, skip-hit, skip-next, skip-end}
 use Rattle.sheet.proofs.skip_to.Statement.{statement}
 use Rattle.sheet.proofs.skip_to.Tie as tie
-use Rattle.sheet.proofs.skip_to.Reads as reads
-use Rattle.sheet.proofs.skip_to.Lts as lts
-use Rattle.rows.proofs.is_at.Reads as is-at-reads
-use Rattle.rows.proofs.row_count.Reads as row-count-reads
 
 abbrev Inv-loop : tie.InvT-loop
 Inv-loop rows owned o x j n i₀ i = Skipping rows o x j i
@@ -17,43 +12,33 @@ Inv-loop rows owned o x j n i₀ i = Skipping rows o x j i
 abbrev μ-loop : tie.MeasureT-loop
 μ-loop rows owned o x j n i₀ i = n - i
 
--- src/lib.rt:333:9
 row-count-requires : tie.Need-row-count-requires Inv-loop μ-loop
 row-count-requires c κs = search needs
 
--- src/lib.rt:335:5
 loop-holds : tie.Need-loop-holds Inv-loop μ-loop
 loop-holds c = skip-start _ _ _ _ ((c .before .pre .1))
 
--- src/lib.rt:336:12
 is-at-requires : tie.Need-is-at-requires Inv-loop μ-loop
 is-at-requires c κs = search needs
 
--- src/lib.rt:337:13
 returns : tie.Need-returns Inv-loop μ-loop
 returns c = skip-hit _ _ _ _ _ _ ((c .before .before .before .loop .inv)) (c .before .before .loop-test .taken) (c .before .before .before .before .row-count .ensures) (c .before .is-at .ensures) (c .if1 .taken)
 
--- src/lib.rt:339:13
 mul-i : tie.Need-mul-i Inv-loop μ-loop
 mul-i c = omega (arith, (c .before .before .before .before .before .pre .0 .short), (c .before .before .before .before .row-count .ensures), (c .before .before .loop-test .taken))
 
--- src/lib.rt:339:13
 element-copy-out-i : tie.Need-element-copy-out-i Inv-loop μ-loop
 element-copy-out-i c = omega (arith, (c .before .before .before .before .before .pre .0 .short), (c .before .before .before .before .row-count .ensures), (c .before .before .loop-test .taken))
 
--- src/lib.rt:339:13
 cast-i : tie.Need-cast-i Inv-loop μ-loop
 cast-i c = fits _ _ _ _ (links-next _ _ _ _ _ _ ((c .before .before .before .before .before .before .pre .0 .links)) ((c .before .before .before .before .loop .inv .at .here) (omega (arith, (c .before .before .before .loop-test .taken), (c .before .before .before .before .before .row-count .ensures)))) (omega (arith, (c .before .before .before .loop-test .taken), (c .before .before .before .before .before .row-count .ensures)))) ((c .before .before .before .before .before .before .pre .0 .short))
 
--- src/lib.rt:335:5
 loop-less : tie.Need-loop-less Inv-loop μ-loop
 loop-less c = let h = links-next _ _ _ _ _ _ ((c .before .before .before .before .before .before .pre .0 .links)) ((c .before .before .before .before .loop .inv .at .here) (omega (arith, (c .before .before .before .loop-test .taken), (c .before .before .before .before .before .row-count .ensures)))) (omega (arith, (c .before .before .before .loop-test .taken), (c .before .before .before .before .before .row-count .ensures))) in omega (arith, h .low, h .high)
 
--- src/lib.rt:335:5
 loop-again : tie.Need-loop-again Inv-loop μ-loop
 loop-again c = skip-next _ _ _ _ _ 0 _ ((c .before .before .before .before .loop .inv)) (links-next _ _ _ _ _ _ ((c .before .before .before .before .before .before .pre .0 .links)) ((c .before .before .before .before .loop .inv .at .here) (omega (arith, (c .before .before .before .loop-test .taken), (c .before .before .before .before .before .row-count .ensures)))) (omega (arith, (c .before .before .before .loop-test .taken), (c .before .before .before .before .before .row-count .ensures)))) (c .before .before .is-at .ensures) (c .before .if1 .left)
 
--- src/lib.rt:329:1
 returns-2 : tie.Need-returns-2 Inv-loop μ-loop
 returns-2 c = skip-end _ _ _ _ _ _ ((c .before .loop .inv)) (c .loop-test .left) (c .before .before .row-count .ensures)
 

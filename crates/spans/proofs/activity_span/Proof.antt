@@ -2,41 +2,28 @@ use Rattle.spans.proofs.Running.{runs-booked, runs-timed}
 use borrow.Author.Needs.{needs}
 use Rattle.spans.proofs.activity_span.Statement.{statement}
 use Rattle.spans.proofs.activity_span.Tie as tie
-use Rattle.spans.proofs.activity_span.Reads as reads
-use Rattle.spans.proofs.activity_span.Lts as lts
-use Rattle.rows.proofs.num_at.Reads as num-at-reads
-use Rattle.sheet.proofs.find_named.Reads as find-named-reads
-use Rattle.spans.proofs.booked_span.Reads as booked-span-reads
 
--- src/lib.rt:162:9
 find-named-requires : tie.Need-find-named-requires
 find-named-requires c κs = search needs
 
--- src/lib.rt:163:19
 enum-known-timed : tie.Need-enum-known-timed
 enum-known-timed c = search needs
 
--- src/lib.rt:164:9
 enum-told : tie.Need-enum-told
 enum-told c = search needs
 
--- src/lib.rt:164:9
 booked-span-requires : tie.Need-booked-span-requires
 booked-span-requires c κs = search needs
 
--- src/lib.rt:164:9
 returns : tie.Need-returns
 returns c = runs-booked _ _ (rw (c .before .enum-told .given .1) at (c .before .before .before .find-named .ensures)) (c .booked-span .ensures)
 
--- src/lib.rt:166:19
 num-at-requires : tie.Need-num-at-requires
 num-at-requires c κs = search needs
 
--- src/lib.rt:166:45
 num-at-requires-2 : tie.Need-num-at-requires-2
 num-at-requires-2 c κs = search needs
 
--- src/lib.rt:158:1
 returns-2 : tie.Need-returns-2
 returns-2 c = rw (c .before .num-at .ensures, c .num-at2 .ensures) (runs-timed _ _ (rw (c .before .before .before .timed .given .1) at (c .before .before .before .before .before .find-named .ensures)))
 

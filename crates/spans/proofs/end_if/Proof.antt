@@ -1,32 +1,22 @@
 use mathlib.Core.Path.{sym, _∙_}
-use Rattle.spans.specs.Instants.{endIf}
+use Rattle.spans.specs.inner.Instants.{endIf}
 use borrow.Author.Needs.{needs}
 use Rattle.spans.proofs.end_if.Statement.{statement}
 use Rattle.spans.proofs.end_if.Tie as tie
-use Rattle.spans.proofs.end_if.Reads as reads
-use Rattle.spans.proofs.end_if.Lts as lts
-use Rattle.rows.proofs.is_at.Reads as is-at-reads
-use Rattle.rows.proofs.num_at.Reads as num-at-reads
-use Rattle.spans.proofs.later_of.Reads as later-of-reads
 
--- src/lib.rt:51:8
 is-at-requires : tie.Need-is-at-requires
 is-at-requires c κs = search needs
 
--- src/lib.rt:52:28
 num-at-requires : tie.Need-num-at-requires
 num-at-requires c κs = search needs
 
--- src/lib.rt:52:9
 later-of-requires : tie.Need-later-of-requires
 later-of-requires c κs = search needs
 
--- src/lib.rt:52:9
 returns : tie.Need-returns
 unfolding endIf
 returns c = rw (sym (c .before .before .before .is-at .ensures) ∙ (c .before .before .if1 .taken), ← (c .before .num-at .ensures)) (c .later-of .ensures)
 
--- src/lib.rt:48:1
 returns-2 : tie.Need-returns-2
 unfolding endIf
 returns-2 c = rw (sym (c .before .is-at .ensures) ∙ (c .if1 .left))

@@ -6,23 +6,16 @@ use Rattle.model.specs.Sheet.{asInstant, read}
 use Rattle.spans.proofs.Instants.{read-none, read-some}
 use Rattle.spans.proofs.instant_at.Statement.{statement}
 use Rattle.spans.proofs.instant_at.Tie as tie
-use Rattle.spans.proofs.instant_at.Reads as reads
-use Rattle.spans.proofs.instant_at.Lts as lts
-use Rattle.rows.proofs.cell_at.Reads as cell-at-reads
 
--- src/lib.rt:25:9
 cell-at-requires : tie.Need-cell-at-requires
 cell-at-requires c κs = search needs
 
--- src/lib.rt:27:9
 returns : tie.Need-returns
 returns c = read-none (c .before .cell-at .result) (sfits-of (c .before .cell-at .ok)) (c .if1 .taken) ∙ ap (λ z. asInstant (read t?-c z)) (c .before .cell-at .ensures)
 
--- src/lib.rt:29:17
 cast-t6 : tie.Need-cast-t6
 cast-t6 c = cast (c .before .cell-at .result) (sfits-of (c .before .cell-at .ok)) (c .if1 .left)
 
--- src/lib.rt:22:1
 returns-2 : tie.Need-returns-2
 returns-2 c = read-some (c .before .cell-at .result) (sfits-of (c .before .cell-at .ok)) (c .if1 .left) ∙ ap (λ z. asInstant (read t?-c z)) (c .before .cell-at .ensures)
 

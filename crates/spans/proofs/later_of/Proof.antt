@@ -2,26 +2,19 @@ use borrow.Author.Tests.{lt-ltb, le-ltb}
 use borrow.Author.Needs.{needs}
 use Rattle.spans.proofs.later_of.Statement.{statement}
 use Rattle.spans.proofs.later_of.Tie as tie
-use Rattle.spans.proofs.later_of.Reads as reads
-use Rattle.spans.proofs.later_of.Lts as lts
 
--- src/lib.rt:25:21
 enum-known-e : tie.Need-enum-known-e
 enum-known-e c = search needs
 
--- src/lib.rt:26:9
 enum-told : tie.Need-enum-told
 enum-told c = search needs
 
--- src/lib.rt:26:9
 returns : tie.Need-returns
 returns c = rw (c .enum-told .given .1)
 
--- src/lib.rt:29:9
 returns-2 : tie.Need-returns-2
 returns-2 c = rw (c .before .before .e .given .1, lt-ltb (c .before .before .e .given .0 .0) (c .before .before .before .before .args .x) (c .if1 .taken))
 
--- src/lib.rt:22:1
 returns-3 : tie.Need-returns-3
 returns-3 c = rw (c .before .before .e .given .1, le-ltb (c .before .before .e .given .0 .0) (c .before .before .before .before .args .x) (c .if1 .left))
 

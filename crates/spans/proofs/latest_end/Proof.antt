@@ -2,19 +2,13 @@ use borrow.Author.Needs.{needs}
 use mathlib.Core.Path.{_≡_}
 use Prim.Native.Nat.{_-_}
 use Rattle.loops.specs.Range.{fold}
-use Rattle.loops.specs.Chain.{Stands, onlyAt}
+use Rattle.loops.specs.inner.Chain.{Stands, onlyAt}
 use Rattle.loops.proofs.Walks.{fold-first, fold-end, quiet-only, only-next}
 use Rattle.rows.specs.Cells.{rowCount}
 use Rattle.sheet.specs.Places.{ofKind}
-use Rattle.spans.specs.Instants.{meant, endIf}
+use Rattle.spans.specs.inner.Instants.{meant, endIf}
 use Rattle.spans.proofs.latest_end.Statement.{statement}
 use Rattle.spans.proofs.latest_end.Tie as tie
-use Rattle.spans.proofs.latest_end.Reads as reads
-use Rattle.spans.proofs.latest_end.Lts as lts
-use Rattle.rows.proofs.row_count.Reads as row-count-reads
-use Rattle.sheet.proofs.first_of.Reads as first-of-reads
-use Rattle.sheet.proofs.next_of.Reads as next-of-reads
-use Rattle.spans.proofs.end_if.Reads as end-if-reads
 
 abbrev Inv-loop : tie.InvT-loop
 Inv-loop rows kinds x c task n e₀ i₀ e i = Stands (ofKind rows x) (rowCount rows) i × (meant e ≡ fold (onlyAt (ofKind rows x) (endIf rows c task)) (meant e₀) i)
@@ -22,35 +16,27 @@ Inv-loop rows kinds x c task n e₀ i₀ e i = Stands (ofKind rows x) (rowCount 
 abbrev μ-loop : tie.MeasureT-loop
 μ-loop rows kinds x c task n e₀ i₀ e i = n - i
 
--- src/lib.rt:62:9
 row-count-requires : tie.Need-row-count-requires Inv-loop μ-loop
 row-count-requires c κs = search needs
 
--- src/lib.rt:64:9
 first-of-requires : tie.Need-first-of-requires Inv-loop μ-loop
 first-of-requires c κs = search needs
 
--- src/lib.rt:65:5
 loop-holds : tie.Need-loop-holds Inv-loop μ-loop
 loop-holds c = (search needs, fold-first _ _ (c .first-of .ensures) (quiet-only _ _))
 
--- src/lib.rt:66:9
 end-if-requires : tie.Need-end-if-requires Inv-loop μ-loop
 end-if-requires c κs = search needs
 
--- src/lib.rt:67:9
 next-of-requires : tie.Need-next-of-requires Inv-loop μ-loop
 next-of-requires c κs = search needs
 
--- src/lib.rt:65:5
 loop-less : tie.Need-loop-less Inv-loop μ-loop
 loop-less c = search needs
 
--- src/lib.rt:65:5
 loop-again : tie.Need-loop-again Inv-loop μ-loop
 loop-again c = (search needs, only-next _ _ _ (c .next-of .ensures) (c .before .before .loop-test .taken) (c .before .before .before .before .before .row-count .ensures) ((c .before .before .before .loop .inv .0)) ((c .before .before .before .loop .inv .1)) (c .before .end-if .ensures))
 
--- src/lib.rt:58:1
 returns : tie.Need-returns Inv-loop μ-loop
 returns c = fold-end _ _ _ _ _ (c .loop-test .left) (c .before .before .before .row-count .ensures) ((c .before .loop .inv .0)) ((c .before .loop .inv .1))
 

@@ -1,15 +1,10 @@
 use borrow.Author.Tests.{lt-ltb, le-ltb}
-use borrow.Author.Needs.{needs}
 use Rattle.spans.proofs.most.Statement.{statement}
 use Rattle.spans.proofs.most.Tie as tie
-use Rattle.spans.proofs.most.Reads as reads
-use Rattle.spans.proofs.most.Lts as lts
 
--- src/lib.rt:115:9
 returns : tie.Need-returns
 returns c = rw (lt-ltb (c .before .args .a) (c .before .args .x) (c .if1 .taken))
 
--- src/lib.rt:111:1
 returns-2 : tie.Need-returns-2
 returns-2 c = rw (le-ltb (c .before .args .a) (c .before .args .x) (c .if1 .left))
 

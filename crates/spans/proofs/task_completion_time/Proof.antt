@@ -2,19 +2,13 @@ use Rattle.spans.proofs.Completion.{completion}
 use borrow.Author.Needs.{needs}
 use Rattle.spans.proofs.task_completion_time.Statement.{statement}
 use Rattle.spans.proofs.task_completion_time.Tie as tie
-use Rattle.spans.proofs.task_completion_time.Reads as reads
-use Rattle.spans.proofs.task_completion_time.Lts as lts
-use Rattle.spans.proofs.latest_end.Reads as latest-end-reads
 
--- src/lib.rt:77:9
 latest-end-requires : tie.Need-latest-end-requires
 latest-end-requires c κs = search needs
 
--- src/lib.rt:78:5
 latest-end-requires-2 : tie.Need-latest-end-requires-2
 latest-end-requires-2 c κs = search needs
 
--- src/lib.rt:73:1
 returns : tie.Need-returns
 returns c = completion _ _ (c .before .latest-end .ensures) (c .latest-end2 .ensures)
 

@@ -1,15 +1,11 @@
-use Prim.Native.Nat.{ℕ, _≤_, _<_, _-_, _^_}
+use Prim.Native.Nat.{_≤_, _<_, _-_, _^_}
 use mathlib.Core.Path.{_≡_, refl, sym, ap, _∙_}
-use lib.ListN.{length, drop, getD}
-use native.Mathlib.Omega.{arith}
+use lib.ListN.{length, drop}
 use borrow.Author.Needs.{needs}
 use Rattle.text.specs.Spelling.{digitsFrom, limited}
 use Rattle.text.proofs.DigitLaws.{no-digit, one-digit, at-end, digit-low, digit-high, digit-in, soon-too-large, too-large}
 use Rattle.text.proofs.digits_value.Statement.{statement}
 use Rattle.text.proofs.digits_value.Tie as tie
-use Rattle.text.proofs.digits_value.Reads as reads
-use Rattle.text.proofs.digits_value.Lts as lts
-use Rattle.text.proofs.wide.Reads as wide-reads
 
 abbrev Inv-loop : tie.InvT-loop
 Inv-loop s n₀ i₀ n i = (i ≤ length s) × (limited (digitsFrom n (drop i s)) ≡ limited (digitsFrom 0 s)) × (n < 2 ^ 64)
@@ -17,53 +13,42 @@ Inv-loop s n₀ i₀ n i = (i ≤ length s) × (limited (digitsFrom n (drop i s)
 abbrev μ-loop : tie.MeasureT-loop
 μ-loop s n₀ i₀ n i = length s - i
 
--- src/lib.rt:32:5
 loop-holds : tie.Need-loop-holds Inv-loop μ-loop
 loop-holds c = (search needs, refl, search needs)
 
--- src/lib.rt:33:22
 shared-slice-read-wide : tie.Need-shared-slice-read-wide Inv-loop μ-loop
 shared-slice-read-wide c = search needs
 
--- src/lib.rt:33:13
 wide-requires : tie.Need-wide-requires Inv-loop μ-loop
 wide-requires c κs = search needs
 
--- src/lib.rt:35:13
 returns : tie.Need-returns Inv-loop μ-loop
 returns c =
     let l = c .before .before .before .before .loop in
     sym (no-digit _ (l .i) (l .n) _ (c .before .wide .ensures) (c .before .before .before .loop-test .taken) (digit-low _ (c .if1 .taken))) ∙ l .inv .1
 
--- src/lib.rt:38:13
 returns-2 : tie.Need-returns-2 Inv-loop μ-loop
 returns-2 c =
     let l = c .before .before .before .before .before .loop in
     sym (no-digit _ (l .i) (l .n) _ (c .before .before .wide .ensures) (c .before .before .before .before .loop-test .taken) (digit-high _ (c .if2 .taken))) ∙ l .inv .1
 
--- src/lib.rt:41:13
 returns-3 : tie.Need-returns-3 Inv-loop μ-loop
 returns-3 c =
     let l = c .before .before .before .before .before .before .loop in
     sym (soon-too-large _ (l .i) (l .n) (c .before .before .before .before .before .loop-test .taken) (c .if3 .taken)) ∙ l .inv .1
 
--- src/lib.rt:43:13
 mul-n : tie.Need-mul-n Inv-loop μ-loop
 mul-n c = search needs
 
--- src/lib.rt:43:13
 add-n : tie.Need-add-n Inv-loop μ-loop
 add-n c = search needs
 
--- src/lib.rt:44:9
 add-i : tie.Need-add-i Inv-loop μ-loop
 add-i c = search needs
 
--- src/lib.rt:32:5
 loop-less : tie.Need-loop-less Inv-loop μ-loop
 loop-less c = search needs
 
--- src/lib.rt:32:5
 loop-again : tie.Need-loop-again Inv-loop μ-loop
 loop-again c =
     let l = c .before .before .before .before .before .before .loop in (
@@ -73,13 +58,11 @@ loop-again c =
       search needs,
     )
 
--- src/lib.rt:27:1
 returns-4 : tie.Need-returns-4 Inv-loop μ-loop
 returns-4 c =
     let l = c .before .before .loop in
     sym (at-end _ (l .i) (l .n) (c .before .loop-test .left) (c .if4 .taken)) ∙ l .inv .1
 
--- src/lib.rt:27:1
 returns-5 : tie.Need-returns-5 Inv-loop μ-loop
 returns-5 c =
     let l = c .before .before .loop in

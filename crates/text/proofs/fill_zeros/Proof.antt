@@ -1,16 +1,13 @@
-use Prim.Native.Nat.{ℕ, _+_, _≤_, _-_, _<_}
+use Prim.Native.Nat.{_+_, _-_}
 use mathlib.Core.Path.{_≡_, refl, sym, ap, _∙_}
 use lib.IntN.{ℤ, pos}
 use mathlib.Core.List.{List}
-use lib.ListN.{length, replicate, length-set}
+use lib.ListN.{length, replicate}
 use lib.Seq.{sets}
 use borrow.Author.Needs.{needs}
 use Rattle.text.proofs.LineLaws.{zero-more, zero-end}
 use Rattle.text.proofs.fill_zeros.Statement.{statement}
 use Rattle.text.proofs.fill_zeros.Tie as tie
-use Rattle.text.proofs.fill_zeros.Reads as reads
-use Rattle.text.proofs.fill_zeros.Lts as lts
-use Rattle.text.proofs.store.Reads as store-reads
 
 abbrev Inv-loop : tie.InvT-loop
 Inv-loop rows₀ from to i₀ rows i = (sets rows i (replicate (to - i) (pos 0)) ≡ sets rows₀ from (replicate (to - from) (pos 0))) × (length rows ≡ length rows₀)
@@ -18,23 +15,18 @@ Inv-loop rows₀ from to i₀ rows i = (sets rows i (replicate (to - i) (pos 0))
 abbrev μ-loop : tie.MeasureT-loop
 μ-loop rows₀ from to i₀ rows i = to - i
 
--- src/lib.rt:246:5
 loop-holds : tie.Need-loop-holds Inv-loop μ-loop
 loop-holds c = (refl, refl)
 
--- src/lib.rt:247:9
 store-requires : tie.Need-store-requires Inv-loop μ-loop
 store-requires c κs = tt
 
--- src/lib.rt:248:9
 add-i : tie.Need-add-i Inv-loop μ-loop
 add-i c = search needs
 
--- src/lib.rt:246:5
 loop-less : tie.Need-loop-less Inv-loop μ-loop
 loop-less c = search needs
 
--- src/lib.rt:246:5
 loop-again : tie.Need-loop-again Inv-loop μ-loop
 loop-again c =
     let l = c .before .before .before .before .loop in (
@@ -42,11 +34,9 @@ loop-again c =
       c .before .store .kept .0 ∙ l .inv .1,
     )
 
--- src/lib.rt:242:1
 same-length : tie.Need-same-length Inv-loop μ-loop
 same-length c = c .before .loop .inv .1
 
--- src/lib.rt:242:1
 returns : tie.Need-returns Inv-loop μ-loop
 returns c = sym (zero-end _ (c .before .loop .i) _ (c .loop-test .left)) ∙ c .before .loop .inv .0
 

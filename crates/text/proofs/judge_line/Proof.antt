@@ -1,45 +1,31 @@
-use Prim.Native.Nat.{ℕ}
-use mathlib.Core.Path.{_≡_, sym, ap, _∙_}
+use mathlib.Core.Path.{_≡_, sym, _∙_}
 use mir.Syntax.{w64}
 use mir.Val.{SFits}
 use native.Mathlib.Omega.{arith}
 use denote.Ref.{now}
 use Rattle.loops.specs.Numbers.{toNat}
-use Rattle.rows.specs.Table.{width}
 use Rattle.rows.proofs.Tables.{width-most}
 use Rattle.text.specs.Line.{valueOf}
 use Rattle.text.proofs.LineLaws.{fields-bad, fields-empty, fields-kind, kind-read, kind-low, kind-high, kind-row, kind-count}
 use borrow.Author.Needs.{needs}
 use Rattle.text.proofs.judge_line.Statement.{statement}
 use Rattle.text.proofs.judge_line.Tie as tie
-use Rattle.text.proofs.judge_line.Reads as reads
-use Rattle.text.proofs.judge_line.Lts as lts
-use Rattle.rows.proofs.nat.Reads as nat-reads
-use Rattle.rows.proofs.width_of.Reads as width-of-reads
-use Rattle.text.proofs.held_by.Reads as held-by-reads
-use Rattle.text.proofs.read_number.Reads as read-number-reads
 
--- src/lib.rt:198:9
 returns : tie.Need-returns
 returns c = sym (fields-bad (c .before .before .args .good) (now (c .before .before .args .kind)) (c .before .before .args .n) (c .if1 .taken))
 
--- src/lib.rt:201:9
 returns-2 : tie.Need-returns-2
 returns-2 c = sym (fields-empty (c .before .before .before .args .good) (now (c .before .before .before .args .kind)) (c .before .before .before .args .n) (c .if2 .taken))
 
--- src/lib.rt:203:31
 read-number-requires : tie.Need-read-number-requires
 read-number-requires c κs = search needs
 
--- src/lib.rt:203:23
 held-by-requires : tie.Need-held-by-requires
 held-by-requires c κs = search needs
 
--- src/lib.rt:203:9
 nat-requires : tie.Need-nat-requires
 nat-requires c κs = search needs
 
--- src/lib.rt:205:9
 returns-3 : tie.Need-returns-3
 returns-3 c =
     let f : SFits w64 (c .before .before .held-by .result) = search needs in
@@ -47,7 +33,6 @@ returns-3 c =
     let w = fields-kind (c .before .before .before .before .before .before .before .args .good) (now (c .before .before .before .before .before .before .before .args .kind)) (c .before .before .before .before .before .before .before .args .n) (c .before .nat .result) (c .before .before .before .before .before .if1 .left) (c .before .before .before .before .if2 .left) e in
     sym (w ∙ kind-low _ _ (c .if3 .taken))
 
--- src/lib.rt:208:9
 returns-4 : tie.Need-returns-4
 returns-4 c =
     let f : SFits w64 (c .before .before .before .held-by .result) = search needs in
@@ -55,15 +40,12 @@ returns-4 c =
     let w = fields-kind (c .before .before .before .before .before .before .before .before .args .good) (now (c .before .before .before .before .before .before .before .before .args .kind)) (c .before .before .before .before .before .before .before .before .args .n) (c .before .before .nat .result) (c .before .before .before .before .before .before .if1 .left) (c .before .before .before .before .before .if2 .left) e in
     sym (w ∙ kind-high _ _ (c .if4 .taken))
 
--- src/lib.rt:210:13
 width-of-requires : tie.Need-width-of-requires
 width-of-requires c κs = search needs
 
--- src/lib.rt:210:13
 add-if5 : tie.Need-add-if5
 add-if5 c = record { fits = omega (arith, (c .width-of .ensures), width-most (c .before .before .before .nat .result)) }
 
--- src/lib.rt:194:1
 returns-5 : tie.Need-returns-5
 returns-5 c =
     let f : SFits w64 (c .before .before .before .before .before .held-by .result) = search needs in
@@ -71,7 +53,6 @@ returns-5 c =
     let w = fields-kind (c .before .before .before .before .before .before .before .before .before .before .args .good) (now (c .before .before .before .before .before .before .before .before .before .before .args .kind)) (c .before .before .before .before .before .before .before .before .before .before .args .n) (c .before .before .before .before .nat .result) (c .before .before .before .before .before .before .before .before .if1 .left) (c .before .before .before .before .before .before .before .if2 .left) e in
     sym (w ∙ kind-row _ _ (c .before .width-of .result) (omega arith) (c .before .before .if4 .left) (c .before .width-of .ensures) (c .if5 .taken))
 
--- src/lib.rt:194:1
 returns-6 : tie.Need-returns-6
 returns-6 c =
     let f : SFits w64 (c .before .before .before .before .before .held-by .result) = search needs in

@@ -4,27 +4,19 @@ use Rattle.text.proofs.DigitLaws.{digits-empty, digits-zero, digits-pla
 use borrow.Author.Needs.{needs}
 use Rattle.text.proofs.read_digits.Statement.{statement}
 use Rattle.text.proofs.read_digits.Tie as tie
-use Rattle.text.proofs.read_digits.Reads as reads
-use Rattle.text.proofs.read_digits.Lts as lts
-use Rattle.text.proofs.digits_value.Reads as digits-value-reads
 
--- src/lib.rt:58:9
 returns : tie.Need-returns
 returns c = sym (digits-empty _ (c .if1 .taken))
 
--- src/lib.rt:60:8
 shared-slice-read-if2 : tie.Need-shared-slice-read-if2
 shared-slice-read-if2 c = search needs
 
--- src/lib.rt:62:13
 returns-2 : tie.Need-returns-2
 returns-2 c = sym (digits-zero _ (c .before .if2 .taken) (c .if3 .taken))
 
--- src/lib.rt:65:5
 digits-value-requires : tie.Need-digits-value-requires
 digits-value-requires c κs = search needs
 
--- src/lib.rt:54:1
 returns-3 : tie.Need-returns-3
 returns-3 c =
     c .digits-value .ensures

@@ -1,11 +1,11 @@
-use Prim.Native.Nat.{ℕ, _+_, _≤_, _<_, _-_}
-use mathlib.Core.Path.{_≡_, refl, sym, ap, _∙_}
-use mathlib.Core.Bool.{Bool, _&&_}
+use Prim.Native.Nat.{_+_}
+use mathlib.Core.Path.{_≡_, ap, _∙_}
+use mathlib.Core.Bool.{_&&_}
 use denote.Ref.{now}
 use mir.Syntax.{w64}
 use mir.Val.{SFits, toZ, ofZ}
 use mir.Facts.{toZ-ofZ}
-use lib.ListN.{length, drop, take, set, length-take, length-drop}
+use lib.ListN.{length, set, length-take, length-drop}
 use native.Mathlib.Omega.{arith}
 use borrow.Author.Needs.{needs}
 use Rattle.text.specs.Line.{isNumber, held, valueOf}
@@ -14,13 +14,6 @@ use Rattle.text.specs.declared.Number.{Number}
 use Rattle.text.proofs.FieldLaws.{FieldsRead, fields-none, fields-more, fields-last}
 use Rattle.text.proofs.read_fields.Statement.{statement}
 use Rattle.text.proofs.read_fields.Tie as tie
-use Rattle.text.proofs.read_fields.Reads as reads
-use Rattle.text.proofs.read_fields.Lts as lts
-use Rattle.text.proofs.first_part.Reads as first-part-reads
-use Rattle.text.proofs.held_by.Reads as held-by-reads
-use Rattle.text.proofs.store.Reads as store-reads
-use Rattle.text.proofs.read_number.Reads as read-number-reads
-use Rattle.text.proofs.also_spelled.Reads as also-spelled-reads
 
 abbrev Inv-loop : tie.InvT-loop
 Inv-loop line rows₀ base rest₀ j₀ good₀ rows rest j good = FieldsRead line rows₀ base rows rest j good
@@ -28,43 +21,33 @@ Inv-loop line rows₀ base rest₀ j₀ good₀ rows rest j good = FieldsRead li
 abbrev μ-loop : tie.MeasureT-loop
 μ-loop line rows₀ base rest₀ j₀ good₀ rows rest j good = length rest
 
--- src/lib.rt:232:5
 loop-holds : tie.Need-loop-holds Inv-loop μ-loop
 loop-holds c = fields-none _ _ _
 
--- src/lib.rt:233:13
 first-part-requires : tie.Need-first-part-requires Inv-loop μ-loop
 first-part-requires c κs = search needs
 
--- src/lib.rt:234:13
 read-number-requires : tie.Need-read-number-requires Inv-loop μ-loop
 read-number-requires c κs = search needs
 
--- src/lib.rt:235:9
 also-spelled-requires : tie.Need-also-spelled-requires Inv-loop μ-loop
 also-spelled-requires c κs = search needs
 
--- src/lib.rt:236:19
 add-store : tie.Need-add-store Inv-loop μ-loop
 add-store c = search needs
 
--- src/lib.rt:236:29
 held-by-requires : tie.Need-held-by-requires Inv-loop μ-loop
 held-by-requires c κs = search needs
 
--- src/lib.rt:236:9
 store-requires : tie.Need-store-requires Inv-loop μ-loop
 store-requires c κs = search needs
 
--- src/lib.rt:237:9
 add-j : tie.Need-add-j Inv-loop μ-loop
 add-j c = search needs
 
--- src/lib.rt:240:13
 same-length : tie.Need-same-length Inv-loop μ-loop
 same-length c = c .before .before .store .kept .0 ∙ c .before .before .before .before .before .before .before .before .loop .inv .long
 
--- src/lib.rt:240:13
 returns : tie.Need-returns Inv-loop μ-loop
 returns c =
     let l = c .before .before .before .before .before .before .before .before .loop in
@@ -77,27 +60,21 @@ returns c =
     let w = fields-last _ _ _ _ _ _ _ (l .inv) _ (c .before .before .before .before .before .before .before .first-part .ensures) (c .if1 .taken) in
     ((s ∙ w .0, w .1), (rw (toZ-ofZ k, a) at q) ∙ w .2)
 
--- src/lib.rt:242:22
 add-rest : tie.Need-add-rest Inv-loop μ-loop
 add-rest c = search needs
 
--- src/lib.rt:242:16
 sub-rest : tie.Need-sub-rest Inv-loop μ-loop
 sub-rest c = search needs
 
--- src/lib.rt:242:16
 part-rest-start : tie.Need-part-rest-start Inv-loop μ-loop
 part-rest-start c = search needs
 
--- src/lib.rt:242:16
 part-rest-end : tie.Need-part-rest-end Inv-loop μ-loop
 part-rest-end c = search needs
 
--- src/lib.rt:232:5
 loop-less : tie.Need-loop-less Inv-loop μ-loop
 loop-less c = simp (length-take, length-drop) (omega arith)
 
--- src/lib.rt:232:5
 loop-again : tie.Need-loop-again Inv-loop μ-loop
 loop-again c =
     let l = c .before .before .before .before .before .before .before .before .before .loop in

@@ -1,108 +1,86 @@
-use Prim.Native.Nat.{ℕ, _+_, _≤_, _<_, _-_}
-use mathlib.Core.Path.{_≡_, refl, sym, ap, _∙_}
-use lib.ListN.{length, drop, take, length-take, length-drop}
+use mathlib.Core.Path.{sym, _∙_}
+use lib.ListN.{length, length-take, length-drop}
 use native.Mathlib.Omega.{arith}
 use borrow.Author.Needs.{needs}
 use Rattle.text.proofs.TextLaws.{LinesRead, lines-none, lines-end, lines-open, lines-wrong, lines-full, lines-more}
 use Rattle.text.proofs.read_lines.Statement.{statement}
 use Rattle.text.proofs.read_lines.Tie as tie
-use Rattle.text.proofs.read_lines.Reads as reads
-use Rattle.text.proofs.read_lines.Lts as lts
-use Rattle.text.proofs.first_part.Reads as first-part-reads
-use Rattle.text.proofs.read_line.Reads as read-line-reads
 
 abbrev Inv-loop : tie.InvT-loop
-Inv-loop text rows₀ lent rest₀ place₀ rows rest place = LinesRead text lent rows₀ rows rest place
+Inv-loop text rows₀ lent classes rest₀ place₀ rows rest place = LinesRead text lent rows₀ rows rest place
 
 abbrev μ-loop : tie.MeasureT-loop
-μ-loop text rows₀ lent rest₀ place₀ rows rest place = length rest
+μ-loop text rows₀ lent classes rest₀ place₀ rows rest place = length rest
 
--- src/lib.rt:287:5
+class-table-requires : tie.Need-class-table-requires Inv-loop μ-loop
+class-table-requires c κs = search needs
+
 loop-holds : tie.Need-loop-holds Inv-loop μ-loop
 loop-holds c = lines-none _ _ _
 
--- src/lib.rt:288:13
 first-part-requires : tie.Need-first-part-requires Inv-loop μ-loop
 first-part-requires c κs = search needs
 
--- src/lib.rt:291:13
 same-length : tie.Need-same-length Inv-loop μ-loop
-same-length c = c .before .before .before .loop .inv .long
+same-length c = ((c .before .before .before .loop .inv .long))
 
--- src/lib.rt:291:13
 returns : tie.Need-returns Inv-loop μ-loop
 returns c = lines-open _ _ _ _ _ _ (c .before .before .before .loop .inv) _ (c .before .first-part .ensures) (c .before .before .loop-test .taken) (c .if1 .taken)
 
--- src/lib.rt:293:55
 mul-read-line : tie.Need-mul-read-line Inv-loop μ-loop
 mul-read-line c = search needs
 
--- src/lib.rt:293:33
 read-line-requires : tie.Need-read-line-requires Inv-loop μ-loop
-read-line-requires c κs = omega arith
+read-line-requires c κs = (omega arith, search needs)
 
--- src/lib.rt:293:28
 enum-known-k : tie.Need-enum-known-k Inv-loop μ-loop
 enum-known-k c = search needs
 
--- src/lib.rt:294:13
 same-length-2 : tie.Need-same-length-2 Inv-loop μ-loop
-same-length-2 c = c .before .before .before .before .read-line .kept .1 .0 ∙ c .before .before .before .before .before .before .before .before .before .loop .inv .long
+same-length-2 c = ((c .before .before .before .before .read-line .kept .1 .0)) ∙ ((c .before .before .before .before .before .before .before .before .before .before .loop .inv .long))
 
--- src/lib.rt:294:13
 returns-2 : tie.Need-returns-2 Inv-loop μ-loop
 returns-2 c =
-    lines-wrong _ _ _ _ _ _ (c .before .before .before .before .before .before .before .before .before .loop .inv) _ (c .before .before .before .before .before .before .before .first-part .ensures) (c .before .before .before .before .before .before .if1 .left) _ (c .before .before .before .before .read-line .ensures .1) _
-    (sym (c .before .before .before .before .read-line .ensures .0) ∙ c .before .k .given .1)
+    lines-wrong _ _ _ _ _ _ (c .before .before .before .before .before .before .before .before .before .before .loop .inv) _ (c .before .before .before .before .before .before .before .before .first-part .ensures) (c .before .before .before .before .before .before .before .if1 .left) _ (c .before .before .before .before .read-line .ensures .1) _
+    (sym (c .before .before .before .before .read-line .ensures .0) ∙ ((c .before .k .given .1)))
 
 enum-told : tie.Need-enum-told Inv-loop μ-loop
 enum-told c = search needs
 
--- src/lib.rt:297:13
 same-length-3 : tie.Need-same-length-3 Inv-loop μ-loop
-same-length-3 c = c .before .before .before .before .read-line .kept .1 .0 ∙ c .before .before .before .before .before .before .before .before .before .loop .inv .long
+same-length-3 c = ((c .before .before .before .before .read-line .kept .1 .0)) ∙ ((c .before .before .before .before .before .before .before .before .before .before .loop .inv .long))
 
--- src/lib.rt:297:13
 returns-3 : tie.Need-returns-3 Inv-loop μ-loop
 returns-3 c =
-    lines-full _ _ _ _ _ _ (c .before .before .before .before .before .before .before .before .before .loop .inv) _ (c .before .before .before .before .before .before .before .first-part .ensures) (c .before .before .before .before .before .before .if1 .left) _ (c .before .before .before .before .read-line .ensures .1)
-    (sym (c .before .before .before .before .read-line .ensures .0) ∙ c .before .enum-told .given .1) (c .if2 .taken)
+    lines-full _ _ _ _ _ _ (c .before .before .before .before .before .before .before .before .before .before .loop .inv) _ (c .before .before .before .before .before .before .before .before .first-part .ensures) (c .before .before .before .before .before .before .before .if1 .left) _ (c .before .before .before .before .read-line .ensures .1)
+    (sym (c .before .before .before .before .read-line .ensures .0) ∙ ((c .before .enum-told .given .1))) (c .if2 .taken)
 
--- src/lib.rt:299:9
 add-place : tie.Need-add-place Inv-loop μ-loop
 add-place c = search needs
 
--- src/lib.rt:300:22
 add-rest : tie.Need-add-rest Inv-loop μ-loop
 add-rest c = search needs
 
--- src/lib.rt:300:16
 sub-rest : tie.Need-sub-rest Inv-loop μ-loop
 sub-rest c = search needs
 
--- src/lib.rt:300:16
 part-rest-start : tie.Need-part-rest-start Inv-loop μ-loop
 part-rest-start c = search needs
 
--- src/lib.rt:300:16
 part-rest-end : tie.Need-part-rest-end Inv-loop μ-loop
 part-rest-end c = search needs
 
--- src/lib.rt:287:5
 loop-less : tie.Need-loop-less Inv-loop μ-loop
 loop-less c = simp (length-take, length-drop) (omega arith)
 
--- src/lib.rt:287:5
 loop-again : tie.Need-loop-again Inv-loop μ-loop
 loop-again c =
-    lines-more _ _ _ _ _ _ (c .before .before .before .before .before .before .before .before .before .before .loop .inv) _ (c .before .before .before .before .before .before .before .before .first-part .ensures) (c .before .before .before .before .before .before .before .if1 .left) _ (c .before .before .before .before .before .read-line .ensures .1)
-    (sym (c .before .before .before .before .before .read-line .ensures .0) ∙ c .before .before .enum-told .given .1) (c .before .if2 .left)
+    lines-more _ _ _ _ _ _ (c .before .before .before .before .before .before .before .before .before .before .before .loop .inv) _ (c .before .before .before .before .before .before .before .before .before .first-part .ensures) (c .before .before .before .before .before .before .before .before .if1 .left) _ (c .before .before .before .before .before .read-line .ensures .1)
+    (sym (c .before .before .before .before .before .read-line .ensures .0) ∙ ((c .before .before .enum-told .given .1))) (c .before .if2 .left)
 
--- src/lib.rt:280:1
 same-length-4 : tie.Need-same-length-4 Inv-loop μ-loop
-same-length-4 c = c .before .loop .inv .long
+same-length-4 c = ((c .before .loop .inv .long))
 
--- src/lib.rt:280:1
 returns-4 : tie.Need-returns-4 Inv-loop μ-loop
 returns-4 c = lines-end _ _ _ _ _ _ (c .before .loop .inv) (c .loop-test .left)
 
@@ -112,6 +90,7 @@ read-lines-spec =
     (tie.spec
     Inv-loop
     μ-loop
+    class-table-requires
     loop-holds
     first-part-requires
     same-length

@@ -1,6 +1,5 @@
 -- `overlap::Overlap::earliest_end` meets its contract. A signed operand stands in a need as the machine reads it back from its bits. Assumes nothing.
 use borrow.Author.Needs.{needs}
-use Prim.Native.Nat.{_+_}
 use native.Mathlib.Omega.{arith}
 use lib.IntN.{pos, _+ℤ_}
 use mir.Syntax.{w64}

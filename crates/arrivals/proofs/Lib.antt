@@ -1,3 +1,0 @@
-pub mod Early
-pub mod Judged
-pub mod Ordered

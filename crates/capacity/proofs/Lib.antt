@@ -1,3 +1,0 @@
-pub mod Gathering
-pub mod Caps
-pub mod Told

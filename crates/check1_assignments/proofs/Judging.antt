@@ -1,0 +1,205 @@
+-- The findings of a booking, put together from what the code asks. Assumes nothing.
+use Prim.Native.Nat.{ℕ, suc, _+_}
+use mathlib.Core.Path.{_≡_, refl, ap, ap₂, sym, _∙_}
+use mathlib.Core.Bool.{Bool, true, false, cond, true≢false, or-false}
+use mathlib.Core.List.{List, [], _∷_, _++_, append-nil}
+use mathlib.Core.Option.{Option, none, some}
+use native.Mathlib.Omega.{arith}
+use native.Mathlib.Numerals.{add-one}
+use lib.Dec.{ltb}
+use lib.IntN.{ℤ, pos, negsuc, _-ℤ_}
+use lib.ListN.{getD}
+use lib.Signed.{ltZ}
+use borrow.Author.Tests.{le-ltb}
+use Rattle.loops.specs.Lists.{given, each, option, isSome, anyOf}
+use Rattle.loops.specs.Numbers.{toNat}
+use Rattle.loops.specs.Range.{collect}
+use Rattle.loops.specs.inner.Chain.{Silent}
+use Rattle.loops.proofs.NumberLaws.{shorter}
+use Rattle.rows.specs.Cells.{rowCount, cell, num, is}
+use Rattle.rows.specs.Class.{task-c, t?-c}
+use Rattle.sheet.specs.inner.Accepted.{Accepted}
+use Rattle.sheet.specs.Places.{ofKind, placeOf}
+use Rattle.sheet.specs.Refusals.{lacks}
+use Rattle.sheet.specs.inner.Index.{orEnd, ownPlace}
+use Rattle.calendar.specs.Clock.{clock}
+use Rattle.findings.specs.declared.Violation.{Violation}
+use Rattle.findings.specs.inner.Sink.{Sink, emit}
+use Rattle.findings.proofs.SinkLaws.{emit-none, emit-then}
+use Rattle.model.specs.Sheet.{sheet, read, asInstant}
+use Rattle.model.specs.inner.Records.{maybeAt, taskOf, activityOf, assignmentOf}
+use Rattle.model.specs.Task.{findTask}
+use Rattle.model.specs.Activity.{findActivity, neededMs}
+use Rattle.model.specs.Schedule.{Assignment, assignmentsBelow, unknownActivity, durationTooShort, earlyStart}
+use Rattle.model.proofs.RowLaws.{assignment-row, assignment-none}
+use Rattle.model.proofs.Accepting.{has-owner}
+use Rattle.model.proofs.Finds.{find-task, find-activity, own-task}
+use Rattle.definition.specs.Pieces.{isHeld, runsOn}
+use Rattle.definition.specs.CheckAssignments.{misplaced, units, uses, earlyAssignment, checkKnown, checkAssignment, checkAssignmentAt, checkAssignments}
+use Rattle.pieces.specs.inner.Held.{heldAt}
+use Rattle.derived_times.specs.inner.Needs.{Needs}
+use Rattle.check1_assignments.specs.inner.Bookings.{Booked}
+use Rattle.check1_assignments.proofs.Placing.{activity-named, activity-kind}
+
+module _ (rows : List ℤ) where
+  -- ---- releases
+
+  early-cell : (b : Assignment ℤ) (s : ℕ) → b .start ≡ pos s → (x : ℤ)
+      → earlyAssignment clock (sheet rows) b (asInstant (read t?-c x)) ≡ given (ltb s (toNat x)) (earlyStart 1 (b .activity))
+  early-cell b s e (pos n) = rw e
+  early-cell b s e (negsuc n) = rw (le-ltb s 0 (omega arith))
+
+  early-is : (k r c : ℕ) → earlyAssignment clock (sheet rows) (assignmentOf rows k) (maybeAt rows r c) ≡ given (ltb (num rows k 4) (num rows r c)) (earlyStart 1 (num rows k 1))
+  early-is k r c = early-cell (assignmentOf rows k) (num rows k 4) refl (cell rows r c)
+
+  task-there : (a : ℕ) → lacks task-c rows a 2 ≡ false → placeOf rows 1 (num rows a 2) ≡ none → ⊥
+  unfolding lacks
+  task-there a e q = true≢false (rw q at e)
+
+  early-task : (acc : Accepted rows) (a k t : ℕ) → Booked rows a k → t ≡ ownPlace rows a
+      → earlyAssignment clock (sheet rows) (assignmentOf rows k) (option (findTask (sheet rows) (num rows a 2)) none (λ x. x .release))
+      ≡ given (ltb (num rows k 4) (num rows t 3)) (earlyStart 1 (num rows k 1))
+  early-task acc a k t b e =
+      ap (λ x. earlyAssignment clock (sheet rows) (assignmentOf rows k) (option x none (λ y. y .release))) (find-task rows (num rows a 2))
+      ∙ go (placeOf rows 1 (num rows a 2)) refl
+    where
+      absent : placeOf rows 1 (num rows a 2) ≡ none → ⊥
+      absent q = task-there a (has-owner rows acc a 2 2 (activity-named rows a k b .within) (activity-kind rows a k b)) q
+
+      go : (x : Option ℕ) → placeOf rows 1 (num rows a 2) ≡ x
+          → earlyAssignment clock (sheet rows) (assignmentOf rows k) (option (option x none (λ j. some (taskOf rows j))) none (λ y. y .release))
+          ≡ given (ltb (num rows k 4) (num rows t 3)) (earlyStart 1 (num rows k 1))
+      go none q = absurd (absent q)
+      go (some j) q =
+          let w : t ≡ j = e ∙ own-task rows a (activity-kind rows a k b) ∙ ap (orEnd rows) q ∙ (unfold orEnd in refl) in
+          early-is k j 3 ∙ ap (λ i. given (ltb (num rows k 4) (num rows i 3)) (earlyStart 1 (num rows k 1))) (sym w)
+
+  -- ---- a booking of an activity
+
+  found : (a k : ℕ) → Booked rows a k → findActivity (sheet rows) (num rows k 1) ≡ some (activityOf rows a)
+  found a k b = find-activity rows (num rows k 1) ∙ ap (λ x. option x none (λ j. some (activityOf rows j))) (b .place)
+
+  cond-yes : {A : Type 0} {b : Bool} (x y : A) → b ≡ true → cond b x y ≡ x
+  cond-yes x y e = rw e
+
+  cond-no : {A : Type 0} {b : Bool} (x y : A) → b ≡ false → cond b x y ≡ y
+  cond-no x y e = rw e
+
+  module _ (a k : ℕ) where
+    abbrev known : List Violation
+    known = checkKnown clock (sheet rows) (assignmentsBelow (sheet rows) k) (assignmentOf rows k) (activityOf rows a)
+
+    misplaced-is : misplaced (sheet rows) (activityOf rows a) (assignmentOf rows k) ≡ true → known ≡ unknownActivity 1 (num rows k 1) ∷ []
+    unfolding checkKnown
+    misplaced-is h = cond-yes _ _ h
+
+    held-is : misplaced (sheet rows) (activityOf rows a) (assignmentOf rows k) ≡ false → isHeld (sheet rows) (assignmentOf rows k) ≡ true → known ≡ []
+    unfolding checkKnown
+    held-is h g = cond-no _ _ h ∙ cond-yes _ _ g
+
+    judged-is : misplaced (sheet rows) (activityOf rows a) (assignmentOf rows k) ≡ false → isHeld (sheet rows) (assignmentOf rows k) ≡ false
+        → known
+        ≡ given
+        (ltZ (units (sheet rows) (num rows a 1)) (pos (suc (uses (sheet rows) (activityOf rows a) (assignmentOf rows k) (assignmentsBelow (sheet rows) k)))))
+        (unknownActivity 1 (num rows k 1))
+        ++ given (ltZ (pos (num rows k 5) -ℤ pos (num rows k 4)) (pos (neededMs (sheet rows) (activityOf rows a) (assignmentOf rows k) (runsOn (sheet rows) (assignmentOf rows k))))) (durationTooShort 1 (num rows k 1))
+        ++ earlyAssignment clock (sheet rows) (assignmentOf rows k) (maybeAt rows a 8)
+        ++ earlyAssignment clock (sheet rows) (assignmentOf rows k) (option (findTask (sheet rows) (num rows a 2)) none (λ t. t .release))
+    unfolding checkKnown
+    judged-is h g = cond-no _ _ h ∙ cond-no _ _ g
+
+    pub misplaced-told : {m : Bool} {id : ℕ} (s : Sink) {s′ : Sink} → m ≡ misplaced (sheet rows) (activityOf rows a) (assignmentOf rows k) → m ≡ true → id ≡ num rows k 1
+        → s′ ≡ emit s (given true (unknownActivity 1 id)) → s′ ≡ emit s known
+    misplaced-told s e f i q = q ∙ ap (emit s) (ap (λ x. unknownActivity 1 x ∷ []) i ∙ sym (misplaced-is (sym e ∙ f)))
+
+    held-row : is rows k 0 23 ≡ true → heldAt rows k ≡ isHeld (sheet rows) (assignmentOf rows k)
+    unfolding heldAt anyOf
+    held-row h = rw (assignment-row rows k h) (or-false (isHeld (sheet rows) (assignmentOf rows k)))
+
+    pub is-held : {d b : Bool} → is rows k 0 23 ≡ true → d ≡ heldAt rows k → d ≡ b → isHeld (sheet rows) (assignmentOf rows k) ≡ b
+    is-held h e f = sym (held-row h) ∙ sym e ∙ f
+
+    pub held-told : {m d : Bool} (s : Sink) → is rows k 0 23 ≡ true → m ≡ misplaced (sheet rows) (activityOf rows a) (assignmentOf rows k) → m ≡ false
+        → d ≡ heldAt rows k → d ≡ true → s ≡ emit s known
+    held-told s h e f i j = sym (emit-none s) ∙ ap (emit s) (sym (held-is (sym e ∙ f) (is-held h i j)))
+
+    pub judged-told : Accepted rows → Booked rows a k → (need : List ℕ) → Needs rows need
+        → misplaced (sheet rows) (activityOf rows a) (assignmentOf rows k) ≡ false → isHeld (sheet rows) (assignmentOf rows k) ≡ false
+        → {id used setup t : ℕ} {over short early late : Bool} (s₀ : Sink) {s₁ s₂ s₃ s₄ : Sink}
+        → id ≡ num rows k 1
+        → used ≡ uses (sheet rows) (activityOf rows a) (assignmentOf rows k) (assignmentsBelow (sheet rows) k)
+        → over ≡ ltZ (units (sheet rows) (num rows a 1)) (pos (used + 1))
+        → s₁ ≡ emit s₀ (given over (unknownActivity 1 id))
+        → setup ≡ num rows k 6
+        → short ≡ ltb (num rows k 5) (num rows k 4 + (setup + getD need k 0))
+        → s₂ ≡ emit s₁ (given short (durationTooShort 1 id))
+        → early ≡ ltb (num rows k 4) (num rows a 8)
+        → s₃ ≡ emit s₂ (given early (earlyStart 1 id))
+        → t ≡ ownPlace rows a
+        → late ≡ ltb (num rows k 4) (num rows t 3)
+        → s₄ ≡ emit s₃ (given late (earlyStart 1 id))
+        → s₄ ≡ emit s₀ known
+    judged-told acc b need nd h g {id} {used} {setup} {t} {over} {short} {early} {late} s₀ i u o q₁ r w q₂ e q₃ z l q₄ =
+        emit-then _ _ s₀ (emit-then _ _ s₀ (emit-then _ _ s₀ q₁ q₂) q₃) q₄
+        ∙ ap (emit s₀)
+        (ap₂ _++_
+        (ap₂ _++_
+        (ap₂ _++_
+        (ap₂ (λ x y. given x (unknownActivity 1 y)) (o ∙ ap (λ x. ltZ (units (sheet rows) (num rows a 1)) (pos x)) (add-one used ∙ ap suc u)) i)
+        (ap₂ (λ x y. given x (durationTooShort 1 y)) (w ∙ ap (λ x. ltb (num rows k 5) (num rows k 4 + x)) (ap (λ x. x + getD need k 0) r ∙ sym (nd .at k (assignmentOf rows k) (activityOf rows a) (b .within) (assignment-row rows k (b .kind)) (found a k b)))
+        ∙ sym (shorter (num rows k 4) (num rows k 5) (neededMs (sheet rows) (activityOf rows a) (assignmentOf rows k) (runsOn (sheet rows) (assignmentOf rows k))))) i))
+        (ap₂ (λ x y. given x (earlyStart 1 y)) e i ∙ sym (early-is k a 8)))
+        (ap₂ (λ x y. given x (earlyStart 1 y)) l i ∙ sym (early-task acc a k t b z))
+        ∙ sym (judged-is h g))
+
+  -- ---- any booking
+
+  module _ (k : ℕ) (h : is rows k 0 23 ≡ true) where
+    booking-is : checkAssignmentAt clock (sheet rows) k ≡ checkAssignment clock (sheet rows) (assignmentsBelow (sheet rows) k) (assignmentOf rows k)
+    unfolding checkAssignmentAt each
+    booking-is = rw (assignment-row rows k h) (append-nil _)
+
+    known-is : (a : ℕ) → placeOf rows 2 (num rows k 1) ≡ some a → checkAssignmentAt clock (sheet rows) k ≡ known a k
+    unfolding checkAssignment
+    known-is a q =
+        booking-is
+        ∙ ap
+        (λ x. option x (given (isSome (findTask (sheet rows) (num rows k 2))) (unknownActivity 1 (num rows k 1))) (checkKnown clock (sheet rows) (assignmentsBelow (sheet rows) k) (assignmentOf rows k)))
+        (find-activity rows (num rows k 1) ∙ ap (λ x. option x none (λ j. some (activityOf rows j))) q)
+
+    unknown-is : placeOf rows 2 (num rows k 1) ≡ none
+        → checkAssignmentAt clock (sheet rows) k ≡ given (isSome (findTask (sheet rows) (num rows k 2))) (unknownActivity 1 (num rows k 1))
+    unfolding checkAssignment
+    unknown-is q =
+        booking-is
+        ∙ ap
+        (λ x. option x (given (isSome (findTask (sheet rows) (num rows k 2))) (unknownActivity 1 (num rows k 1))) (checkKnown clock (sheet rows) (assignmentsBelow (sheet rows) k) (assignmentOf rows k)))
+        (find-activity rows (num rows k 1) ∙ ap (λ x. option x none (λ j. some (activityOf rows j))) q)
+
+    pub known-told : (s : Sink) {s′ : Sink} (a : ℕ) → Booked rows a k → s′ ≡ emit s (known a k) → s′ ≡ emit s (checkAssignmentAt clock (sheet rows) k)
+    known-told s a b q = q ∙ ap (emit s) (sym (known-is a (b .place)))
+
+    pub unknown-told : {b : Bool} {id task : ℕ} (s : Sink) {s′ : Sink} → placeOf rows 2 (num rows k 1) ≡ none → task ≡ num rows k 2
+        → b ≡ isSome (findTask (sheet rows) task) → id ≡ num rows k 1
+        → s′ ≡ emit s (given b (unknownActivity 1 id)) → s′ ≡ emit s (checkAssignmentAt clock (sheet rows) k)
+    unknown-told s e t f i q =
+        q
+        ∙ ap (emit s)
+        (ap₂ (λ x y. given x (unknownActivity 1 y)) (f ∙ ap (λ x. isSome (findTask (sheet rows) x)) t) i ∙ sym (unknown-is e))
+
+  pub assignment-silent : Silent (ofKind rows 23) (checkAssignmentAt clock (sheet rows))
+  unfolding checkAssignmentAt each ofKind
+  assignment-silent = record { still = λ k h. rw (assignment-none rows k h) }
+
+  pub assignments-told : (s : Sink) {s′ : Sink} → s′ ≡ emit s (collect (checkAssignmentAt clock (sheet rows)) (rowCount rows)) → s′ ≡ emit s (checkAssignments clock (sheet rows))
+  unfolding checkAssignments
+  assignments-told s e = e
+
+  -- ---- a task
+
+  some-place : (x : Option ℕ) → isSome (option x none (λ k. some (taskOf rows k))) ≡ isSome x
+  some-place none = refl
+  some-place (some k) = refl
+
+  pub task-known : (id : ℕ) {x : Option ℕ} → x ≡ placeOf rows 1 id → isSome x ≡ isSome (findTask (sheet rows) id)
+  task-known id e = ap isSome e ∙ sym (ap isSome (find-task rows id) ∙ some-place (placeOf rows 1 id))

@@ -1,0 +1,167 @@
+-- Signed quantities summed as natural numbers, and what is more than their sum. Assumes nothing.
+use Prim.Native.Nat.{ℕ, zero, suc, _+_, _-_, _<_, _≤_}
+use mathlib.Core.Path.{_≡_, refl, ap, sym, _∙_}
+use mathlib.Core.Bool.{Bool, true, false, cond, _&&_, and-true, and-false}
+use mathlib.Core.List.{List, map, foldl}
+use mathlib.Core.Option.{some}
+use native.Mathlib.Omega.{arith}
+use native.Mathlib.Decide.{decLt}
+use lib.Dec.{eqb, ltb}
+use lib.IntN.{ℤ, pos, negsuc, subℕ, _+ℤ_, _-ℤ_}
+use lib.Signed.{ltZ, leZ}
+use borrow.Author.Tests.{lt-ltb, le-ltb, leb-true}
+use Rattle.loops.specs.Lists.{given}
+use Rattle.loops.specs.Numbers.{maxZ}
+use Rattle.loops.specs.Range.{fold}
+use Rattle.loops.specs.inner.Chain.{onlyAt}
+use Rattle.loops.proofs.ListLaws.{map-collect, foldl-collect}
+use Rattle.loops.proofs.RangeLaws.{fold-ext}
+use Rattle.rows.specs.Cells.{rowCount, cell, num, is}
+use Rattle.rows.specs.Class.{n-c}
+use Rattle.rows.specs.Ranges.{between, inRange, inClass}
+use Rattle.sheet.specs.inner.Accepted.{Accepted}
+use Rattle.sheet.specs.Places.{placeOf}
+use Rattle.sheet.specs.inner.Index.{ownerKind, ownedBy}
+use Rattle.model.specs.Sheet.{sheet}
+use Rattle.model.specs.Activity.{ResourceRequirement, requirementAt, requirements}
+use Rattle.model.proofs.RowLaws.{kind-is}
+use Rattle.model.proofs.OwnedLaws.{of-activity}
+use Rattle.model.proofs.Accepting.{in-class}
+use Rattle.loops.proofs.BoolLaws.{and-left, and-right, or-left}
+use Rattle.definition.specs.CheckAssignments.{units}
+use Rattle.pieces.specs.inner.Bookings.{indexKey}
+use Rattle.check1_assignments.specs.declared.Units.{Units}
+use Rattle.check1_assignments.specs.inner.Bookings.{quantities}
+
+-- ---- differences of natural numbers
+
+sub-is : (p m : ℕ) → pos p -ℤ pos m ≡ subℕ p m
+sub-is p zero = rw (le-ltb p 0 (omega arith)) (ap pos (omega arith))
+sub-is p (suc n) = refl
+
+sub-same : (a b c d : ℕ) → a + d ≡ c + b → subℕ a b ≡ subℕ c d
+sub-same a b c d e = go (decLt a b)
+  where
+    go : Dec (a < b) → subℕ a b ≡ subℕ c d
+    go (yes l) = rw (lt-ltb a b l, lt-ltb c d (omega arith)) (ap negsuc (omega arith))
+    go (no l) = rw (le-ltb a b (omega arith), le-ltb c d (omega arith)) (ap pos (omega arith))
+
+add-pos : (r o n : ℕ) → subℕ r o +ℤ pos n ≡ subℕ (r + n) o
+add-pos r o n = go (decLt r o)
+  where
+    go : Dec (r < o) → subℕ r o +ℤ pos n ≡ subℕ (r + n) o
+    go (yes l) = rw (lt-ltb r o l) (sub-same n (suc (o - suc r)) (r + n) o (omega arith))
+    go (no l) = rw (le-ltb r o (omega arith), le-ltb (r + n) o (omega arith)) (ap pos (omega arith))
+
+add-neg : (r o n : ℕ) → subℕ r o +ℤ negsuc n ≡ subℕ r (o + suc n)
+add-neg r o n = go (decLt r o)
+  where
+    go : Dec (r < o) → subℕ r o +ℤ negsuc n ≡ subℕ r (o + suc n)
+    go (yes l) = rw (lt-ltb r o l, lt-ltb r (o + suc n) (omega arith)) (ap negsuc (omega arith))
+    go (no l) = rw (le-ltb r o (omega arith)) (sub-same (r - o) (suc n) r (o + suc n) (omega arith))
+
+-- ---- a quantity added
+
+lowest : (x : ℤ) → inClass n-c x ≡ true → leZ (negsuc 999999) x ≡ true
+unfolding inClass inRange between
+lowest x e = and-left (leZ (negsuc 999999) x) (leZ x (pos 1000000)) (or-left (leZ (negsuc 999999) x && leZ x (pos 1000000)) false e refl)
+
+key-down : (n : ℕ) → n ≤ 999999 → indexKey (negsuc n) ≡ 1000000 - n
+unfolding indexKey
+key-down n h = rw (le-ltb 1000001 (suc n) (omega arith)) (omega arith)
+
+key-up : (n : ℕ) → indexKey (pos n) ≡ n + 1000001
+unfolding indexKey
+key-up n = refl
+
+raise : (x : ℤ) (r o : ℕ) → leZ (negsuc 999999) x ≡ true → subℕ (r + indexKey x) (o + 1000001) ≡ subℕ r o +ℤ x
+raise (pos n) r o e = rw (key-up n) (sub-same (r + (n + 1000001)) (o + 1000001) (r + n) o (omega arith)) ∙ sym (add-pos r o n)
+raise (negsuc n) r o e =
+    let l : n ≤ 999999 = leb-true n 999999 e in
+    rw (key-down n l) (sub-same (r + (1000000 - n)) (o + 1000001) r (o + suc n) (omega arith)) ∙ sym (add-neg r o n)
+
+pub raised-by : (x : ℤ) (r o : ℕ) → inClass n-c x ≡ true → pos (r + indexKey x) -ℤ pos (o + 1000001) ≡ (pos r -ℤ pos o) +ℤ x
+raised-by x r o e = sub-is (r + indexKey x) (o + 1000001) ∙ raise x r o (lowest x e) ∙ ap (λ z. z +ℤ x) (sym (sub-is r o))
+
+highest : (x : ℤ) → inClass n-c x ≡ true → leZ x (pos 1000000) ≡ true
+unfolding inClass inRange between
+highest x e = and-right (leZ (negsuc 999999) x) (leZ x (pos 1000000)) (or-left (leZ (negsuc 999999) x && leZ x (pos 1000000)) false e refl)
+
+key-at-most : (x : ℤ) → inClass n-c x ≡ true → indexKey x ≤ 2000001
+key-at-most (pos n) e = let l : n ≤ 1000000 = leb-true n 1000000 (highest (pos n) e) in rw (key-up n) (omega arith)
+key-at-most (negsuc n) e = let l : n ≤ 999999 = leb-true n 999999 (lowest (negsuc n) e) in rw (key-down n l) (omega arith)
+
+module _ (rows : List ℤ) (acc : Accepted rows) where
+  pub quantity-class : (q : ℕ) → is rows q 0 5 ≡ true → inClass n-c (cell rows q 3) ≡ true
+  quantity-class q h = in-class rows acc q 5 3 h
+
+  pub quantity-key : (q : ℕ) → is rows q 0 5 ≡ true → indexKey (cell rows q 3) ≤ 2000001
+  quantity-key q h = key-at-most (cell rows q 3) (quantity-class q h)
+
+-- ---- the sum along the activity's chain
+
+unfoldable pub addAt : List ℤ → ℤ → ℕ → ℤ
+addAt rows c k = c +ℤ cell rows k 3
+
+module _ (rows : List ℤ) (q : ℕ) (u : Units) {v : Units} (e : v ≡ record { raised = u .raised + indexKey (cell rows q 3); offset = u .offset + 1000001 }) where
+  pub raised-to : v .raised ≡ u .raised + indexKey (cell rows q 3)
+  raised-to = ap (λ x. x .raised) e
+
+  pub offset-to : v .offset ≡ u .offset + 1000001
+  offset-to = ap (λ x. x .offset) e
+
+pub sum-step : (rows : List ℤ) → Accepted rows → (q : ℕ) → is rows q 0 5 ≡ true → (u : Units) {v : Units}
+    → v ≡ record { raised = u .raised + indexKey (cell rows q 3); offset = u .offset + 1000001 }
+    → pos (v .raised) -ℤ pos (v .offset) ≡ addAt rows (pos (u .raised) -ℤ pos (u .offset)) q
+unfolding addAt
+sum-step rows acc q h u e =
+    ap (λ x. pos (x .raised) -ℤ pos (x .offset)) e ∙ raised-by (cell rows q 3) (u .raised) (u .offset) (quantity-class rows acc q h)
+
+module _ (rows : List ℤ) (a : ℕ) (p : placeOf rows 2 (num rows a 1) ≡ some a) where
+  folded : (b : Bool) (x : ResourceRequirement) (c : ℤ) → foldl _+ℤ_ c (map (λ q. q .quantity) (given b x)) ≡ cond b (c +ℤ x .quantity) c
+  folded true x c = refl
+  folded false x c = refl
+
+  quantity-at : (c : ℤ) (k : ℕ)
+      → foldl _+ℤ_ c (map (λ q. q .quantity) (requirementAt (sheet rows) (num rows a 1) k)) ≡ onlyAt (ownedBy rows a 5) (addAt rows) c k
+  unfolding onlyAt addAt requirementAt is
+  quantity-at c k = go (is rows k 0 5) refl ∙ ap (λ b. cond b (c +ℤ cell rows k 3) c) (sym (of-activity rows 5 a (num rows a 1) (unfold ownerKind in refl) p k))
+    where
+      go : (b : Bool) → is rows k 0 5 ≡ b
+          → foldl _+ℤ_ c (map (λ q. q .quantity) (requirementAt (sheet rows) (num rows a 1) k))
+          ≡ cond (is rows k 0 5 && is rows k 1 (num rows a 1)) (c +ℤ cell rows k 3) c
+      go true h = rw (h, kind-is rows k 5 h) (folded (eqb (num rows k 1) (num rows a 1)) _ c)
+      go false h = rw h
+
+  pub quantities-are : quantities rows a ≡ fold (onlyAt (ownedBy rows a 5) (addAt rows)) (pos 0) (rowCount rows)
+  unfolding quantities requirements
+  quantities-are =
+      ap (foldl _+ℤ_ (pos 0)) (map-collect (λ q. q .quantity) (requirementAt (sheet rows) (num rows a 1)) (rowCount rows))
+      ∙ foldl-collect _+ℤ_ (pos 0) (λ k. map (λ q. q .quantity) (requirementAt (sheet rows) (num rows a 1) k)) (rowCount rows)
+      ∙ fold-ext _ _ (pos 0) (rowCount rows) quantity-at
+
+pub units-are : (rows : List ℤ) (a : ℕ) → units (sheet rows) (num rows a 1) ≡ maxZ (quantities rows a) (pos 1)
+unfolding units quantities
+units-are rows a = refl
+
+-- ---- more bookings than units
+
+over-is : (p m u : ℕ) → ltZ (maxZ (pos p -ℤ pos m) (pos 1)) (pos u) ≡ (ltb 1 u && ltb p (u + m))
+over-is p m u = rw (sub-is p m) (go (decLt p m) (decLt 1 u) (decLt (p - m) u) (decLt (p - m) 1))
+  where
+    go : Dec (p < m) → Dec (1 < u) → Dec (p - m < u) → Dec (p - m < 1) → ltZ (maxZ (subℕ p m) (pos 1)) (pos u) ≡ (ltb 1 u && ltb p (u + m))
+    go (yes a) b c d = rw (lt-ltb p m a, lt-ltb p (u + m) (omega arith)) (sym (and-true (ltb 1 u)))
+    go (no a) (yes b) c (yes d) = rw (le-ltb p m (omega arith), lt-ltb (p - m) 1 d, lt-ltb 1 u b) (sym (lt-ltb p (u + m) (omega arith)))
+    go (no a) (no b) c (yes d) = rw (le-ltb p m (omega arith), lt-ltb (p - m) 1 d, le-ltb 1 u (omega arith))
+    go (no a) b (yes c) (no d) = rw (le-ltb p m (omega arith), le-ltb (p - m) 1 (omega arith), lt-ltb (p - m) u c, lt-ltb 1 u (omega arith)) (sym (lt-ltb p (u + m) (omega arith)))
+    go (no a) b (no c) (no d) = rw (le-ltb p m (omega arith), le-ltb (p - m) 1 (omega arith), le-ltb (p - m) u (omega arith), le-ltb p (u + m) (omega arith)) (sym (and-false (ltb 1 u)))
+
+module _ (rows : List ℤ) (a p m u : ℕ) (e : pos p -ℤ pos m ≡ quantities rows a) where
+  over-told : ltZ (units (sheet rows) (num rows a 1)) (pos u) ≡ (ltb 1 u && ltb p (u + m))
+  over-told = ap (λ z. ltZ z (pos u)) (units-are rows a ∙ ap (λ z. maxZ z (pos 1)) (sym e)) ∙ over-is p m u
+
+  pub one-fits : u ≤ 1 → false ≡ ltZ (units (sheet rows) (num rows a 1)) (pos u)
+  one-fits l = sym (over-told ∙ ap (λ b. b && ltb p (u + m)) (le-ltb 1 u l))
+
+  pub more-over : 1 < u → ltb p (u + m) ≡ ltZ (units (sheet rows) (num rows a 1)) (pos u)
+  more-over l = sym (over-told ∙ ap (λ b. b && ltb p (u + m)) (lt-ltb 1 u l))

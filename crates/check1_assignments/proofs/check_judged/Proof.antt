@@ -1,0 +1,71 @@
+use native.Mathlib.Omega.{arith}
+use Rattle.check1_assignments.proofs.Placing.{activity-named, activity-place}
+use Rattle.check1_assignments.proofs.Judging.{judged-told}
+use borrow.Author.Needs.{needs}
+use Rattle.check1_assignments.proofs.check_judged.Statement.{statement}
+use Rattle.check1_assignments.proofs.check_judged.Tie as tie
+
+id-at-requires : tie.Need-id-at-requires
+id-at-requires c κs = search needs
+
+uses-before-requires : tie.Need-uses-before-requires
+uses-before-requires c κs = search needs
+
+add-is-over : tie.Need-add-is-over
+add-is-over c = search needs
+
+is-over-requires : tie.Need-is-over-requires
+is-over-requires c κs = ((c .before .before .pre .0), (c .before .before .pre .2), activity-place _ _ _ ((c .before .before .pre .5)), omega (arith, (c .uses-before .ensures .1)))
+
+tell-requires : tie.Need-tell-requires
+tell-requires c κs = search needs
+
+id-at-requires-2 : tie.Need-id-at-requires-2
+id-at-requires-2 c κs = search needs
+
+is-short-requires : tie.Need-is-short-requires
+is-short-requires c κs = search needs
+
+tell-requires-2 : tie.Need-tell-requires-2
+tell-requires-2 c κs = search needs
+
+is-early-requires : tie.Need-is-early-requires
+is-early-requires c κs = search needs
+
+tell-requires-3 : tie.Need-tell-requires-3
+tell-requires-3 c κs = search needs
+
+owner-of-requires : tie.Need-owner-of-requires
+owner-of-requires c κs = ((c .before .before .before .before .before .before .before .before .before .before .before .before .before .before .before .pre .1), activity-named _ _ _ ((c .before .before .before .before .before .before .before .before .before .before .before .before .before .before .before .pre .5)) .within)
+
+is-early-requires-2 : tie.Need-is-early-requires-2
+is-early-requires-2 c κs = search needs
+
+tell-requires-4 : tie.Need-tell-requires-4
+tell-requires-4 c κs = (c .before .before .before .before .before .before .before .before .before .before .before .before .before .before .before .before .before .id-at .ensures .1)
+
+same-length : tie.Need-same-length
+same-length c = search needs
+
+returns : tie.Need-returns
+returns c = judged-told _ _ _ ((c .before .before .before .before .before .before .before .before .before .before .before .before .before .before .before .before .before .before .before .before .pre .0)) ((c .before .before .before .before .before .before .before .before .before .before .before .before .before .before .before .before .before .before .before .before .pre .5)) _ ((c .before .before .before .before .before .before .before .before .before .before .before .before .before .before .before .before .before .before .before .before .pre .4)) ((c .before .before .before .before .before .before .before .before .before .before .before .before .before .before .before .before .before .before .before .before .pre .7)) ((c .before .before .before .before .before .before .before .before .before .before .before .before .before .before .before .before .before .before .before .before .pre .8)) _ ((c .before .before .before .before .before .before .before .before .before .before .before .before .before .before .before .before .before .before .before .id-at .ensures .0)) ((c .before .before .before .before .before .before .before .before .before .before .before .before .before .before .before .before .before .before .uses-before .ensures .0)) ((c .before .before .before .before .before .before .before .before .before .before .before .before .before .before .before .before .before .is-over .ensures)) ((c .before .before .before .before .before .before .before .before .before .before .before .before .before .before .before .tell .ensures)) ((c .before .before .before .before .before .before .before .before .before .before .before .before .before .id-at2 .ensures .0)) ((c .before .before .before .before .before .before .before .before .before .before .before .is-short .ensures)) ((c .before .before .before .before .before .before .before .before .before .before .tell2 .ensures)) ((c .before .before .before .before .before .before .before .is-early .ensures)) ((c .before .before .before .before .before .before .tell3 .ensures)) ((c .before .before .before .before .owner-of .ensures)) ((c .before .before .is-early2 .ensures)) ((c .before .tell4 .ensures))
+
+pub check-judged-spec : {M : Type 1} → statement M
+check-judged-spec =
+    tie.close
+    (tie.spec
+    id-at-requires
+    uses-before-requires
+    add-is-over
+    is-over-requires
+    tell-requires
+    id-at-requires-2
+    is-short-requires
+    tell-requires-2
+    is-early-requires
+    tell-requires-3
+    owner-of-requires
+    is-early-requires-2
+    tell-requires-4
+    same-length
+    returns)

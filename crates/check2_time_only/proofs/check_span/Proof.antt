@@ -1,0 +1,67 @@
+use Rattle.check2_time_only.proofs.Told.{unknown-told, again-told, here-told, known-place, known-free}
+use Rattle.model.proofs.Finds.{found-self}
+use native.Mathlib.Omega.{arith}
+use borrow.Author.Needs.{needs}
+use Rattle.check2_time_only.proofs.check_span.Statement.{statement}
+use Rattle.check2_time_only.proofs.check_span.Tie as tie
+
+id-at-requires : tie.Need-id-at-requires
+id-at-requires c κs = search needs
+
+known-requires : tie.Need-known-requires
+known-requires c κs = search needs
+
+enum-known-activity : tie.Need-enum-known-activity
+enum-known-activity c = search needs
+
+enum-told : tie.Need-enum-told
+enum-told c = search needs
+
+tell-requires : tie.Need-tell-requires
+tell-requires c κs = search needs
+
+same-length : tie.Need-same-length
+same-length c = search needs
+
+returns : tie.Need-returns
+returns c = unknown-told _ _ _ ((c .before .before .before .before .before .before .before .pre .4)) ((c .before .before .before .before .before .known .ensures)) ((c .before .before .before .enum-told .given .1)) ((c .before .before .before .before .before .before .id-at .ensures .0)) ((c .before .tell .ensures))
+
+is-seen-requires : tie.Need-is-seen-requires
+is-seen-requires c κs = ((c .before .before .before .before .before .pre .1), found-self _ _ _ _ (known-place _ _ ((c .before .before .before .known .ensures)) ((c .before .activity .given .1))), known-free _ _ ((c .before .before .before .known .ensures)) ((c .before .activity .given .1)), omega (arith, (c .before .before .before .before .before .pre .3)))
+
+tell-requires-2 : tie.Need-tell-requires-2
+tell-requires-2 c κs = search needs
+
+same-length-2 : tie.Need-same-length-2
+same-length-2 c = search needs
+
+returns-2 : tie.Need-returns-2
+returns-2 c = again-told _ _ _ ((c .before .before .before .before .before .before .before .before .before .before .pre .4)) ((c .before .before .before .before .before .before .before .before .known .ensures)) ((c .before .before .before .before .before .before .activity .given .1)) ((c .before .before .before .before .before .before .before .before .before .id-at .ensures .0)) ((c .before .before .before .before .is-seen .ensures)) ((c .if1 .taken)) ((c .before .before .tell2 .ensures))
+
+check-first-requires : tie.Need-check-first-requires
+check-first-requires c κs = ((c .before .before .before .before .before .before .before .before .before .before .before .pre .0), (c .before .before .before .before .before .before .before .before .before .before .before .pre .1), (c .before .before .before .before .before .before .before .before .before .before .before .pre .2), (c .before .before .before .before .before .before .before .before .before .before .before .pre .4), known-place _ _ ((c .before .before .before .before .before .before .before .before .before .known .ensures)) ((c .before .before .before .before .before .before .before .activity .given .1)))
+
+same-length-3 : tie.Need-same-length-3
+same-length-3 c = search needs
+
+returns-3 : tie.Need-returns-3
+returns-3 c = here-told _ _ _ ((c .before .before .before .before .before .before .before .before .before .before .before .before .before .pre .4)) ((c .before .before .before .before .before .before .before .before .before .before .before .known .ensures)) ((c .before .before .before .before .before .before .before .before .before .activity .given .1)) ((c .before .before .before .before .before .before .before .before .before .before .before .before .id-at .ensures .0)) ((c .before .before .before .before .before .before .before .is-seen .ensures)) ((c .before .before .before .if1 .left)) ((c .before .before .before .before .before .tell2 .ensures)) ((c .before .check-first .ensures))
+
+pub check-span-spec : {M : Type 1} → statement M
+check-span-spec =
+    tie.close
+    (tie.spec
+    id-at-requires
+    known-requires
+    enum-known-activity
+    enum-told
+    tell-requires
+    same-length
+    returns
+    is-seen-requires
+    tell-requires-2
+    same-length-2
+    returns-2
+    check-first-requires
+    same-length-3
+    returns-3)

@@ -1,0 +1,43 @@
+use borrow.Author.Needs.{needs}
+use Rattle.check2_time_only.proofs.Told.{free-told, held-told}
+use mathlib.Core.Path.{sym, _∙_}
+use native.Mathlib.Omega.{arith}
+use Rattle.check2_time_only.proofs.check_unplaced.Statement.{statement}
+use Rattle.check2_time_only.proofs.check_unplaced.Tie as tie
+
+is-free-requires : tie.Need-is-free-requires
+is-free-requires c κs = search needs
+
+id-at-requires : tie.Need-id-at-requires
+id-at-requires c κs = search needs
+
+row-count-requires : tie.Need-row-count-requires
+row-count-requires c κs = search needs
+
+is-seen-requires : tie.Need-is-seen-requires
+is-seen-requires c κs = ((c .before .before .before .before .pre .0), (c .before .before .before .before .pre .1), sym (c .before .before .before .is-free .ensures) ∙ (c .before .before .if1 .taken), omega (arith, (c .row-count .ensures)))
+
+tell-requires : tie.Need-tell-requires
+tell-requires c κs = search needs
+
+same-length : tie.Need-same-length
+same-length c = search needs
+
+returns : tie.Need-returns
+returns c = free-told _ _ _ (c .before .before .before .before .before .before .before .is-free .ensures) (c .before .before .before .before .before .before .if1 .taken) (c .before .before .before .before .row-count .ensures) (c .before .before .before .is-seen .ensures) ((c .before .before .before .before .before .id-at .ensures .0)) (c .before .tell .ensures)
+
+returns-2 : tie.Need-returns-2
+returns-2 c = held-told (c .before .before .args .rows .now) (c .before .before .args .a) _ (c .before .is-free .ensures) (c .if1 .left)
+
+pub check-unplaced-spec : {M : Type 1} → statement M
+check-unplaced-spec =
+    tie.close
+    (tie.spec
+    is-free-requires
+    id-at-requires
+    row-count-requires
+    is-seen-requires
+    tell-requires
+    same-length
+    returns
+    returns-2)

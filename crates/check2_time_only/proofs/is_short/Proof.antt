@@ -1,0 +1,47 @@
+use borrow.Author.Needs.{needs}
+use Rattle.check2_time_only.proofs.Told.{short-resumed, short-plain}
+use Rattle.model.proofs.Accepting.{accepted, at-most}
+use native.Mathlib.Omega.{arith}
+use Rattle.check2_time_only.proofs.is_short.Statement.{statement}
+use Rattle.check2_time_only.proofs.is_short.Tie as tie
+
+work-of-requires : tie.Need-work-of-requires
+work-of-requires c κs = search needs
+
+num-at-requires : tie.Need-num-at-requires
+num-at-requires c κs = search needs
+
+num-at-requires-2 : tie.Need-num-at-requires-2
+num-at-requires-2 c κs = search needs
+
+is-at-requires : tie.Need-is-at-requires
+is-at-requires c κs = search needs
+
+slice-aggregate-joint-available-ms : tie.Need-slice-aggregate-joint-available-ms
+slice-aggregate-joint-available-ms c = search needs
+
+joint-available-ms-requires : tie.Need-joint-available-ms-requires
+joint-available-ms-requires c κs = search needs
+
+returns : tie.Need-returns
+returns c = short-resumed _ _ _ _ _ ((c .before .before .before .before .before .before .before .before .pre .4)) (c .before .before .before .before .is-at .ensures) (c .before .before .before .if1 .taken) ((c .before .before .before .before .before .before .before .work-of .ensures .0)) (c .before .before .before .before .before .before .num-at .ensures) (c .before .before .before .before .before .num-at2 .ensures) (c .joint-available-ms .ensures)
+
+add-result : tie.Need-add-result
+add-result c = let h = at-most _ (accepted _ ((c .before .before .before .before .before .pre .0))) _ 24 3 ((c .before .before .before .before .before .pre .2)) in omega (arith, h, (c .before .before .before .num-at .ensures), (c .before .before .before .before .work-of .ensures .1))
+
+returns-2 : tie.Need-returns-2
+returns-2 c = short-plain _ _ _ _ _ ((c .before .before .before .before .before .pre .4)) (c .before .is-at .ensures) (c .if1 .left) ((c .before .before .before .before .work-of .ensures .0)) (c .before .before .before .num-at .ensures) (c .before .before .num-at2 .ensures)
+
+pub is-short-spec : {M : Type 1} → statement M
+is-short-spec =
+    tie.close
+    (tie.spec
+    work-of-requires
+    num-at-requires
+    num-at-requires-2
+    is-at-requires
+    slice-aggregate-joint-available-ms
+    joint-available-ms-requires
+    returns
+    add-result
+    returns-2)

@@ -1,0 +1,4 @@
+pub mod Works
+pub mod Sums
+pub mod Findings
+pub mod Whole

@@ -1,0 +1,53 @@
+use borrow.Author.Needs.{needs}
+use Prim.Native.Nat.{_-_, _≤_}
+use native.Mathlib.Omega.{arith}
+use mathlib.Core.Path.{_≡_}
+use Rattle.loops.specs.inner.Chain.{Stands}
+use Rattle.rows.specs.Cells.{rowCount, cell}
+use Rattle.sheet.specs.inner.Index.{ownedBy}
+use Rattle.definition.specs.CheckParts.{workOf}
+use Rattle.check3_parts.specs.inner.Booked.{decoded, partsBelow}
+use Rattle.check3_parts.proofs.Works.{work-first, work-turn, work-end, not-past}
+use Rattle.check3_parts.proofs.work_before.Statement.{statement}
+use Rattle.check3_parts.proofs.work_before.Tie as tie
+
+abbrev Inv-loop : tie.InvT-loop
+Inv-loop rows owned o k e₀ i₀ e i = Stands (ownedBy rows o 23) (rowCount rows) i × (decoded e ≡ workOf (partsBelow rows o i) (cell rows k 7)) × (i ≤ k)
+
+abbrev μ-loop : tie.MeasureT-loop
+μ-loop rows owned o k e₀ i₀ e i = k - i
+
+first-owned-requires : tie.Need-first-owned-requires Inv-loop μ-loop
+first-owned-requires c κs = search needs
+
+loop-holds : tie.Need-loop-holds Inv-loop μ-loop
+loop-holds c = (search needs, work-first _ _ _ (c .first-owned .ensures), not-past _ (c .first-owned .ensures) (omega arith) (c .before .pre .4))
+
+work-after-requires : tie.Need-work-after-requires Inv-loop μ-loop
+work-after-requires c κs = search needs
+
+next-owned-requires : tie.Need-next-owned-requires Inv-loop μ-loop
+next-owned-requires c κs = ((c .before .before .before .before .pre .1), (c .before .before .loop .inv .0), omega (arith, (c .before .loop-test .taken), (c .before .before .before .before .pre .3)))
+
+loop-less : tie.Need-loop-less Inv-loop μ-loop
+loop-less c = search needs
+
+loop-again : tie.Need-loop-again Inv-loop μ-loop
+loop-again c = (search needs, work-turn _ _ (c .before .before .before .before .before .pre .0) _ (c .before .before .before .before .before .pre .4) (c .before .before .before .before .before .pre .5) _ (c .before .before .before .loop .e) (c .before .before .before .loop .inv .0 .here (omega (arith, (c .before .before .loop-test .taken), (c .before .before .before .before .before .pre .3)))) (c .next-owned .ensures) (c .before .before .before .loop .inv .1) (c .before .work-after .ensures), not-past _ (c .next-owned .ensures) (c .before .before .loop-test .taken) (c .before .before .before .before .before .pre .4))
+
+returns : tie.Need-returns Inv-loop μ-loop
+returns c = work-end _ _ _ (c .before .loop .e) (c .loop-test .left) (c .before .loop .inv .2) (c .before .loop .inv .1)
+
+pub work-before-spec : {M : Type 1} → statement M
+work-before-spec =
+    tie.close
+    (tie.spec
+    Inv-loop
+    μ-loop
+    first-owned-requires
+    loop-holds
+    work-after-requires
+    next-owned-requires
+    loop-less
+    loop-again
+    returns)

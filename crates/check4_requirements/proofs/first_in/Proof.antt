@@ -1,0 +1,50 @@
+use Rattle.loops.proofs.TableLaws.{first-found, first-absent}
+use Rattle.loops.specs.inner.Chain.{Stands}
+use Rattle.loops.specs.Search.{anyBelow}
+use Rattle.rows.specs.Cells.{rowCount}
+use Rattle.sheet.specs.inner.Index.{ownedBy}
+use mathlib.Core.Path.{_≡_}
+use mathlib.Core.Bool.{false}
+use Prim.Native.Nat.{_-_}
+use Rattle.loops.proofs.Walks.{any-first, any-next}
+use Rattle.check4_requirements.proofs.Along.{blind-both, both-here, first-both, first-past}
+use Rattle.check4_requirements.specs.inner.ByRow.{both, keyIs}
+use borrow.Author.Needs.{needs}
+use Rattle.check4_requirements.proofs.first_in.Statement.{statement}
+use Rattle.check4_requirements.proofs.first_in.Tie as tie
+
+abbrev Inv-loop : tie.InvT-loop
+Inv-loop rows owned o p n k₀ k = Stands (ownedBy rows o 23) (rowCount rows) k × (anyBelow (both (ownedBy rows o 23) (keyIs rows p)) k ≡ false)
+
+abbrev μ-loop : tie.MeasureT-loop
+μ-loop rows owned o p n k₀ k = n - k
+
+row-count-requires : tie.Need-row-count-requires Inv-loop μ-loop
+row-count-requires c κs = search needs
+
+first-owned-requires : tie.Need-first-owned-requires Inv-loop μ-loop
+first-owned-requires c κs = search needs
+
+loop-holds : tie.Need-loop-holds Inv-loop μ-loop
+loop-holds c = (search needs, any-first _ (c .first-owned .ensures) (blind-both _ _))
+
+has-key-requires : tie.Need-has-key-requires Inv-loop μ-loop
+has-key-requires c κs = search needs
+
+returns : tie.Need-returns Inv-loop μ-loop
+returns c = first-found (first-both _ _ (c .before .before .loop-test .taken) (c .before .before .before .before .before .row-count .ensures) ((c .before .before .before .loop .inv .0)) ((c .before .before .before .loop .inv .1)) (c .before .has-key .ensures) (c .if1 .taken)) (c .before .before .loop-test .taken) (c .before .before .before .before .before .row-count .ensures)
+
+next-owned-requires : tie.Need-next-owned-requires Inv-loop μ-loop
+next-owned-requires c κs = search needs
+
+loop-less : tie.Need-loop-less Inv-loop μ-loop
+loop-less c = search needs
+
+loop-again : tie.Need-loop-again Inv-loop μ-loop
+loop-again c = (search needs, any-next _ (c .next-owned .ensures) (blind-both _ _) ((c .before .before .before .before .loop .inv .1)) (both-here _ _ (c .before .before .before .loop-test .taken) (c .before .before .before .before .before .before .row-count .ensures) ((c .before .before .before .before .loop .inv .0)) (c .before .before .has-key .ensures) (c .before .if1 .left)))
+
+returns-2 : tie.Need-returns-2 Inv-loop μ-loop
+returns-2 c = first-absent (first-past _ _ (c .loop-test .left) (c .before .before .before .row-count .ensures) ((c .before .loop .inv .0)) ((c .before .loop .inv .1))) (c .loop-test .left) (c .before .before .before .row-count .ensures)
+
+pub first-in-spec : {M : Type 1} → statement M
+first-in-spec = tie.close (tie.spec Inv-loop μ-loop row-count-requires first-owned-requires loop-holds has-key-requires returns next-owned-requires loop-less loop-again returns-2)

@@ -1,0 +1,28 @@
+use mathlib.Core.Logic.{inl}
+use mathlib.Core.Path.{refl}
+use native.Mathlib.Omega.{arith}
+use Rattle.sheet.proofs.Lookups.{placed}
+use Rattle.model.proofs.Finds.{found-self}
+use Rattle.check6_calendars.proofs.Plain.{outside-here}
+use borrow.Author.Needs.{needs}
+use Rattle.check6_calendars.proofs.check_activity.Statement.{statement}
+use Rattle.check6_calendars.proofs.check_activity.Tie as tie
+
+fits-windows-requires : tie.Need-fits-windows-requires
+fits-windows-requires c κs = let w = placed _ 2 _ _ ((c .pre .1)) in ((c .pre .0), omega (arith, w .within), inl (refl, found-self _ 2 _ _ ((c .pre .1))))
+
+id-at-requires : tie.Need-id-at-requires
+id-at-requires c κs = search needs
+
+tell-requires : tie.Need-tell-requires
+tell-requires c κs = search needs
+
+same-length : tie.Need-same-length
+same-length c = search needs
+
+returns : tie.Need-returns
+returns c = outside-here _ _ 16 _ 7 75 _ (c .before .before .before .before .fits-windows .ensures) ((c .before .before .id-at .ensures .0)) (c .before .tell .ensures)
+
+pub check-activity-spec : {M : Type 1} → statement M
+check-activity-spec =
+    tie.close (tie.spec fits-windows-requires id-at-requires tell-requires same-length returns)

@@ -1,0 +1,228 @@
+-- Calendars are laid out one behind the other, resource by resource; there is always place for one more. Assumes nothing.
+use Prim.Native.Nat.{ℕ, zero, suc, _+_, _*_, _<_, _≤_}
+use mathlib.Core.Path.{_≡_, refl, ap, ap₂, sym, _∙_}
+use mathlib.Core.Bool.{Bool, true, false, cond, _&&_, true≢false}
+use mathlib.Core.List.{List, [], _∷_, _++_, append-nil}
+use mathlib.Core.Logic.{inr}
+use native.Mathlib.Omega.{arith}
+use native.Mathlib.Decide.{ℕ-discrete, decLt}
+use borrow.Author.Tests.{lt-ltb, le-ltb, eq-eqb, ne-eqb}
+use lib.Dec.{eqb, ltb}
+use lib.IntN.{ℤ}
+use lib.ListN.{length, getD, set, length-set}
+use lib.Seq.{getD-set-same, getD-set-other}
+use Rattle.loops.specs.Range.{collect}
+use Rattle.loops.specs.Search.{countBelow}
+use Rattle.loops.specs.inner.Chain.{First, Stands}
+use Rattle.loops.proofs.BoolLaws.{and-left}
+use Rattle.loops.proofs.RangeLaws.{collect-step, collect-ext}
+use Rattle.loops.proofs.SearchLaws.{count-le}
+use Rattle.loops.proofs.Walks.{over, stands-end}
+use Rattle.calendar.specs.Calendar.{Calendar}
+use Rattle.calendar.specs.Layout.{calendarOf}
+use Rattle.rows.specs.Cells.{rowCount, num, is}
+use Rattle.sheet.specs.Places.{ofKind}
+use Rattle.sheet.specs.inner.Index.{ownPlace, ownedBy}
+use Rattle.sheet.proofs.Lookups.{is-num, num-is, placed}
+use Rattle.model.specs.Sheet.{sheet}
+use Rattle.model.specs.Resource.{windows}
+use Rattle.model.proofs.Requiring.{count-less}
+use Rattle.window_rows.specs.inner.Laid.{Holder, Laid}
+use Rattle.pieces.proofs.Chains.{owned-kind}
+use Rattle.check6_joint_calendars.specs.declared.Gathered.{Gathered}
+use Rattle.check6_joint_calendars.specs.inner.Taken.{marked, OnResources}
+use Rattle.check6_joint_calendars.specs.inner.Laying.{laidOut, Tidy, Added, calendarAt, windowAbove, Resources}
+
+-- ---- one calendar more
+
+module _ (w cs w′ : List ℕ) (g : Gathered) (to : ℕ) (x : Calendar ℤ) (u : Tidy w cs g) (l : g .calendars < 800) (h : Laid w w′ (g .windows) to x) where
+  abbrev from-to : List ℕ
+  from-to = set (set cs (2 * g .calendars) (g .windows)) (2 * g .calendars + 1) to
+
+  -- what was noted before stays
+  noted : (i : ℕ) → i < 2 * g .calendars → getD from-to i 0 ≡ getD cs i 0
+  noted i b =
+      getD-set-other (set cs (2 * g .calendars) (g .windows)) (2 * g .calendars + 1) i to 0 (λ e. omega arith)
+      ∙ getD-set-other cs (2 * g .calendars) i (g .windows) 0 (λ e. omega arith)
+
+  from-is : getD from-to (2 * g .calendars) 0 ≡ g .windows
+  from-is =
+      getD-set-other (set cs (2 * g .calendars) (g .windows)) (2 * g .calendars + 1) (2 * g .calendars) to 0 (λ e. omega arith)
+      ∙ getD-set-same cs (2 * g .calendars) (g .windows) 0 (omega (arith, u .pairs))
+
+  to-is : getD from-to (2 * g .calendars + 1) 0 ≡ to
+  to-is =
+      getD-set-same (set cs (2 * g .calendars) (g .windows)) (2 * g .calendars + 1) to 0
+      (omega (arith, length-set cs (2 * g .calendars) (g .windows), u .pairs))
+
+  one-more : laidOut w′ from-to (g .calendars + 1) ≡ laidOut w cs (g .calendars) ++ (x ∷ [])
+  unfolding laidOut
+  one-more =
+      collect-step (λ j. calendarOf w′ (getD from-to (2 * j) 0) (getD from-to (2 * j + 1) 0) ∷ []) (g .calendars)
+      ∙ ap₂ _++_
+      (collect-ext _ _ (g .calendars)
+      (λ j b.
+      ap (λ c. c ∷ [])
+      (ap₂ (calendarOf w′) (noted (2 * j) (omega arith)) (noted (2 * j + 1) (omega arith))
+      ∙ h .kept (getD cs (2 * j) 0) (getD cs (2 * j + 1) 0) (u .ends j b))))
+      (ap (λ c. c ∷ []) (ap₂ (calendarOf w′) from-is to-is ∙ h .calendar))
+
+  pub added : {cs′ : List ℕ} (m : ℕ) → to ≡ g .windows + m → cs′ ≡ from-to
+      → Added x m w cs g w′ cs′ (record { windows = to; calendars = g .calendars + 1 })
+  added m e q =
+      rw q
+      (record {
+        tidy = record {
+          places = h .size;
+          pairs = length-set (set cs (2 * g .calendars) (g .windows)) (2 * g .calendars + 1) to ∙ length-set cs (2 * g .calendars) (g .windows) ∙ u .pairs;
+          ends = λ j b. ends j b (ℕ-discrete j (g .calendars));
+        };
+        list = one-more;
+        windows = e;
+        calendars = refl;
+      })
+    where
+      ends : (j : ℕ) → j < g .calendars + 1 → Dec (j ≡ g .calendars) → getD from-to (2 * j + 1) 0 ≤ to
+      ends j b (yes d) = rw (d, to-is) (omega arith)
+      ends j b (no d) = let k : j < g .calendars = omega arith in omega (arith, noted (2 * j + 1) (omega arith), u .ends j k, e)
+
+-- ---- counts of rows
+
+-- of two tests that hold one at a time, within a third
+count-both : (p q r : ℕ → Bool) → ((k : ℕ) → cond (p k) 1 0 + cond (q k) 1 0 ≤ cond (r k) 1 0) → (n : ℕ) → countBelow p n + countBelow q n ≤ countBelow r n
+unfolding countBelow
+count-both p q r h zero = omega arith
+count-both p q r h (suc n) = let a = count-both p q r h n in let b = h n in omega arith
+
+-- of two that hold one at a time
+count-apart : (p q : ℕ → Bool) → ((k : ℕ) → p k ≡ true → q k ≡ true → ⊥) → (n : ℕ) → countBelow p n + countBelow q n ≤ n
+count-apart p q h n = let a = count-both p q (λ k. true) (λ k. go k (p k) (q k) refl refl) n in let b = count-le (λ k. true) n in omega arith
+  where
+    go : (k : ℕ) (a b : Bool) → p k ≡ a → q k ≡ b → cond a 1 0 + cond b 1 0 ≤ 1
+    go k true true e f = absurd (h k e f)
+    go k true false e f = omega arith
+    go k false true e f = omega arith
+    go k false false e f = omega arith
+
+module _ (rows : List ℤ) where
+  -- no row is of two kinds
+  two-kinds : (x y k : ℕ) → (x ≡ y → ⊥) → is rows k 0 x ≡ true → is rows k 0 y ≡ true → ⊥
+  two-kinds x y k d e f = d (sym (is-num rows k 0 x e) ∙ is-num rows k 0 y f)
+
+  -- the windows of row i and of the rows above it
+  window-more : (i j : ℕ) → cond (windowAbove rows i j) 1 0 + cond (ownedBy rows i 15 j) 1 0 ≤ cond (windowAbove rows (suc i) j) 1 0
+  unfolding windowAbove ownedBy
+  window-more i j = go (is rows j 0 15) (decLt (ownPlace rows j) i) (ℕ-discrete (ownPlace rows j) i)
+    where
+      go : (b : Bool) → Dec (ownPlace rows j < i) → Dec (ownPlace rows j ≡ i)
+          → cond (b && ltb (ownPlace rows j) i) 1 0 + cond (b && eqb (ownPlace rows j) i) 1 0 ≤ cond (b && ltb (ownPlace rows j) (suc i)) 1 0
+      go false d e = omega arith
+      go true (yes d) e = rw (lt-ltb _ _ d, ne-eqb (ownPlace rows j) i (λ z. omega arith), lt-ltb (ownPlace rows j) (suc i) (omega arith)) (omega arith)
+      go true (no d) (yes e) = rw (le-ltb (ownPlace rows j) i (omega arith), eq-eqb _ _ e, lt-ltb (ownPlace rows j) (suc i) (omega arith)) (omega arith)
+      go true (no d) (no e) = rw (le-ltb (ownPlace rows j) i (omega arith), ne-eqb _ _ e, le-ltb (ownPlace rows j) (suc i) (omega arith)) (omega arith)
+
+  windows-more : (i n : ℕ) → countBelow (windowAbove rows i) n + countBelow (ownedBy rows i 15) n ≤ countBelow (windowAbove rows (suc i)) n
+  windows-more i n = count-both (windowAbove rows i) (ownedBy rows i 15) (windowAbove rows (suc i)) (window-more i) n
+
+  above-kind : (i k : ℕ) → windowAbove rows i k ≡ true → is rows k 0 15 ≡ true
+  unfolding windowAbove
+  above-kind i k e = and-left (is rows k 0 15) _ e
+
+  -- and of an activity
+  windows-all : (i a n : ℕ) → countBelow (windowAbove rows i) n + countBelow (ownedBy rows a 16) n ≤ n
+  windows-all i a n = count-apart (windowAbove rows i) (ownedBy rows a 16) (λ k e f. two-kinds 15 16 k (λ z. omega arith) (above-kind i k e) (owned-kind rows a 16 k f)) n
+
+  resource-more : (r : ℕ) → is rows r 0 11 ≡ true → countBelow (ofKind rows 11) (suc r) ≡ countBelow (ofKind rows 11) r + 1
+  unfolding countBelow ofKind
+  resource-more r e = rw e
+
+  -- a booking is no resource
+  resources-few : (k n : ℕ) → k < n → is rows k 0 23 ≡ true → countBelow (ofKind rows 11) n < n
+  unfolding ofKind
+  resources-few k n l h =
+      let a = count-apart (ofKind rows 11) (ofKind rows 23) (λ j e f. two-kinds 11 23 j (λ z. omega arith) e f) n in
+      let b = count-less (ofKind rows 23) k n l h in
+      omega arith
+
+-- ---- resource by resource
+
+module _ (rows : List ℤ) (marks : List ℕ) where
+  -- there is place for one calendar more
+  pub room : {r : ℕ} {w cs : List ℕ} {g : Gathered} → r < rowCount rows → rowCount rows ≤ 800 → Resources rows marks r w cs g
+      → (g .windows + countBelow (ownedBy rows r 15) (rowCount rows) ≤ 800) × (g .calendars < 800)
+  room {r} {g = g} l b h =
+      let a = windows-more rows r (rowCount rows) in
+      let c = count-le (windowAbove rows (suc r)) (rowCount rows) in
+      let d = count-le (ofKind rows 11) r in
+      (omega (arith, h .windows), omega (arith, h .calendars))
+
+  module _ {r : ℕ} {w cs : List ℕ} {g : Gathered} where
+    pub gather-more : {w′ cs′ : List ℕ} {g′ : Gathered} → marked marks r ≡ true → is rows r 0 11 ≡ true
+        → Added (windows (sheet rows) 15 (num rows r 1)) (countBelow (ownedBy rows r 15) (rowCount rows)) w cs g w′ cs′ g′
+        → Resources rows marks r w cs g → Resources rows marks (suc r) w′ cs′ g′
+    gather-more {g′ = g′} e k a h = record {
+      tidy = a .tidy;
+      list =
+          a .list
+          ∙ ap (λ l. l ++ (windows (sheet rows) 15 (num rows r 1) ∷ [])) (h .list)
+          ∙ (unfold collect calendarAt in rw e);
+      windows = let b = windows-more rows r (rowCount rows) in omega (arith, a .windows, h .windows);
+      calendars = let q = resource-more rows r k in omega (arith, a .calendars, h .calendars);
+    }
+
+    pub gather-none : marked marks r ≡ false → Resources rows marks r w cs g → Resources rows marks (suc r) w cs g
+    gather-none e h = record {
+      tidy = h .tidy;
+      list = h .list ∙ (unfold collect calendarAt in rw e (sym (append-nil _)));
+      windows = let b = windows-more rows r (rowCount rows) in omega (arith, h .windows);
+      calendars = let b = h .calendars in unfold countBelow in omega arith;
+    }
+
+  module _ (m : OnResources rows marks) where
+    pub holder : {r : ℕ} → r < rowCount rows → marked marks r ≡ true → Holder rows r 15
+    holder l e = inr (refl, m .resource _ l e)
+
+    -- a row that is no resource is not marked
+    unmarked : (r : ℕ) → r < rowCount rows → ofKind rows 11 r ≡ false → (b : Bool) → marked marks r ≡ b → marked marks r ≡ false
+    unfolding ofKind
+    unmarked r l e true q = absurd (true≢false (sym (num-is rows r 0 11 (placed rows 11 _ r (m .resource r l q) .kind)) ∙ e))
+    unmarked r l e false q = q
+
+    -- what is known of row i, where it is one or the end
+    abbrev At : List ℕ → List ℕ → Gathered → ℕ → Type 0
+    At w cs g i = i ≤ rowCount rows → Resources rows marks i w cs g
+
+    still : (w cs : List ℕ) (g : Gathered) (r : ℕ) → ofKind rows 11 r ≡ false → At w cs g r → At w cs g (r + 1)
+    still w cs g r e h l =
+        let q : r + 1 ≡ suc r = omega arith in
+        rw q (gather-none (unmarked r (omega arith) e (marked marks r) refl) (h (omega arith)))
+
+    pub gather-first : {i : ℕ} {w cs : List ℕ} → First (ofKind rows 11) 0 (rowCount rows) i → length w ≡ 2400 → length cs ≡ 1600
+        → Resources rows marks i w cs (record { windows = 0; calendars = 0 })
+    gather-first {i} {w} {cs} f a b =
+        over (At w cs (record { windows = 0; calendars = 0 })) (ofKind rows 11) 0 _ _ (still w cs (record { windows = 0; calendars = 0 })) f
+        (λ z.
+        record {
+          tidy = record { places = a; pairs = b; ends = λ j l. absurd (omega arith) };
+          list = unfold laidOut collect in refl;
+          windows = omega arith;
+          calendars = omega arith;
+        })
+        (f .high)
+
+    pub gather-next : {i j : ℕ} {w cs : List ℕ} {g : Gathered} → First (ofKind rows 11) (suc i) (rowCount rows) j
+        → Resources rows marks (suc i) w cs g → Resources rows marks j w cs g
+    gather-next {i} {j} {w} {cs} {g} f h = over (At w cs g) (ofKind rows 11) (suc i) _ _ (still w cs g) f (λ z. h) (f .high)
+
+  pub gather-end : {N i : ℕ} {w cs : List ℕ} {g : Gathered} → N ≤ i → N ≡ rowCount rows → Stands (ofKind rows 11) (rowCount rows) i
+      → Resources rows marks i w cs g → Resources rows marks (rowCount rows) w cs g
+  gather-end l z s h = rw (stands-end s l z) at h
+
+  -- there is place for the calendar of the activity of row a, which booking k is of
+  pub last-room : {w cs : List ℕ} {g : Gathered} (a k : ℕ) → rowCount rows ≤ 800 → k < rowCount rows → is rows k 0 23 ≡ true
+      → Resources rows marks (rowCount rows) w cs g
+      → (g .windows + countBelow (ownedBy rows a 16) (rowCount rows) ≤ 800) × (g .calendars < 800)
+  last-room a k b l e h =
+      let c = windows-all rows (rowCount rows) a (rowCount rows) in
+      let d = resources-few rows k (rowCount rows) l e in
+      (omega (arith, h .windows), omega (arith, h .calendars))

@@ -1,0 +1,182 @@
+-- The findings of predecessors and of precedence constraints, row by row. Assumes nothing.
+use Prim.Native.Nat.{ℕ, _<_}
+use mathlib.Core.Path.{_≡_, refl, sym, ap, ap₂, _∙_}
+use mathlib.Core.Bool.{Bool, true, false, cond, _&&_, true≢false}
+use mathlib.Core.List.{List, [], _++_, append-nil}
+use mathlib.Core.Option.{Option, none, some}
+use native.Mathlib.Omega.{arith}
+use lib.Dec.{eqb}
+use lib.IntN.{ℤ, pos}
+use Rattle.loops.specs.Lists.{given, each, keep, option}
+use Rattle.loops.specs.Range.{collect}
+use Rattle.loops.specs.inner.Chain.{Silent, Stands}
+use Rattle.loops.proofs.ListLaws.{each-collect, keep-collect}
+use Rattle.calendar.specs.Clock.{clock}
+use Rattle.rows.specs.Cells.{rowCount, cell, num, is}
+use Rattle.sheet.specs.Places.{ofKind, placeOf}
+use Rattle.sheet.specs.inner.Index.{ownerKind, ownedBy}
+use Rattle.sheet.specs.inner.Accepted.{Accepted}
+use Rattle.findings.specs.declared.Violation.{Violation}
+use Rattle.findings.specs.inner.Sink.{Sink, emit}
+use Rattle.model.specs.Sheet.{sheet, rowAt}
+use Rattle.model.specs.inner.Records.{numAt}
+use Rattle.model.specs.Resource.{listed}
+use Rattle.model.specs.Activity.{Activity, activityAt, activities, activitiesOf, predecessors}
+use Rattle.model.specs.Constraint.{precedence, constraintAt, constraints}
+use Rattle.model.specs.Schedule.{precedenceViolation}
+use Rattle.model.proofs.RowLaws.{kind-is, row-none, row-here, activity-row, activity-none}
+use Rattle.model.proofs.Accepting.{found-again}
+use Rattle.model.proofs.OwnedLaws.{of-activity, of-task}
+use Rattle.model.proofs.ConstraintLaws.{precedence-row, by-constraint}
+use Rattle.definition.specs.ActivitySpan as page
+use Rattle.definition.specs.ActivitySpan.{activitySpan}
+use Rattle.definition.specs.CheckPrecedence.{endToStart, checkPrecedenceConstraint}
+use Rattle.spans.specs.declared.Span.{Span}
+use Rattle.spans.specs.declared.Span.the-variants.{Between, Nowhere}
+use Rattle.spans.specs.inner.Activities.{spanMeant}
+use Rattle.pieces.proofs.Chains.{owned-kind}
+use Rattle.check7_end_to_start.specs.inner.Early.{startsEarly}
+
+-- ---- the test
+
+module _ (rows : List ℤ) (before after : ℕ) (delay : ℤ) where
+  pub no-first : {x : Span} → spanMeant x ≡ activitySpan clock (sheet rows) before → x ≡ Nowhere → false ≡ startsEarly rows before after delay
+  unfolding startsEarly
+  no-first q z = rw (← q, z)
+
+  pub no-second : {x y : Span} {a e : ℕ} → spanMeant x ≡ activitySpan clock (sheet rows) before → x ≡ Between a e
+      → spanMeant y ≡ activitySpan clock (sheet rows) after → y ≡ Nowhere → false ≡ startsEarly rows before after delay
+  unfolding startsEarly
+  no-second q z r w = rw (← q, z, ← r, w)
+
+  pub both-run : {x y : Span} {a e b f : ℕ} {t : Bool} → spanMeant x ≡ activitySpan clock (sheet rows) before → x ≡ Between a e
+      → spanMeant y ≡ activitySpan clock (sheet rows) after → y ≡ Between b f → t ≡ clock .before (pos b) (clock .plus (pos e) delay) → t ≡ startsEarly rows before after delay
+  unfolding startsEarly
+  both-run q z r w h = rw (← q, z, ← r, w) h
+
+  early-is : endToStart clock (sheet rows) before after delay ≡ given (startsEarly rows before after delay) (precedenceViolation 7 after)
+  unfolding endToStart startsEarly
+  early-is = go (activitySpan clock (sheet rows) before) (activitySpan clock (sheet rows) after)
+    where
+      go : (x y : Option (page.Span ℤ))
+          → option x [] (λ x. option y [] λ y. given (clock .before (y .start) (clock .plus (x .end) delay)) (precedenceViolation 7 after))
+          ≡ given (option x false (λ x. option y false λ y. clock .before (y .start) (clock .plus (x .end) delay))) (precedenceViolation 7 after)
+      go none y = refl
+      go (some x) none = refl
+      go (some x) (some y) = refl
+
+  pub early-told : {b : Bool} (s : Sink) {s′ : Sink} → b ≡ startsEarly rows before after delay → s′ ≡ emit s (given b (precedenceViolation 7 after))
+      → s′ ≡ emit s (endToStart clock (sheet rows) before after delay)
+  early-told s e q = q ∙ ap (emit s) (ap (λ b. given b (precedenceViolation 7 after)) e ∙ sym early-is)
+
+-- ---- predecessors
+
+module _ (rows : List ℤ) (id : ℕ) where
+  -- the findings of row k, where it names a predecessor
+  pub predecessorAt : ℕ → List Violation
+  predecessorAt k = each (λ p. endToStart clock (sheet rows) p id (pos 0)) (rowAt (sheet rows) 8 (λ k. given (eqb (numAt (sheet rows) k 1) id) (numAt (sheet rows) k 2)) k)
+
+  predecessor-is : (k : ℕ) → predecessorAt k ≡ cond (is rows k 0 8 && is rows k 1 id) (endToStart clock (sheet rows) (num rows k 2) id (pos 0)) []
+  unfolding predecessorAt is each
+  predecessor-is k = go (is rows k 0 8) refl
+    where
+      one : (b : Bool) (v : ℕ) → each (λ p. endToStart clock (sheet rows) p id (pos 0)) (given b v) ≡ cond b (endToStart clock (sheet rows) v id (pos 0)) []
+      one true v = append-nil (endToStart clock (sheet rows) v id (pos 0))
+      one false v = refl
+
+      go : (b : Bool) → is rows k 0 8 ≡ b
+          → each (λ p. endToStart clock (sheet rows) p id (pos 0)) (rowAt (sheet rows) 8 (λ k. given (eqb (numAt (sheet rows) k 1) id) (numAt (sheet rows) k 2)) k)
+          ≡ cond (is rows k 0 8 && is rows k 1 id) (endToStart clock (sheet rows) (num rows k 2) id (pos 0)) []
+      go true h = rw (row-here rows k 8 (λ k. given (eqb (numAt (sheet rows) k 1) id) (numAt (sheet rows) k 2)) h, h, kind-is rows k 8 h) (one (eqb (num rows k 1) id) (num rows k 2))
+      go false h = rw (row-none rows k 8 (λ k. given (eqb (numAt (sheet rows) k 1) id) (numAt (sheet rows) k 2)) h, h)
+
+  pub predecessors-all : collect predecessorAt (rowCount rows) ≡ each (λ p. endToStart clock (sheet rows) p id (pos 0)) (predecessors (sheet rows) id)
+  unfolding predecessorAt listed
+  predecessors-all = sym (each-collect (λ p. endToStart clock (sheet rows) p id (pos 0)) (rowAt (sheet rows) 8 (λ k. given (eqb (numAt (sheet rows) k 1) id) (numAt (sheet rows) k 2))) (rowCount rows))
+
+  module _ (o : ℕ) (q : placeOf rows 2 id ≡ some o) where
+    pub predecessor-silent : Silent (ownedBy rows o 8) predecessorAt
+    predecessor-silent = record { still = λ k h. predecessor-is k ∙ ap (λ b. cond b (endToStart clock (sheet rows) (num rows k 2) id (pos 0)) []) (sym (of-activity rows 8 o id (unfold ownerKind in refl) q k) ∙ h) }
+
+    pub predecessor-told : (s : Sink) (n N k : ℕ) {s′ : Sink} {p a : ℕ} → k < N → N ≡ n → Stands (ownedBy rows o 8) n k → p ≡ num rows k 2 → a ≡ id
+        → s′ ≡ emit s (endToStart clock (sheet rows) p a (pos 0)) → s′ ≡ emit s (predecessorAt k)
+    predecessor-told s n N k {s′} {p} {a} l z st e f g =
+        g
+        ∙ ap (emit s)
+        (ap₂ (λ x y. endToStart clock (sheet rows) x y (pos 0)) e f
+        ∙ sym (predecessor-is k ∙ ap (λ b. cond b (endToStart clock (sheet rows) (num rows k 2) id (pos 0)) []) (sym (of-activity rows 8 o id (unfold ownerKind in refl) q k) ∙ st .here (omega arith))))
+
+-- ---- the activities of a task
+
+module _ (rows : List ℤ) where
+  pub activity-at : Accepted rows → (o : ℕ) → o < rowCount rows → is rows o 0 2 ≡ true → placeOf rows 2 (num rows o 1) ≡ some o
+  activity-at acc o l h = found-again rows acc o 2 l refl h
+
+  pub task-at : Accepted rows → (o : ℕ) → o < rowCount rows → is rows o 0 1 ≡ true → placeOf rows 1 (num rows o 1) ≡ some o
+  task-at acc o l h = found-again rows acc o 1 l refl h
+
+  -- a loop along the activities of a task stands at one
+  pub stands-activity : (t : ℕ) {n N i : ℕ} → i < N → N ≡ n → Stands (ownedBy rows t 2) n i → is rows i 0 2 ≡ true
+  stands-activity t {n} {N} {i} l z a = owned-kind rows t 2 i (a .here (omega arith))
+
+  pub allPredecessors : ℕ → List Violation
+  allPredecessors id = each (λ p. endToStart clock (sheet rows) p id (pos 0)) (predecessors (sheet rows) id)
+
+  -- the findings of the activity of row k, where it is of the task
+  pub activityTold : ℕ → ℕ → List Violation
+  activityTold id k = each (λ a. allPredecessors (a .id)) (keep (λ a. eqb (a .task) id) (activityAt (sheet rows) k))
+
+  activity-told-is : (id k : ℕ) → activityTold id k ≡ cond (is rows k 0 2 && is rows k 2 id) (allPredecessors (num rows k 1)) []
+  unfolding activityTold is each keep
+  activity-told-is id k = go (is rows k 0 2) refl
+    where
+      one : (b : Bool) (a : Activity ℤ) → each (λ a. allPredecessors (a .id)) (given b a ++ []) ≡ cond b (allPredecessors (a .id)) []
+      one true a = append-nil (allPredecessors (a .id))
+      one false a = refl
+
+      go : (b : Bool) → is rows k 0 2 ≡ b
+          → each (λ a. allPredecessors (a .id)) (keep (λ a. eqb (a .task) id) (activityAt (sheet rows) k))
+          ≡ cond (is rows k 0 2 && is rows k 2 id) (allPredecessors (num rows k 1)) []
+      go true h = rw (activity-row rows k h, h) (one (eqb (num rows k 2) id) _)
+      go false h = rw (activity-none rows k h, h)
+
+  pub activities-all : (id : ℕ) → collect (activityTold id) (rowCount rows)
+      ≡ each (λ a. each (λ p. endToStart clock (sheet rows) p (a .id) (pos 0)) (predecessors (sheet rows) (a .id))) (activitiesOf (sheet rows) id)
+  unfolding activityTold allPredecessors activitiesOf activities
+  activities-all id =
+      sym
+      (ap (each (λ a. allPredecessors (a .id))) (keep-collect (λ a. eqb (a .task) id) (activityAt (sheet rows)) (rowCount rows))
+      ∙ each-collect (λ a. allPredecessors (a .id)) (λ k. keep (λ a. eqb (a .task) id) (activityAt (sheet rows) k)) (rowCount rows))
+
+  module _ (t id : ℕ) (q : placeOf rows 1 id ≡ some t) where
+    pub activity-silent : Silent (ownedBy rows t 2) (activityTold id)
+    activity-silent = record { still = λ k h. activity-told-is id k ∙ ap (λ b. cond b (allPredecessors (num rows k 1)) []) (sym (of-task rows 2 t id (unfold ownerKind in refl) q k) ∙ h) }
+
+    pub activity-told : (s : Sink) (n N k : ℕ) {s′ : Sink} → k < N → N ≡ n → Stands (ownedBy rows t 2) n k
+        → s′ ≡ emit s (each (λ p. endToStart clock (sheet rows) p (num rows k 1) (pos 0)) (predecessors (sheet rows) (num rows k 1))) → s′ ≡ emit s (activityTold id k)
+    unfolding allPredecessors
+    activity-told s n N k l z st g =
+        g
+        ∙ ap (emit s) (sym (activity-told-is id k ∙ ap (λ b. cond b (allPredecessors (num rows k 1)) []) (sym (of-task rows 2 t id (unfold ownerKind in refl) q k) ∙ st .here (omega arith))))
+
+  -- ---- precedence constraints
+
+  abbrev pub constraintTold : ℕ → List Violation
+  constraintTold k = each (checkPrecedenceConstraint clock (sheet rows)) (constraintAt (sheet rows) k)
+
+  pub constraint-silent : Silent (ofKind rows 17) constraintTold
+  unfolding ofKind each
+  constraint-silent = record {
+    still = λ k h.
+        by-constraint rows k (λ l. each (checkPrecedenceConstraint clock (sheet rows)) l ≡ []) refl (λ e. absurd (true≢false (sym e ∙ h))) (λ e. refl) (λ e. refl) (λ e. refl) (λ e. refl);
+  }
+
+  pub constraint-told : (s : Sink) (k : ℕ) {s′ : Sink} {b a : ℕ} {d : ℤ} → is rows k 0 17 ≡ true → b ≡ num rows k 1 → a ≡ num rows k 2 → d ≡ cell rows k 3
+      → s′ ≡ emit s (endToStart clock (sheet rows) b a d) → s′ ≡ emit s (each (checkPrecedenceConstraint clock (sheet rows)) (constraintAt (sheet rows) k))
+  unfolding each
+  constraint-told s k h e f g q =
+      rw (e, f, g) at q ∙ ap (emit s) (sym (rw (precedence-row rows k h) (append-nil (endToStart clock (sheet rows) (num rows k 1) (num rows k 2) (cell rows k 3)))))
+
+  pub constraints-all : collect constraintTold (rowCount rows) ≡ each (checkPrecedenceConstraint clock (sheet rows)) (constraints (sheet rows))
+  unfolding constraints
+  constraints-all = sym (each-collect (checkPrecedenceConstraint clock (sheet rows)) (constraintAt (sheet rows)) (rowCount rows))

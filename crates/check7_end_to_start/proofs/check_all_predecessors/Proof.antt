@@ -1,0 +1,63 @@
+use borrow.Author.Needs.{needs}
+use Prim.Native.Nat.{_-_}
+use mathlib.Core.Path.{_≡_, ap, _∙_}
+use native.Mathlib.Omega.{arith}
+use Rattle.loops.specs.inner.Chain.{Stands}
+use Rattle.loops.specs.Range.{collect}
+use Rattle.findings.specs.inner.Sink.{sink, emit}
+use Rattle.findings.proofs.SinkLaws.{kept}
+use Rattle.findings.proofs.Reports.{emit-first, emit-next, emit-end}
+use Rattle.rows.specs.Cells.{rowCount, num}
+use Rattle.sheet.specs.inner.Index.{ownedBy}
+use Rattle.check7_end_to_start.proofs.Told.{activityTold, activity-silent, activity-told, activities-all, task-at, stands-activity}
+use Rattle.check7_end_to_start.proofs.check_all_predecessors.Statement.{statement}
+use Rattle.check7_end_to_start.proofs.check_all_predecessors.Tie as tie
+
+abbrev Inv-loop : tie.InvT-loop
+Inv-loop rows kinds owned t out₀ n count m₀ i₀ out m i = Stands (ownedBy rows t 2) (rowCount rows) i × (sink out m ≡ emit (sink out₀ n) (collect (activityTold rows (num rows t 1)) i))
+
+abbrev μ-loop : tie.MeasureT-loop
+μ-loop rows kinds owned t out₀ n count m₀ i₀ out m i = count - i
+
+row-count-requires : tie.Need-row-count-requires Inv-loop μ-loop
+row-count-requires c κs = search needs
+
+first-owned-requires : tie.Need-first-owned-requires Inv-loop μ-loop
+first-owned-requires c κs = ((c .before .pre .2), omega (arith, (c .before .pre .3)))
+
+loop-holds : tie.Need-loop-holds Inv-loop μ-loop
+loop-holds c = (search needs, emit-first _ _ (c .first-owned .ensures) (activity-silent _ _ _ (task-at _ ((c .before .before .pre .0)) _ ((c .before .before .pre .3)) ((c .before .before .pre .4)))))
+
+check-predecessors-requires : tie.Need-check-predecessors-requires Inv-loop μ-loop
+check-predecessors-requires c κs = ((c .before .before .before .before .before .pre .0), (c .before .before .before .before .before .pre .1), (c .before .before .before .before .before .pre .2), omega (arith, (c .before .loop-test .taken), (c .before .before .before .before .row-count .ensures)), stands-activity _ _ (c .before .loop-test .taken) (c .before .before .before .before .row-count .ensures) ((c .before .before .loop .inv .0)))
+
+next-owned-requires : tie.Need-next-owned-requires Inv-loop μ-loop
+next-owned-requires c κs = search needs
+
+loop-less : tie.Need-loop-less Inv-loop μ-loop
+loop-less c = search needs
+
+loop-again : tie.Need-loop-again Inv-loop μ-loop
+loop-again c = (search needs, emit-next _ _ (c .next-owned .ensures) (activity-silent _ _ _ (task-at _ ((c .before .before .before .before .before .before .before .before .pre .0)) _ ((c .before .before .before .before .before .before .before .before .pre .3)) ((c .before .before .before .before .before .before .before .before .pre .4)))) ((c .before .before .before .before .before .loop .inv .1)) (activity-told _ _ _ (task-at _ ((c .before .before .before .before .before .before .before .before .pre .0)) _ ((c .before .before .before .before .before .before .before .before .pre .3)) ((c .before .before .before .before .before .before .before .before .pre .4))) _ _ _ _ (c .before .before .before .before .loop-test .taken) (c .before .before .before .before .before .before .before .row-count .ensures) ((c .before .before .before .before .before .loop .inv .0)) (c .before .before .check-predecessors .ensures)))
+
+same-length : tie.Need-same-length Inv-loop μ-loop
+same-length c = kept _ _ _ ((c .before .loop .inv .1))
+
+returns : tie.Need-returns Inv-loop μ-loop
+returns c = emit-end _ _ _ _ _ (c .loop-test .left) (c .before .before .before .row-count .ensures) ((c .before .loop .inv .0)) ((c .before .loop .inv .1)) ∙ ap (emit _) (activities-all ((c .before .before .before .before .args .rows .now)) (num ((c .before .before .before .before .args .rows .now)) ((c .before .before .before .before .args .t)) 1))
+
+pub check-all-predecessors-spec : {M : Type 1} → statement M
+check-all-predecessors-spec =
+    tie.close
+    (tie.spec
+    Inv-loop
+    μ-loop
+    row-count-requires
+    first-owned-requires
+    loop-holds
+    check-predecessors-requires
+    next-owned-requires
+    loop-less
+    loop-again
+    same-length
+    returns)

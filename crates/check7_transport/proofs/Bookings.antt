@@ -1,0 +1,52 @@
+-- The bookings of an activity, row by row along its chain. Assumes nothing.
+use Prim.Native.Nat.{ℕ, _<_}
+use mathlib.Core.Path.{_≡_, refl, _∙_}
+use mathlib.Core.Bool.{Bool, true, false, cond, _&&_}
+use mathlib.Core.List.{List, [], _∷_, _++_}
+use mathlib.Core.Option.{some}
+use native.Mathlib.Omega.{arith}
+use lib.Dec.{eqb}
+use lib.IntN.{ℤ}
+use Rattle.loops.specs.Lists.{given, keep}
+use Rattle.loops.specs.Range.{collect}
+use Rattle.loops.specs.inner.Chain.{only, Stands}
+use Rattle.loops.proofs.ListLaws.{keep-collect}
+use Rattle.loops.proofs.RangeLaws.{collect-ext}
+use Rattle.rows.specs.Cells.{rowCount, num, is}
+use Rattle.sheet.specs.Places.{placeOf}
+use Rattle.sheet.specs.inner.Index.{ownerKind, ownedBy}
+use Rattle.sheet.specs.inner.Accepted.{Accepted}
+use Rattle.model.specs.Sheet.{sheet}
+use Rattle.model.specs.Schedule.{assignmentAt, assignmentsBelow, assignments, assignmentsForActivityAll}
+use Rattle.model.proofs.RowLaws.{assignment-row, assignment-none}
+use Rattle.model.proofs.Accepting.{found-again}
+use Rattle.model.proofs.OwnedLaws.{of-activity}
+use Rattle.pieces.proofs.Companions.{booking}
+use Rattle.pieces.proofs.Chains.{owned-kind}
+
+module _ (rows : List ℤ) where
+  -- the row of an activity is found by its id
+  pub activity-at : Accepted rows → (o : ℕ) → o < rowCount rows → is rows o 0 2 ≡ true → placeOf rows 2 (num rows o 1) ≡ some o
+  activity-at acc o l h = found-again rows acc o 2 l refl h
+
+  -- a loop along the bookings stands at one
+  pub stands-booked : (o : ℕ) {n N i : ℕ} → i < N → N ≡ n → Stands (ownedBy rows o 23) n i → is rows i 0 23 ≡ true
+  stands-booked o {n} {N} {i} l z a = owned-kind rows o 23 i (a .here (omega arith))
+
+  module _ (o : ℕ) (q : placeOf rows 2 (num rows o 1) ≡ some o) where
+    booked-at : (k : ℕ) → keep (λ a. eqb (a .activity) (num rows o 1)) (assignmentAt (sheet rows) k) ≡ only (ownedBy rows o 23) (λ k. booking rows k ∷ []) k
+    unfolding only
+    booked-at k = rw (of-activity rows 23 o (num rows o 1) (unfold ownerKind in refl) q k) (go (is rows k 0 23) refl)
+      where
+        one : (b : Bool) → given b (booking rows k) ++ [] ≡ cond b (booking rows k ∷ []) []
+        one true = refl
+        one false = refl
+
+        go : (b : Bool) → is rows k 0 23 ≡ b
+            → keep (λ a. eqb (a .activity) (num rows o 1)) (assignmentAt (sheet rows) k) ≡ cond (is rows k 0 23 && is rows k 1 (num rows o 1)) (booking rows k ∷ []) []
+        go true h = rw (h, assignment-row rows k h) (unfold keep is in one (eqb (num rows k 1) (num rows o 1)))
+        go false h = rw (h, assignment-none rows k h) (unfold keep in refl)
+
+    pub bookings-of : assignmentsForActivityAll (sheet rows) (num rows o 1) ≡ collect (only (ownedBy rows o 23) (λ k. booking rows k ∷ [])) (rowCount rows)
+    unfolding assignmentsForActivityAll assignments assignmentsBelow
+    bookings-of = keep-collect _ (assignmentAt (sheet rows)) (rowCount rows) ∙ collect-ext _ _ (rowCount rows) (λ k l. booked-at k)

@@ -1,0 +1,71 @@
+-- The first row that gives a move's time. Assumes nothing.
+use Prim.Native.Nat.{ℕ, _≤_}
+use mathlib.Core.Path.{_≡_, refl, sym, ap, _∙_}
+use mathlib.Core.Bool.{Bool, true, false, _&&_}
+use mathlib.Core.List.{List}
+use mathlib.Core.Option.{Option, none, some}
+use lib.Dec.{eqb}
+use lib.IntN.{ℤ}
+use Rattle.loops.specs.Lists.{given, head, option}
+use Rattle.loops.specs.Search.{firstPlace, someIf}
+use Rattle.loops.specs.inner.Chain.{Blind}
+use Rattle.loops.proofs.ListLaws.{head-collect}
+use Rattle.loops.proofs.PlaceLaws.{found-at}
+use Rattle.rows.specs.Cells.{rowCount, num, is}
+use Rattle.sheet.specs.Places.{placeOf}
+use Rattle.sheet.specs.inner.Index.{ownerKind, ownedBy}
+use Rattle.sheet.specs.Refusals.{lacks}
+use Rattle.sheet.specs.inner.Accepted.{Accepted}
+use Rattle.model.specs.Sheet.{sheet, rowAt}
+use Rattle.model.specs.inner.Records.{numAt}
+use Rattle.model.specs.Resource.{transportTo}
+use Rattle.model.proofs.RowLaws.{kind-is, row-none, row-here}
+use Rattle.model.proofs.Accepting.{at-most, has-owner}
+use Rattle.model.proofs.Finds.{first-same, first-placed}
+use Rattle.pieces.specs.inner.Bookings.{names}
+use Rattle.pieces.proofs.Chains.{own-resource, names-kind, names-blind, place-never, unnamed}
+
+module _ (rows : List ℤ) where
+  pub moves-blind : (o b : ℕ) {a a′ : ℕ} → a ≡ a′ → some o ≡ placeOf rows 11 a′ → Blind (ownedBy rows o 14) (names rows 14 a b)
+  moves-blind o b e p = rw e (names-blind rows 14 11 o _ b (λ i h. own-resource rows 14 i (unfold ownerKind in refl) h) p)
+
+  module _ (a b : ℕ) where
+    move : ℕ → List ℕ
+    move k = given (eqb (numAt (sheet rows) k 1) a && eqb (numAt (sheet rows) k 2) b) (numAt (sheet rows) k 3)
+
+    move-at : (k : ℕ) → head (rowAt (sheet rows) 14 move k) ≡ someIf (names rows 14 a b k) (num rows k 3)
+    unfolding move
+    move-at k = go (is rows k 0 14) refl
+      where
+        one : (c : Bool) (v : ℕ) → head (given c v) ≡ someIf c v
+        one true v = refl
+        one false v = refl
+
+        go : (c : Bool) → is rows k 0 14 ≡ c → head (rowAt (sheet rows) 14 move k) ≡ someIf (names rows 14 a b k) (num rows k 3)
+        go true h = unfold names is in (rw (row-here rows k 14 move h, h, kind-is rows k 14 h) (one (eqb (num rows k 1) a && eqb (num rows k 2) b) (num rows k 3)))
+        go false h = unfold names in (rw (row-none rows k 14 move h, h))
+
+    -- what the search finds
+    moves : transportTo (sheet rows) a b ≡ option (firstPlace (names rows 14 a b) (rowCount rows)) 0 (λ k. num rows k 3)
+    unfolding transportTo move
+    moves =
+        ap (λ x. option x 0 (λ n. n))
+        (head-collect (rowAt (sheet rows) 14 move) (rowCount rows) ∙ first-same _ _ (rowCount rows) move-at ∙ first-placed (names rows 14 a b) (λ k. num rows k 3) (rowCount rows))
+        ∙ go (firstPlace (names rows 14 a b) (rowCount rows))
+      where
+        go : (x : Option ℕ) → option (option x none (λ k. some (num rows k 3))) 0 (λ n. n) ≡ option x 0 (λ k. num rows k 3)
+        go none = refl
+        go (some k) = refl
+
+    pub move-is : (k : ℕ) {r v : ℕ} → a ≡ v → some k ≡ firstPlace (names rows 14 a b) (rowCount rows) → r ≡ num rows k 3 → r ≡ transportTo (sheet rows) v b
+    move-is k q e f = rw (← q) (f ∙ sym (moves ∙ ap (λ x. option x 0 (λ k. num rows k 3)) (sym e)))
+
+    pub no-move : {v : ℕ} → a ≡ v → none ≡ firstPlace (names rows 14 a b) (rowCount rows) → 0 ≡ transportTo (sheet rows) v b
+    no-move q e = rw (← q) (sym (moves ∙ ap (λ x. option x 0 (λ k. num rows k 3)) (sym e)))
+
+    pub move-most : Accepted rows → (k : ℕ) {r : ℕ} → some k ≡ firstPlace (names rows 14 a b) (rowCount rows) → r ≡ num rows k 3 → r ≤ 4000000000000
+    move-most acc k e f = rw f (at-most rows acc k 14 3 (names-kind rows 14 a b k (found-at _ (rowCount rows) k (sym e) .1)))
+
+  -- a resource that is not in the sheet has none
+  pub unmoved : Accepted rows → (a b : ℕ) → none ≡ placeOf rows 11 a → 0 ≡ transportTo (sheet rows) a b
+  unmoved acc a b p = no-move a b refl (sym (place-never _ (rowCount rows) (unnamed rows acc 14 11 a b (λ i m g. unfold lacks in (has-owner rows acc i 14 1 m g)) p)))

@@ -1,0 +1,99 @@
+-- What a constraint's row gives, by its kind; how many constraints stand above a row. Assumes nothing.
+use Prim.Native.Nat.{ℕ, zero, suc, _+_, _<_, _≤_}
+use mathlib.Core.Path.{_≡_, refl, ap, sym, _∙_}
+use mathlib.Core.Bool.{Bool, true, false, _||_, true≢false}
+use mathlib.Core.List.{List, [], _++_}
+use mathlib.Core.Option.{Option, none, some}
+use native.Mathlib.Omega.{arith}
+use native.Mathlib.Decide.{ℕ-discrete}
+use lib.IntN.{ℤ, pos}
+use lib.ListN.{length, length-append}
+use borrow.Author.Tests.{ne-eqb}
+use Rattle.loops.specs.Lists.{given, each, option}
+use Rattle.loops.specs.Range.{collect}
+use Rattle.loops.proofs.RangeLaws.{collect-step}
+use Rattle.calendar.specs.Clock.{clock}
+use Rattle.rows.specs.Cells.{num, is}
+use Rattle.findings.specs.declared.Violation.{Violation}
+use Rattle.model.specs.Sheet.{sheet}
+use Rattle.model.specs.Constraint.{constraintAt}
+use Rattle.model.specs.Schedule.{timeWindowViolation}
+use Rattle.model.proofs.ConstraintLaws.{window-row, by-constraint}
+use Rattle.definition.specs.ActivitySpan.{Span, activitySpan}
+use Rattle.definition.specs.CheckConstraints.{checkConstraint, checkConstraintAt}
+use Rattle.check9_constraints.specs.inner.Outside.{outsideAt}
+
+pub given-nil : (b : Bool) (f : Violation) → given b f ++ [] ≡ given b f
+given-nil true f = refl
+given-nil false f = refl
+
+module _ (rows : List ℤ) (k : ℕ) where
+  reported : (x : Option (Span ℤ)) (test : Span ℤ → Bool) (f : Violation) → option x [] (λ y. given (test y) f) ++ [] ≡ given (option x false test) f
+  reported none test f = refl
+  reported (some y) test f = given-nil (test y) f
+
+  pub window-found : is rows k 0 19 ≡ true → checkConstraintAt clock (sheet rows) k ≡ given (outsideAt rows k) (timeWindowViolation 9 (num rows k 1))
+  unfolding checkConstraintAt checkConstraint each outsideAt
+  window-found h =
+      rw (window-row rows k h)
+      (reported (activitySpan clock (sheet rows) (num rows k 1))
+      (λ x. clock .before (x .start) (pos (num rows k 2)) || clock .before (pos (num rows k 3)) (x .end))
+      (timeWindowViolation 9 (num rows k 1)))
+
+  pub none-found : is rows k 0 19 ≡ false → is rows k 0 20 ≡ false → is rows k 0 21 ≡ false → checkConstraintAt clock (sheet rows) k ≡ []
+  unfolding checkConstraintAt each checkConstraint
+  none-found a b d =
+      by-constraint rows k (λ l. each (checkConstraint clock (sheet rows) (length (collect (constraintAt (sheet rows)) k))) l ≡ []) refl (λ e. refl) (λ e. refl)
+      (λ e. absurd (true≢false (sym e ∙ a))) (λ e. absurd (true≢false (sym e ∙ b))) (λ e. absurd (true≢false (sym e ∙ d)))
+
+  -- ---- how many
+
+  pub count-low : num rows k 0 < 17 → 0 ≡ length (constraintAt (sheet rows) k)
+  unfolding constraintAt
+  count-low l =
+      rw
+      (ne-eqb (num rows k 0) 17 (λ z. omega arith), ne-eqb (num rows k 0) 18 (λ z. omega arith), ne-eqb (num rows k 0) 19 (λ z. omega arith), ne-eqb (num rows k 0) 20 (λ z. omega arith), ne-eqb (num rows k 0) 21 (λ z. omega arith))
+
+  pub count-high : 21 < num rows k 0 → 0 ≡ length (constraintAt (sheet rows) k)
+  unfolding constraintAt
+  count-high l =
+      rw
+      (ne-eqb (num rows k 0) 17 (λ z. omega arith), ne-eqb (num rows k 0) 18 (λ z. omega arith), ne-eqb (num rows k 0) 19 (λ z. omega arith), ne-eqb (num rows k 0) 20 (λ z. omega arith), ne-eqb (num rows k 0) 21 (λ z. omega arith))
+
+  pub count-one : 17 ≤ num rows k 0 → num rows k 0 ≤ 21 → 1 ≡ length (constraintAt (sheet rows) k)
+  unfolding constraintAt
+  count-one l h =
+      go (ℕ-discrete (num rows k 0) 17) (ℕ-discrete (num rows k 0) 18) (ℕ-discrete (num rows k 0) 19) (ℕ-discrete (num rows k 0) 20)
+      (ℕ-discrete (num rows k 0) 21)
+    where
+      go : Dec (num rows k 0 ≡ 17) → Dec (num rows k 0 ≡ 18) → Dec (num rows k 0 ≡ 19) → Dec (num rows k 0 ≡ 20) → Dec (num rows k 0 ≡ 21)
+          → 1 ≡ length (constraintAt (sheet rows) k)
+      go (yes e) x y z w = rw e
+      go (no d) (yes e) y z w = rw e
+      go (no d) (no f) (yes e) z w = rw e
+      go (no d) (no f) (no g) (yes e) w = rw e
+      go (no d) (no f) (no g) (no i) (yes e) = rw e
+      go (no d) (no f) (no g) (no i) (no j) = absurd (omega arith)
+
+  pub count-most : length (constraintAt (sheet rows) k) ≤ 1
+  count-most = by-constraint rows k (λ l. length l ≤ 1) (omega arith) (λ e. omega arith) (λ e. omega arith) (λ e. omega arith) (λ e. omega arith) (λ e. omega arith)
+
+-- a constraint's place is no greater than its row's
+pub placed-le : (rows : List ℤ) (k : ℕ) → length (collect (constraintAt (sheet rows)) k) ≤ k
+unfolding collect
+placed-le rows zero = omega arith
+placed-le rows (suc k) = omega (arith, length-append (collect (constraintAt (sheet rows)) k) (constraintAt (sheet rows) k), placed-le rows k, count-most rows k)
+
+pub placed-zero : (rows : List ℤ) → 0 ≡ length (collect (constraintAt (sheet rows)) 0)
+unfolding collect
+placed-zero rows = refl
+
+pub placed-below : (rows : List ℤ) (k n : ℕ) {p : ℕ} → p ≡ length (collect (constraintAt (sheet rows)) k) → k ≤ n → n < 9223372036854775808 → p < 9223372036854775808
+placed-below rows k n e l h = omega (arith, placed-le rows k)
+
+pub place-again : (rows : List ℤ) (k : ℕ) {p q : ℕ} → p ≡ length (collect (constraintAt (sheet rows)) k) → q ≡ p + length (constraintAt (sheet rows) k)
+    → q ≡ length (collect (constraintAt (sheet rows)) (k + 1))
+place-again rows k e f =
+    f ∙ ap (λ n. n + length (constraintAt (sheet rows) k)) e
+    ∙ sym (length-append (collect (constraintAt (sheet rows)) k) (constraintAt (sheet rows) k))
+    ∙ ap length (sym (collect-step (constraintAt (sheet rows)) k))

@@ -1,0 +1,42 @@
+use mathlib.Core.Path.{sym, ap, _∙_}
+use Rattle.sheet.specs.Places.{foundOf}
+use Rattle.findings.proofs.SinkLaws.{emit-none}
+use Rattle.check9_constraints.specs.inner.Bookings.{pairsAt}
+use borrow.Author.Needs.{needs}
+use Rattle.check9_constraints.proofs.check_member.Statement.{statement}
+use Rattle.check9_constraints.proofs.check_member.Tie as tie
+
+booking-at-requires : tie.Need-booking-at-requires
+booking-at-requires c κs = search needs
+
+enum-known-a : tie.Need-enum-known-a
+enum-known-a c = search needs
+
+enum-told : tie.Need-enum-told
+enum-told c = search needs
+
+returns : tie.Need-returns
+unfolding pairsAt
+returns c = rw (← (sym (ap foundOf ((c .enum-told .given .1))) ∙ (c .before .before .booking-at .ensures))) (sym (emit-none _))
+
+check-later-requires : tie.Need-check-later-requires
+check-later-requires c κs = search needs
+
+same-length : tie.Need-same-length
+same-length c = search needs
+
+returns-2 : tie.Need-returns-2
+unfolding pairsAt
+returns-2 c = rw (← (sym (ap foundOf ((c .before .before .before .before .a .given .1))) ∙ (c .before .before .before .before .before .before .booking-at .ensures))) (c .before .check-later .ensures)
+
+pub check-member-spec : {M : Type 1} → statement M
+check-member-spec =
+    tie.close
+    (tie.spec
+    booking-at-requires
+    enum-known-a
+    enum-told
+    returns
+    check-later-requires
+    same-length
+    returns-2)

@@ -1,0 +1,198 @@
+-- What a booking's piece is judged as, and how large the amounts of rows are. Assumes nothing.
+use Prim.Native.Nat.{ℕ, _<_, _≤_}
+use mathlib.Core.Path.{_≡_, refl, sym, ap, ap₂, _∙_}
+use mathlib.Core.Bool.{Bool, Bool·beq, true, false, cond, _||_, true≢false}
+use mathlib.Core.List.{List}
+use mathlib.Core.Option.{Option, none, some}
+use native.Mathlib.Omega.{arith}
+use mir.Syntax.{w64}
+use mir.Val.{Fits}
+use lib.ListN.{getD}
+use lib.IntN.{ℤ, pos}
+use lib.Signed.{ltZ}
+use lib.Ieee.{binary64, ofBits}
+use Rattle.loops.specs.Lists.{option}
+use Rattle.loops.specs.Search.{firstPlace}
+use Rattle.loops.proofs.StoreLaws.{Filled}
+use Rattle.loops.proofs.BoolLaws.{or-right}
+use Rattle.loops.proofs.PlaceLaws.{found-at, place-same}
+use Rattle.rows.specs.Cells.{rowCount, cell, num, is}
+use Rattle.rows.specs.Ranges.{isNone}
+use Rattle.sheet.specs.Places.{named, placeOf}
+use Rattle.sheet.specs.inner.Index.{ownerKind, orEnd, storedPlace, ownPlace, ownedBy}
+use Rattle.sheet.specs.inner.Accepted.{Accepted}
+use Rattle.sheet.specs.Refusals.{lacks}
+use Rattle.sheet.proofs.Links.{stored}
+use Rattle.sheet.proofs.Tables.{below}
+use Rattle.sheet.proofs.Lookups.{placed, num-is}
+use Rattle.resource_timing.specs.declared.ActivityDuration.{ActivityDuration}
+use Rattle.resource_timing.specs.declared.ResourceTiming.the-variants.{Speed, Duration}
+use Rattle.resource_timing.specs.declared.Piece.the-variants.{Whole, InPart}
+use Rattle.resource_timing.specs.Durations.{partOf}
+use Rattle.resource_timing.specs.inner.Limits.{Amounts, PartAmounts, TimingAmounts}
+use Rattle.model.specs.Sheet.{sheet, nothing}
+use Rattle.model.specs.Activity.{split, pieceOf}
+use Rattle.model.specs.inner.Records.{activityOf}
+use Rattle.model.proofs.RowLaws.{kind-is}
+use Rattle.model.proofs.Accepting.{at-most, has-owner}
+use Rattle.model.proofs.OwnedLaws.{of-activity, own-activity}
+use Rattle.pieces.specs.inner.Bookings.{names}
+use Rattle.pieces.proofs.Chains.{names-kind, place-never, unnamed}
+use Rattle.pieces.proofs.Companions.{both-parts}
+use Rattle.derived_times.specs.inner.Rows.{columnsOf, partAt, timedBy, timingOf, timingPlace, earlierOf, Timings}
+use Rattle.derived_times.specs.inner.Needs.{restAt, Times}
+use Rattle.derived_times.proofs.Finds.{splitOf, split-is, earlier-is}
+
+module _ (rows : List ℤ) where
+  -- ---- the activity's row
+
+  pub activity-kind : (x o : ℕ) → placeOf rows 2 x ≡ some o → is rows o 0 2 ≡ true
+  activity-kind x o e = num-is rows o 0 2 (placed rows 2 x o e .kind)
+
+  pub activity-id : (x o : ℕ) → placeOf rows 2 x ≡ some o → num rows o 1 ≡ x
+  activity-id x o e = placed rows 2 x o e .id-is
+
+  pub owner-is : (k o : ℕ) → is rows k 0 23 ≡ true → placeOf rows 2 (num rows k 1) ≡ some o → o ≡ ownPlace rows k
+  owner-is k o h e = sym (own-activity rows 23 k (unfold ownerKind in refl) h ∙ ap (orEnd rows) e ∙ unfold orEnd in refl)
+
+  pub activity-within : (x o : ℕ) → placeOf rows 2 x ≡ some o → o < rowCount rows
+  activity-within x o e = placed rows 2 x o e .within
+
+  pub activity-below : (x o : ℕ) → placeOf rows 2 x ≡ some o → o ≤ rowCount rows
+  activity-below x o e = omega (arith, placed rows 2 x o e .within)
+
+  -- ---- the split's row
+
+  split-place : (x o : ℕ) → placeOf rows 2 x ≡ some o → firstPlace (ownedBy rows o 4) (rowCount rows) ≡ placeOf rows 4 x
+  unfolding placeOf
+  split-place x o e =
+      place-same (ownedBy rows o 4) (named rows 4 x) (rowCount rows) (λ k l. of-activity rows 4 o x (unfold ownerKind in refl) (unfold placeOf in e) k ∙ unfold named in refl)
+
+  -- ---- the part
+
+  pub part-none : (k : ℕ) → is rows k 0 23 ≡ true → isNone (cell rows k 7) ≡ true → partAt rows k ≡ none
+  part-none k h e = rw (kind-is rows k 23 h, e)
+
+  both : (a b : Bool) → Bool·beq a b ≡ true → a ≡ false → b ≡ false
+  both true b e f = absurd (true≢false f)
+  both false true e f = absurd (true≢false (sym e))
+  both false false e f = refl
+
+  pub part-some : Accepted rows → (k : ℕ) → k < rowCount rows → is rows k 0 23 ≡ true → isNone (cell rows k 7) ≡ false
+      → partAt rows k ≡ some (record { index = cell rows k 7; work = num rows k 8 })
+  part-some acc k l h e =
+      let f : isNone (cell rows k 8) ≡ false = both (isNone (cell rows k 7)) (isNone (cell rows k 8)) (both-parts rows acc k l h) e in
+      rw (kind-is rows k 23 h, e, f)
+
+  -- ---- the piece
+
+  module _ (k o : ℕ) (h : is rows k 0 23 ≡ true) (e : placeOf rows 2 (num rows k 1) ≡ some o) where
+    pub piece-whole : isNone (cell rows k 7) ≡ true → Whole ≡ pieceOf (sheet rows) (activityOf rows o) (partAt rows k)
+    unfolding pieceOf
+    piece-whole f = rw (part-none k h f)
+
+    split-at : (x : Option ℕ) → placeOf rows 4 (num rows k 1) ≡ x → split (sheet rows) (num rows o 1) ≡ option x none (λ i. some (splitOf rows i))
+    split-at x f = ap (split (sheet rows)) (activity-id (num rows k 1) o e) ∙ split-is rows (num rows k 1) ∙ ap (λ y. option y none (λ i. some (splitOf rows i))) f
+
+    module _ (acc : Accepted rows) (l : k < rowCount rows) (f : isNone (cell rows k 7) ≡ false) where
+      pub piece-unsplit : none ≡ firstPlace (ownedBy rows o 4) (rowCount rows) → Whole ≡ pieceOf (sheet rows) (activityOf rows o) (partAt rows k)
+      unfolding pieceOf
+      piece-unsplit q = rw (part-some acc k l h f, split-at none (sym (q ∙ split-place (num rows k 1) o e)))
+
+      split-row : (i : ℕ) → some i ≡ firstPlace (ownedBy rows o 4) (rowCount rows) → placeOf rows 4 (num rows k 1) ≡ some i
+      split-row i q = sym (q ∙ split-place (num rows k 1) o e)
+
+      pub piece-part : (i : ℕ) → some i ≡ firstPlace (ownedBy rows o 4) (rowCount rows)
+          → InPart (partOf (cell rows k 7) (num rows k 8) (num rows o 5) (num rows i 4)) ≡ pieceOf (sheet rows) (activityOf rows o) (partAt rows k)
+      unfolding pieceOf
+      piece-part i q = rw (part-some acc k l h f, split-at (some i) (split-row i q))
+
+      pub part-amounts : (i : ℕ) → some i ≡ firstPlace (ownedBy rows o 4) (rowCount rows) → PartAmounts (partOf (cell rows k 7) (num rows k 8) (num rows o 5) (num rows i 4))
+      part-amounts i q = record {
+        work = at-most rows acc k 23 8 h;
+        whole = at-most rows acc o 2 5 (activity-kind (num rows k 1) o e);
+        overhead = over (ltZ (pos 0) (cell rows k 7));
+      }
+        where
+          over : (b : Bool) → cond b (num rows i 4) 0 ≤ 4000000000000
+          over true = at-most rows acc i 4 4 (num-is rows i 0 4 (placed rows 4 (num rows k 1) i (split-row i q) .kind))
+          over false = omega arith
+
+  -- ---- amounts
+
+  pub columns-are : (o : ℕ) {s p t : ℕ} → s ≡ num rows o 4 → p ≡ num rows o 5 → t ≡ num rows o 6
+      → _≡_ {A = ActivityDuration} (record { «setup_ms» = s; «process_ms» = p; «teardown_ms» = t }) (columnsOf rows o 4)
+  columns-are o e f g = rw (e, f, g)
+
+  pub base-amounts : Accepted rows → (x o : ℕ) → placeOf rows 2 x ≡ some o → Amounts (columnsOf rows o 4)
+  base-amounts acc x o e = record {
+    setup = at-most rows acc o 2 4 (activity-kind x o e);
+    process = at-most rows acc o 2 5 (activity-kind x o e);
+    teardown = at-most rows acc o 2 6 (activity-kind x o e);
+  }
+
+  pub timing-amounts : Accepted rows → (a r i : ℕ) → timedBy rows a r i ≡ true → TimingAmounts (timingOf rows i)
+  unfolding timingOf
+  timing-amounts acc a r i e = go (is rows i 0 9) refl
+    where
+      go : (b : Bool) → is rows i 0 9 ≡ b → TimingAmounts (cond b (Speed (ofBits binary64 (num rows i 3))) (Duration (columnsOf rows i 3)))
+      go true h = tt
+      go false h = ten (names-kind rows 10 a r i (or-right (names rows 9 a r i) (names rows 10 a r i) (unfold timedBy in e) (unfold names in (rw h))))
+        where
+          ten : is rows i 0 10 ≡ true → Amounts (columnsOf rows i 3)
+          ten g = record { setup = at-most rows acc i 10 3 g; process = at-most rows acc i 10 4 g; teardown = at-most rows acc i 10 5 g }
+
+  -- ---- a booking's timing
+
+  pub timing-row : (j : ℕ) {x : Option ℕ} → is rows j 0 23 ≡ true → x ≡ timingPlace rows j → firstPlace (timedBy rows (num rows j 1) (num rows j 3)) (rowCount rows) ≡ x
+  unfolding timingPlace
+  timing-row j h e = sym (rw h at e)
+
+  pub row-amounts : Accepted rows → (j i : ℕ) → firstPlace (timedBy rows (num rows j 1) (num rows j 3)) (rowCount rows) ≡ some i → TimingAmounts (timingOf rows i)
+  row-amounts acc j i e = timing-amounts acc (num rows j 1) (num rows j 3) i (found-at _ (rowCount rows) i e .1)
+
+  -- ---- the row of a booking's timing, as it is found
+
+  pub row-none : (k : ℕ) → is rows k 0 23 ≡ false → none ≡ timingPlace rows k
+  unfolding timingPlace
+  row-none k h = rw h
+
+  -- an activity that is not in the sheet has no timings
+  pub row-unknown : Accepted rows → (k : ℕ) → is rows k 0 23 ≡ true → none ≡ placeOf rows 2 (num rows k 1) → none ≡ timingPlace rows k
+  unfolding timingPlace timedBy
+  row-unknown acc k h p =
+      rw h
+      (sym (place-never _ (rowCount rows) λ i l.
+      ap₂ _||_ (unnamed rows acc 9 2 (num rows k 1) (num rows k 3) (λ j m g. unfold lacks in (has-owner rows acc j 9 1 m g)) p i l)
+      (unnamed rows acc 10 2 (num rows k 1) (num rows k 3) (λ j m g. unfold lacks in (has-owner rows acc j 10 1 m g)) p i l)))
+
+  pub row-earlier : (k a b : ℕ) {r x y : Option ℕ} → is rows k 0 23 ≡ true → a ≡ num rows k 1 → b ≡ num rows k 3
+      → x ≡ firstPlace (names rows 9 a b) (rowCount rows) → y ≡ firstPlace (names rows 10 a b) (rowCount rows) → r ≡ earlierOf x y → r ≡ timingPlace rows k
+  unfolding timingPlace timedBy
+  row-earlier k a b h p q e f g =
+      g ∙ ap₂ earlierOf (rw (p, q) at e) (rw (p, q) at f) ∙ earlier-is (names rows 9 (num rows k 1) (num rows k 3)) (names rows 10 (num rows k 1) (num rows k 3)) (rowCount rows) ∙ (rw h)
+
+  -- ---- the table of them
+
+  timing-within : (k i : ℕ) → timingPlace rows k ≡ some i → i < rowCount rows
+  unfolding timingPlace
+  timing-within k i = go (is rows k 0 23)
+    where
+      go : (b : Bool) → cond b (firstPlace (timedBy rows (num rows k 1) (num rows k 3)) (rowCount rows)) none ≡ some i → i < rowCount rows
+      go true e = found-at _ (rowCount rows) i e .0
+      go false e = let z : _≡_ {A = ℕ} 0 1 = cc in absurd (omega arith)
+
+  pub timing-most : (k : ℕ) {i : ℕ} {x : Option ℕ} → i ≡ orEnd rows x → x ≡ timingPlace rows k → rowCount rows ≤ 800 → i ≤ 800
+  timing-most k {i} e f l = let w : i ≡ orEnd rows (timingPlace rows k) = e ∙ ap (orEnd rows) f in omega (arith, below rows (timingPlace rows k) (timing-within k))
+
+  pub timing-fits : (t : List ℕ) (j : ℕ) → Timings rows t → j < rowCount rows → Fits w64 (getD t j 0)
+  timing-fits t j h l = record { fits = omega (arith, h .at j l, h .short, below rows (timingPlace rows j) (timing-within j)) }
+
+  pub timing-stored : (t : List ℕ) (j : ℕ) {r : Option ℕ} → Timings rows t → j < rowCount rows → r ≡ storedPlace rows (getD t j 0) → r ≡ timingPlace rows j
+  timing-stored t j h l e = e ∙ stored rows (timingPlace rows j) (h .at j l) (timing-within j)
+
+  pub timings-end : (k n : ℕ) (t : List ℕ) → n ≤ k → k ≤ n → n ≡ rowCount rows → rowCount rows ≤ 800 → Filled (λ j. orEnd rows (timingPlace rows j)) k t → Timings rows t
+  timings-end k n t l u z s h = record { short = s; at = λ j m. h .at j (omega arith); past = λ j m. h .rest j (omega arith) }
+
+  pub times-end : (k n : ℕ) (t : List ℕ) → n ≤ k → k ≤ n → n ≡ rowCount rows → rowCount rows ≤ 800 → Filled (restAt rows) k t → Times rows t
+  times-end k n t l u z s h = record { short = s; at = λ j m. h .at j (omega arith); past = λ j m. h .rest j (omega arith) }

@@ -1,0 +1,41 @@
+use borrow.Author.Tests.{lt-ltb, le-ltb}
+use borrow.Author.Needs.{needs}
+use Rattle.derived_times.proofs.earlier.Statement.{statement}
+use Rattle.derived_times.proofs.earlier.Tie as tie
+
+enum-known-x : tie.Need-enum-known-x
+enum-known-x c = search needs
+
+enum-told : tie.Need-enum-told
+enum-told c = search needs
+
+returns : tie.Need-returns
+returns c = search needs
+
+enum-known-y : tie.Need-enum-known-y
+enum-known-y c = search needs
+
+enum-told-2 : tie.Need-enum-told-2
+enum-told-2 c = search needs
+
+returns-2 : tie.Need-returns-2
+returns-2 c = rw ((c .before .before .before .x .given .1), (c .enum-told2 .given .1))
+
+returns-3 : tie.Need-returns-3
+returns-3 c = rw ((c .before .before .before .before .before .x .given .1), (c .before .before .y .given .1), lt-ltb _ _ (c .if1 .taken))
+
+returns-4 : tie.Need-returns-4
+returns-4 c = rw ((c .before .before .before .before .before .x .given .1), (c .before .before .y .given .1), le-ltb _ _ (c .if1 .left))
+
+pub earlier-spec : {M : Type 1} → statement M
+earlier-spec =
+    tie.close
+    (tie.spec
+    enum-known-x
+    enum-told
+    returns
+    enum-known-y
+    enum-told-2
+    returns-2
+    returns-3
+    returns-4)

@@ -1,0 +1,62 @@
+use mathlib.Core.Path.{sym, ap, _∙_}
+use borrow.Author.Needs.{sfits-of}
+use mir.Facts.{toZ-ofZ}
+use Rattle.sheet.specs.Places.{foundOf}
+use Rattle.resource_timing.specs.declared.Piece.the-variants.{InPart}
+use Rattle.derived_times.proofs.Parts.{piece-whole, activity-below, piece-part, part-amounts, piece-unsplit}
+use borrow.Author.Needs.{needs}
+use Rattle.derived_times.proofs.piece_at.Statement.{statement}
+use Rattle.derived_times.proofs.piece_at.Tie as tie
+
+cell-at-requires : tie.Need-cell-at-requires
+cell-at-requires c κs = search needs
+
+is-none-requires : tie.Need-is-none-requires
+is-none-requires c κs = search needs
+
+returns : tie.Need-returns
+returns c = (piece-whole _ _ _ ((c .before .before .before .pre .3)) ((c .before .before .before .pre .4)) (rw (toZ-ofZ (sfits-of (c .before .before .cell-at .ok)), (c .before .before .cell-at .ensures)) at (sym (c .before .is-none .ensures) ∙ (c .if1 .taken))), tt)
+
+find-owned-requires : tie.Need-find-owned-requires
+find-owned-requires c κs = (((c .before .before .before .pre .1)), activity-below _ _ _ ((c .before .before .before .pre .4)))
+
+enum-known-i : tie.Need-enum-known-i
+enum-known-i c = search needs
+
+enum-told : tie.Need-enum-told
+enum-told c = search needs
+
+returns-2 : tie.Need-returns-2
+returns-2 c = (piece-unsplit _ _ _ ((c .before .before .before .before .before .before .pre .3)) ((c .before .before .before .before .before .before .pre .4)) ((c .before .before .before .before .before .before .pre .0)) ((c .before .before .before .before .before .before .pre .2)) (rw (toZ-ofZ (sfits-of (c .before .before .before .before .before .cell-at .ok)), (c .before .before .before .before .before .cell-at .ensures)) at (sym (c .before .before .before .before .is-none .ensures) ∙ (c .before .before .before .if1 .left))) (sym (ap foundOf ((c .enum-told .given .1))) ∙ (c .before .before .find-owned .ensures)), tt)
+
+num-at-requires : tie.Need-num-at-requires
+num-at-requires c κs = search needs
+
+num-at-requires-2 : tie.Need-num-at-requires-2
+num-at-requires-2 c κs = search needs
+
+num-at-requires-3 : tie.Need-num-at-requires-3
+num-at-requires-3 c κs = search needs
+
+part-of-requires : tie.Need-part-of-requires
+part-of-requires c κs = search needs
+
+returns-3 : tie.Need-returns-3
+returns-3 c = let e = rw (toZ-ofZ (sfits-of (c .before .before .before .before .before .before .before .before .before .before .cell-at .ok)), (c .before .before .before .before .before .before .before .before .before .before .cell-at .ensures), (c .before .before .before .num-at .ensures), (c .before .before .num-at2 .ensures), (c .before .num-at3 .ensures)) at (c .part-of .ensures) in (ap InPart e ∙ piece-part _ _ _ ((c .before .before .before .before .before .before .before .before .before .before .before .pre .3)) ((c .before .before .before .before .before .before .before .before .before .before .before .pre .4)) ((c .before .before .before .before .before .before .before .before .before .before .before .pre .0)) ((c .before .before .before .before .before .before .before .before .before .before .before .pre .2)) (rw (toZ-ofZ (sfits-of (c .before .before .before .before .before .before .before .before .before .before .cell-at .ok)), (c .before .before .before .before .before .before .before .before .before .before .cell-at .ensures)) at (sym (c .before .before .before .before .before .before .before .before .before .is-none .ensures) ∙ (c .before .before .before .before .before .before .before .before .if1 .left))) _ (sym (ap foundOf ((c .before .before .before .before .before .i .given .1))) ∙ (c .before .before .before .before .before .before .before .find-owned .ensures)), rw e (part-amounts _ _ _ ((c .before .before .before .before .before .before .before .before .before .before .before .pre .3)) ((c .before .before .before .before .before .before .before .before .before .before .before .pre .4)) ((c .before .before .before .before .before .before .before .before .before .before .before .pre .0)) ((c .before .before .before .before .before .before .before .before .before .before .before .pre .2)) (rw (toZ-ofZ (sfits-of (c .before .before .before .before .before .before .before .before .before .before .cell-at .ok)), (c .before .before .before .before .before .before .before .before .before .before .cell-at .ensures)) at (sym (c .before .before .before .before .before .before .before .before .before .is-none .ensures) ∙ (c .before .before .before .before .before .before .before .before .if1 .left))) _ (sym (ap foundOf ((c .before .before .before .before .before .i .given .1))) ∙ (c .before .before .before .before .before .before .before .find-owned .ensures))))
+
+pub piece-at-spec : {M : Type 1} → statement M
+piece-at-spec =
+    tie.close
+    (tie.spec
+    cell-at-requires
+    is-none-requires
+    returns
+    find-owned-requires
+    enum-known-i
+    enum-told
+    returns-2
+    num-at-requires
+    num-at-requires-2
+    num-at-requires-3
+    part-of-requires
+    returns-3)

@@ -1,0 +1,4 @@
+pub mod LineLaws
+pub mod Reporting
+pub mod Storing
+pub mod Whole

@@ -1,0 +1,39 @@
+use Rattle.load.proofs.Caps.{base-none, base-some}
+use mathlib.Core.Path.{_∙_}
+use mir.Facts.{toZ-ofZ}
+use borrow.Author.Needs.{needs, sfits-of}
+use Rattle.load.proofs.base_of.Statement.{statement}
+use Rattle.load.proofs.base_of.Tie as tie
+
+find-resource-requires : tie.Need-find-resource-requires
+find-resource-requires c κs = search needs
+
+enum-known-found : tie.Need-enum-known-found
+enum-known-found c = search needs
+
+enum-told : tie.Need-enum-told
+enum-told c = search needs
+
+returns : tie.Need-returns
+returns c = base-none _ _ (c .before .before .find-resource .ensures) (c .enum-told .given .1)
+
+cell-at-requires : tie.Need-cell-at-requires
+cell-at-requires c κs = search needs
+
+greater-of-requires : tie.Need-greater-of-requires
+greater-of-requires c κs = search needs
+
+returns-2 : tie.Need-returns-2
+returns-2 c = toZ-ofZ (sfits-of (c .greater-of .ok)) ∙ base-some _ _ (c .before .before .before .before .before .find-resource .ensures) (c .before .before .before .found .given .1) (sfits-of (c .before .cell-at .ok)) (c .before .cell-at .ensures) (c .greater-of .ensures)
+
+pub base-of-spec : {M : Type 1} → statement M
+base-of-spec =
+    tie.close
+    (tie.spec
+    find-resource-requires
+    enum-known-found
+    enum-told
+    returns
+    cell-at-requires
+    greater-of-requires
+    returns-2)

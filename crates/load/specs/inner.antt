@@ -1,0 +1,3 @@
+pub mod Firsts
+pub mod Gathering
+pub mod Lent

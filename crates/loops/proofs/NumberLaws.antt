@@ -1,0 +1,33 @@
+-- Laws of numbers. Assumes nothing.
+use Prim.Native.Nat.{ℕ, zero, suc, _+_, _-_, _<_, _≤_}
+use mathlib.Core.Path.{_≡_, refl, sym, ap₂, subst, _∙_}
+use mathlib.Core.Bool.{Bool, true, false, cond}
+use native.Mathlib.Omega.{arith}
+use native.Mathlib.Decide.{decLt}
+use borrow.Author.Tests.{lt-ltb, le-ltb, ltb-true, ltb-false}
+use lib.Signed.{ltZ}
+use lib.Dec.{T, ltb, ltb→lt}
+use lib.IntN.{pos, negsuc, _-ℤ_}
+use Rattle.loops.specs.Numbers.{toNat}
+
+-- a difference of two natural numbers, cut at 0
+pub gap : (a e : ℕ) → toNat (pos e -ℤ pos a) ≡ e - a
+gap zero e = omega arith
+gap (suc a) e = go (ltb e (suc a)) refl
+  where
+    go : (b : Bool) → ltb e (suc a) ≡ b → toNat (cond b (negsuc (suc a - suc e)) (pos (e - suc a))) ≡ e - suc a
+    go true h = let k : e < suc a = ltb→lt e (suc a) (subst T (sym h) tt) in omega arith
+    go false h = refl
+
+-- a difference below n, and the sum that says the same
+pub shorter : (a e n : ℕ) → ltZ (pos e -ℤ pos a) (pos n) ≡ ltb e (a + n)
+shorter zero e n = let p : e + 0 ≡ e = omega arith in let q : n ≡ 0 + n = omega arith in ap₂ ltb p q
+shorter (suc a) e n = go (ltb e (suc a)) refl
+  where
+    sums : suc a ≤ e → Dec (e < suc a + n) → ltb (e - suc a) n ≡ ltb e (suc a + n)
+    sums h (yes l) = lt-ltb (e - suc a) n (omega arith) ∙ sym (lt-ltb e (suc a + n) l)
+    sums h (no l) = le-ltb (e - suc a) n (omega arith) ∙ sym (le-ltb e (suc a + n) (omega arith))
+
+    go : (b : Bool) → ltb e (suc a) ≡ b → ltZ (cond b (negsuc (suc a - suc e)) (pos (e - suc a))) (pos n) ≡ ltb e (suc a + n)
+    go true h = let k : e < suc a = ltb-true e (suc a) h in sym (lt-ltb e (suc a + n) (omega arith))
+    go false h = sums (ltb-false e (suc a) h) (decLt e (suc a + n))

@@ -1,0 +1,3 @@
+pub mod Indexed
+pub mod Mapped
+pub mod Records

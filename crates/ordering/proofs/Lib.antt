@@ -1,2 +1,0 @@
-pub mod Ranking
-pub mod Sorted

@@ -1,5 +1,0 @@
-pub mod DecimalLaws
-pub mod Examples
-pub mod FitLaws
-pub mod PutLaws
-pub mod SignLaws

@@ -1,0 +1,78 @@
+-- (2 * ms * work + d) / (2 * d) by long division with two digits of work. Assumes nothing.
+use mathlib.Core.Path.{_≡_, sym, ap, _∙_}
+use Prim.Native.Nat.{ℕ, _+_, _*_, _/_, _%_, _≤_, _<_}
+use native.Mathlib.Nat.{mul-comm, mul-assoc, mul-left-comm, mul-add, mul-le-mul, add-div-right, div-div-eq-div-mul, div-lt-iff-lt-mul, div-le-self, mod-lt, div-add-mod', add-mul-div-right, mul-right-comm}
+use native.Mathlib.Omega.{arith}
+use borrow.Author.Tests.{eq-eqb, ne-eqb}
+use Rattle.part_share.specs.Share.{shareOf}
+
+pub of-none : (ms work d : ℕ) → d ≡ 0 → shareOf ms work d ≡ ms
+unfolding shareOf
+of-none ms work d e = rw (eq-eqb d 0 e)
+
+-- (2r + d) / (2d) is the bit 2r / d, for an r below d
+last-bit : (r d : ℕ) → r < d → ((2 * r + d) / (2 * d) ≡ r * 2 / d) × (r * 2 / d < 2)
+last-bit r d h =
+    let D : 0 < d = omega arith in
+    let small : r * 2 / d < 2 = div-lt-iff-lt-mul D .1 (omega arith) in
+    let halved : (2 * r + d) / (2 * d) ≡ (r * 2 / d + 1) / 2 =
+    ap (λ (z : ℕ). (z + d) / (2 * d)) (mul-comm 2 r)
+    ∙ ap (λ (z : ℕ). (r * 2 + d) / z) (mul-comm 2 d)
+    ∙ sym (div-div-eq-div-mul (r * 2 + d) d 2)
+    ∙ ap (λ (z : ℕ). z / 2) (add-div-right (r * 2) D) in
+    (omega arith, small)
+
+-- whole multiples of d come out of the quotient
+take-out : (q r d : ℕ) → 0 < d → (2 * (q * d + r) + d) / (2 * d) ≡ (2 * r + d) / (2 * d) + q
+take-out q r d D =
+    let e : 2 * (q * d + r) + d ≡ 2 * r + d + q * (2 * d) = let s : q * (2 * d) ≡ 2 * (q * d) = mul-left-comm q 2 d in omega arith in
+    ap (λ (z : ℕ). z / (2 * d)) e ∙ add-mul-div-right (2 * r + d) q (omega arith)
+
+abbrev pub highOf : ℕ → ℕ → ℕ
+highOf ms work = ms * (work / 2097152)
+
+abbrev pub lowOf : ℕ → ℕ → ℕ → ℕ
+lowOf ms work d = highOf ms work % d * 2097152 + ms * (work % 2097152)
+
+pub record Parts (ms work d : ℕ) : Type 0 where
+  pub high : highOf ms work ≤ 4000000000000 * 1907348
+  pub low : ms * (work % 2097152) ≤ 4000000000000 * 2097151
+  pub high-rest : highOf ms work % d < d
+  pub quotient : lowOf ms work d / d ≤ lowOf ms work d
+  pub rest : lowOf ms work d % d < d
+  pub bit : lowOf ms work d % d * 2 / d < 2
+  pub sum : shareOf ms work d ≡ highOf ms work / d * 2097152 + lowOf ms work d / d + lowOf ms work d % d * 2 / d
+
+module _ (ms work d : ℕ) (D : 0 < d) where
+  product : ms * work ≡ highOf ms work / d * 2097152 * d + lowOf ms work d
+  product =
+      let w = div-add-mod' work 2097152 in
+      let a : ms * work ≡ ms * (work / 2097152) * 2097152 + ms * (work % 2097152) =
+      ap (λ (z : ℕ). ms * z) (sym w) ∙ mul-add ms (work / 2097152 * 2097152) (work % 2097152) ∙ ap (λ (z : ℕ). z + ms * (work % 2097152)) (sym (mul-assoc ms (work / 2097152) 2097152)) in
+      let b : highOf ms work / d * d + highOf ms work % d ≡ highOf ms work = div-add-mod' (highOf ms work) d in
+      let s : highOf ms work / d * 2097152 * d ≡ highOf ms work / d * d * 2097152 = mul-right-comm (highOf ms work / d) 2097152 d in
+      omega arith
+
+  digits : shareOf ms work d ≡ highOf ms work / d * 2097152 + lowOf ms work d / d + lowOf ms work d % d * 2 / d
+  unfolding shareOf
+  digits =
+      let low = lowOf ms work d in
+      let q = highOf ms work / d * 2097152 in
+      let e : 2 * ms * work + d ≡ 2 * (q * d + low) + d = ap (λ (z : ℕ). z + d) (mul-assoc 2 ms work ∙ ap (λ (z : ℕ). 2 * z) product) in
+      let f : (2 * ms * work + d) / (2 * d) ≡ (2 * low + d) / (2 * d) + q = ap (λ (z : ℕ). z / (2 * d)) e ∙ take-out q low d D in
+      let g : (2 * low + d) / (2 * d) ≡ (2 * (low % d) + d) / (2 * d) + low / d = ap (λ (z : ℕ). (2 * z + d) / (2 * d)) (sym (div-add-mod' low d)) ∙ take-out (low / d) (low % d) d D in
+      let h = last-bit (low % d) d (mod-lt low D) .0 in
+      rw (ne-eqb d 0 (omega arith)) (omega arith)
+
+pub parts : (ms work d : ℕ) → ms ≤ 4000000000000 → work ≤ 4000000000000 → 0 < d → Parts ms work d
+parts ms work d M W D =
+    let low = lowOf ms work d in
+    record {
+      high = mul-le-mul {m₂ = 1907348} M (omega arith);
+      low = mul-le-mul {m₂ = 2097151} M (omega arith);
+      high-rest = mod-lt (highOf ms work) D;
+      quotient = div-le-self low d;
+      rest = mod-lt low D;
+      bit = last-bit (low % d) d (mod-lt low D) .1;
+      sum = digits ms work d D;
+    }

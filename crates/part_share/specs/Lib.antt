@@ -1,0 +1,2 @@
+-- Definitions that the contracts of `part_share` cite.
+pub mod Share

@@ -1,5 +1,0 @@
-pub mod MapLaws
-pub mod Works
-pub mod Sums
-pub mod Findings
-pub mod Whole

@@ -1,0 +1,54 @@
+use mathlib.Core.Path.{refl}
+use borrow.Author.Needs.{needs, sfits-of}
+use borrow.Author.Tests.{lt-ltb, le-ltb}
+use Rattle.printing.specs.NumberLines.{field}
+use Rattle.printing.proofs.PutLaws.{wrote-then, wrote-number}
+use Rattle.printing.proofs.put_field.Statement.{statement}
+use Rattle.printing.proofs.put_field.Tie as tie
+
+mul-put-signed : tie.Need-mul-put-signed
+mul-put-signed c = search needs
+
+shared-slice-copy-out-put-signed : tie.Need-shared-slice-copy-out-put-signed
+shared-slice-copy-out-put-signed c = search needs
+
+put-signed-requires : tie.Need-put-signed-requires
+put-signed-requires c κs = search needs
+
+add-if1 : tie.Need-add-if1
+add-if1 c = search needs
+
+put-requires : tie.Need-put-requires
+put-requires c κs = search needs
+
+same-length : tie.Need-same-length
+same-length c = search needs
+
+returns : tie.Need-returns
+unfolding field
+returns c = rw (lt-ltb _ _ (c .before .before .before .before .if1 .taken)) (wrote-then _ _ (wrote-number (sfits-of (c .before .before .before .before .before .before .before .before .put-signed-arg2 .given)) refl (c .before .before .before .before .before .before .before .put-signed .ensures)) (c .before .before .put .ensures))
+
+put-requires-2 : tie.Need-put-requires-2
+put-requires-2 c κs = search needs
+
+same-length-2 : tie.Need-same-length-2
+same-length-2 c = search needs
+
+returns-2 : tie.Need-returns-2
+unfolding field
+returns-2 c = rw (le-ltb _ _ (c .before .before .before .before .if1 .left)) (wrote-then _ _ (wrote-number (sfits-of (c .before .before .before .before .before .before .before .before .put-signed-arg2 .given)) refl (c .before .before .before .before .before .before .before .put-signed .ensures)) (c .before .before .put2 .ensures))
+
+pub put-field-spec : {M : Type 1} → statement M
+put-field-spec =
+    tie.close
+    (tie.spec
+    mul-put-signed
+    shared-slice-copy-out-put-signed
+    put-signed-requires
+    add-if1
+    put-requires
+    same-length
+    returns
+    put-requires-2
+    same-length-2
+    returns-2)

@@ -1,0 +1,53 @@
+use Prim.Native.Nat.{_-_, _≤_}
+use native.Mathlib.Omega.{arith}
+use lib.ListN.{length}
+use borrow.Author.Needs.{needs}
+use Rattle.loops.specs.Range.{collect}
+use Rattle.printing.specs.NumberLines.{field, numberLine}
+use Rattle.printing.specs.inner.Wrote.{Wrote}
+use Rattle.printing.proofs.PutLaws.{wrote-none, wrote-within, wrote-line, wrote-long, wrote-upto}
+use Rattle.printing.proofs.put_line.Statement.{statement}
+use Rattle.printing.proofs.put_line.Tie as tie
+
+abbrev Inv-loop : tie.InvT-loop
+Inv-loop out₀ from line at₀ c₀ out at c = Wrote out₀ from out at (collect (field line) c) × (c ≤ length line)
+
+abbrev μ-loop : tie.MeasureT-loop
+μ-loop out₀ from line at₀ c₀ out at c = length line - c
+
+loop-holds : tie.Need-loop-holds Inv-loop μ-loop
+unfolding collect
+loop-holds c = (wrote-none _ _ (c .before .pre), search needs)
+
+put-field-requires : tie.Need-put-field-requires Inv-loop μ-loop
+put-field-requires c κs = (wrote-within _ ((c .before .before .loop .inv .0)), search needs)
+
+add-c : tie.Need-add-c Inv-loop μ-loop
+add-c c = search needs
+
+loop-less : tie.Need-loop-less Inv-loop μ-loop
+loop-less c = search needs
+
+loop-again : tie.Need-loop-again Inv-loop μ-loop
+loop-again c = (wrote-line _ _ (c .before .before .before .before .before .loop .inv .0) (c .before .before .put-field .ensures), search needs)
+
+same-length : tie.Need-same-length Inv-loop μ-loop
+same-length c = wrote-long (c .before .loop .inv .0)
+
+returns : tie.Need-returns Inv-loop μ-loop
+unfolding numberLine
+returns c = wrote-upto _ (omega arith) (c .before .loop .inv .0)
+
+pub put-line-spec : {M : Type 1} → statement M
+put-line-spec =
+    tie.close
+    (tie.spec
+    Inv-loop
+    μ-loop
+    loop-holds
+    put-field-requires
+    add-c
+    loop-less
+    loop-again
+    same-length
+    returns)

@@ -1,0 +1,4 @@
+pub mod Decimal
+pub mod NumberLines
+pub mod Printed
+pub mod inner

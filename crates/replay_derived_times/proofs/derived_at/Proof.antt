@@ -1,0 +1,51 @@
+use mathlib.Core.Path.{sym, ap, _∙_}
+use Rattle.sheet.specs.Places.{foundOf}
+use Rattle.sheet.proofs.Links.{books}
+use borrow.Author.Needs.{needs}
+use Rattle.replay_derived_times.proofs.derived_at.Statement.{statement}
+use Rattle.replay_derived_times.proofs.derived_at.Tie as tie
+
+is-at-requires : tie.Need-is-at-requires
+is-at-requires c κs = search needs
+
+activity-of-requires : tie.Need-activity-of-requires
+activity-of-requires c κs = (((c .before .before .pre .1)), ((c .before .before .pre .5)), books _ _ (sym (c .before .is-at .ensures) ∙ (c .if1 .taken)))
+
+enum-known-o : tie.Need-enum-known-o
+enum-known-o c = search needs
+
+enum-told : tie.Need-enum-told
+enum-told c = search needs
+
+returns : tie.Need-returns
+returns c = search needs
+
+duration-on-requires : tie.Need-duration-on-requires
+duration-on-requires c κs = (((c .before .before .before .before .before .before .before .pre .0)), ((c .before .before .before .before .before .before .before .pre .2)), ((c .before .before .before .before .before .before .before .pre .3)), ((c .before .before .before .before .before .before .before .pre .4)), ((c .before .before .before .before .before .before .before .pre .5)), (sym (c .before .before .before .before .before .before .is-at .ensures) ∙ (c .before .before .before .before .before .if1 .taken)), (sym (c .before .before .before .before .activity-of .ensures) ∙ ap foundOf ((c .before .before .o .given .1))))
+
+add-derived-requires : tie.Need-add-derived-requires
+add-derived-requires c κs = search needs
+
+same-length : tie.Need-same-length
+same-length c = search needs
+
+returns-2 : tie.Need-returns-2
+returns-2 c = search needs
+
+returns-3 : tie.Need-returns-3
+returns-3 c = search needs
+
+pub derived-at-spec : {M : Type 1} → statement M
+derived-at-spec =
+    tie.close
+    (tie.spec
+    is-at-requires
+    activity-of-requires
+    enum-known-o
+    enum-told
+    returns
+    duration-on-requires
+    add-derived-requires
+    same-length
+    returns-2
+    returns-3)

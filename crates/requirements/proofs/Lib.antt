@@ -1,8 +1,0 @@
-pub mod Along
-pub mod Keys
-pub mod Claiming
-pub mod OrderedLaws
-pub mod Lists
-pub mod Claimants
-pub mod Pieced
-pub mod Whole

@@ -1,0 +1,34 @@
+use mathlib.Core.Path.{ap, subst, _∙_}
+use Rattle.resource_timing.specs.inner.Limits.{fixedWith, TimingAmounts}
+use borrow.Author.Needs.{needs}
+use Rattle.resource_timing.proofs.Timed.on.Statement.{statement}
+use Rattle.resource_timing.proofs.Timed.on.Tie as tie
+
+enum-known-timing : tie.Need-enum-known-timing
+enum-known-timing c = search needs
+
+enum-known-timing-2 : tie.Need-enum-known-timing-2
+enum-known-timing-2 c = search needs
+
+fixed-requires : tie.Need-fixed-requires
+fixed-requires c κs = (((c .before .before .before .pre .0)), subst TimingAmounts ((c .before .timing2 .given .1)) ((c .before .before .before .pre .1)))
+
+with-requires : tie.Need-with-requires
+with-requires c κs = search needs
+
+returns : tie.Need-returns
+returns c = rw ((c .before .timing .given .1))
+
+returns-2 : tie.Need-returns-2
+returns-2 c = rw ((c .before .before .before .timing2 .given .1)) (ap (λ w. record { speed = (c .before .before .before .before .before .args .self) .speed; fixed = w }) ((c .with .ensures) ∙ ap (fixedWith ((c .before .before .before .before .before .args .self) .fixed)) (c .before .fixed .ensures)))
+
+pub on-spec : {M : Type 1} → statement M
+on-spec =
+    tie.close
+    (tie.spec
+    enum-known-timing
+    enum-known-timing-2
+    fixed-requires
+    with-requires
+    returns
+    returns-2)

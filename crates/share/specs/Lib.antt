@@ -1,2 +1,0 @@
--- Definitions that the contracts of `share` cite.
-pub mod Share

@@ -1,0 +1,23 @@
+use Rattle.model.proofs.Accepting.{accepted}
+use borrow.Author.Needs.{needs}
+use Rattle.speed.proofs.derive_times.Statement.{statement}
+use Rattle.speed.proofs.derive_times.Tie as tie
+
+held-of-requires : tie.Need-held-of-requires
+held-of-requires c κs = (accepted _ (c .pre .0), c .pre .1, c .pre .2)
+
+needs-of-requires : tie.Need-needs-of-requires
+needs-of-requires c κs = (accepted _ (c .before .before .pre .0), c .before .before .pre .1, c .before .before .pre .2, c .before .held-of .ensures)
+
+refused-requires : tie.Need-refused-requires
+refused-requires c κs = search needs
+
+one-if-fine-requires : tie.Need-one-if-fine-requires
+one-if-fine-requires c κs = search needs
+
+returns : tie.Need-returns
+returns c = search needs
+
+pub derive-times-spec : {M : Type 1} → statement M
+derive-times-spec =
+    tie.close (tie.spec held-of-requires needs-of-requires refused-requires one-if-fine-requires returns)

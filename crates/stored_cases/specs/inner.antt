@@ -1,0 +1,4 @@
+pub mod Line
+pub mod Case
+pub mod Wrote
+pub mod Gives

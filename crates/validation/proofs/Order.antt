@@ -1,0 +1,80 @@
+-- The order of the refusals: what stops a loop over the rows, and what stops the loops. Assumes nothing.
+use Prim.Native.Nat.{ℕ, _%_, _<_, _≤_}
+use mathlib.Core.Path.{_≡_, refl, ap, sym, _∙_}
+use mathlib.Core.Bool.{true, false, not}
+use mathlib.Core.List.{List}
+use mathlib.Core.Option.{Option, none, some}
+use native.Mathlib.Omega.{arith}
+use lib.Dec.{eqb, ltb, leb}
+use lib.IntN.{ℤ}
+use lib.ListN.{length}
+use borrow.Author.Tests.{ltb-false, not-false, leb-true}
+use Rattle.loops.specs.Search.{orElse, first}
+use Rattle.loops.proofs.BoolLaws.{and-right, neither-right}
+use Rattle.loops.proofs.SearchLaws.{first-hit}
+use Rattle.loops.proofs.PlaceLaws.{or-none-left, or-none-right, first-none, if-none}
+use Rattle.rows.specs.Cells.{rowCount, num}
+use Rattle.sheet.specs.inner.Index.{Shaped, Kinds, Linked, Owned}
+use Rattle.refusals.specs.Refusals.{Refusal, refuse, verdictOf}
+use Rattle.sheet.specs.Refusals.{misshapen, knownKind, outOfRange, columnFault, refusalOf}
+use Rattle.refusals.specs.declared.Verdict.{Verdict}
+use Rattle.refusals.specs.declared.Verdict.the-variants.{Fine, Refused}
+use Rattle.validation.specs.inner.Answer.{shapeRefusal, linkRefusal, Tables, Indexing}
+
+pub stops : (f : ℕ → Option Refusal) (i n N : ℕ) {v : Verdict} (a b : ℕ) → i < n → n ≡ N → first f i ≡ none → verdictOf v ≡ f i → v ≡ Refused a b → verdictOf v ≡ first f N
+stops f i n N a b h z p r q = ap verdictOf q ∙ sym (first-hit f i N (omega arith) p (sym r ∙ ap verdictOf q))
+
+pub ends : (x y : Option Refusal) {v : Verdict} (a b : ℕ) → verdictOf v ≡ x → v ≡ Refused a b → verdictOf v ≡ orElse x y
+ends x y a b p q = ap verdictOf q ∙ sym (ap (λ z. orElse z y) (sym p ∙ ap verdictOf q))
+
+or-assoc : (a b c : Option Refusal) → orElse (orElse a b) c ≡ orElse a (orElse b c)
+or-assoc none b c = refl
+or-assoc (some x) b c = refl
+
+-- the two steps are the whole
+pub in-two : (rows : List ℤ) → refusalOf rows ≡ orElse (shapeRefusal rows) (linkRefusal rows)
+unfolding refusalOf shapeRefusal linkRefusal
+in-two rows = sym (or-assoc (refuse (misshapen (length rows)) 1 0) (first (columnFault rows) (rowCount rows)) _)
+
+-- ---- what the first step leaves
+
+pub shaped : (rows : List ℤ) → shapeRefusal rows ≡ none → Shaped rows
+unfolding shapeRefusal misshapen columnFault knownKind
+shaped rows e =
+    let m : misshapen (length rows) ≡ false = if-none (misshapen (length rows)) _ (or-none-left (refuse (misshapen (length rows)) 1 0) _ e) in
+    let l : length rows ≤ 8000 = ltb-false 8000 (length rows) (neither-right (not (eqb (length rows % 10) 0)) (ltb 8000 (length rows)) m) in
+    let f : first (columnFault rows) (rowCount rows) ≡ none = or-none-right (refuse (misshapen (length rows)) 1 0) (first (columnFault rows) (rowCount rows)) e in
+    record {
+      short = omega arith;
+      kinds = λ k z. small k (not-false (knownKind rows k) (if-none (not (knownKind rows k)) _ (or-none-left (refuse (not (knownKind rows k)) 2 k) (refuse (outOfRange rows k) 3 k) (first-none (columnFault rows) (rowCount rows) f k z))));
+    }
+  where
+    small : (k : ℕ) → knownKind rows k ≡ true → num rows k 0 < 32
+    small k h = omega (arith, leb-true (num rows k 0) 24 (and-right (leb 1 (num rows k 0)) (leb (num rows k 0) 24) h))
+
+pub passed : (rows : List ℤ) {v : Verdict} → verdictOf v ≡ shapeRefusal rows → v ≡ Fine → shapeRefusal rows ≡ none
+passed rows e f = sym e ∙ ap verdictOf f
+
+-- ---- the answers of `index`
+
+some-none : (x : Refusal) → some x ≡ none → ⊥
+some-none x e = let z : _≡_ {A = ℕ} 0 1 = cc in omega arith
+
+pub refused : (rows : List ℤ) (v : Verdict) (a b : ℕ) (k l o : List ℕ) → verdictOf v ≡ shapeRefusal rows → v ≡ Refused a b → Indexing rows k l o v k l o
+refused rows v a b k l o e q = record {
+  verdict = ends (shapeRefusal rows) (linkRefusal rows) a b e q ∙ sym (in-two rows);
+  tables = λ z. absurd (some-none _ (sym (ap verdictOf q) ∙ e ∙ z));
+  kept = λ z. (refl, refl, refl);
+}
+
+pub indexed : (rows : List ℤ) (s v : Verdict) (k₀ l₀ o₀ k l o : List ℕ) → verdictOf s ≡ shapeRefusal rows → s ≡ Fine → verdictOf v ≡ linkRefusal rows
+    → Kinds rows k → Linked rows l → Owned rows o → Indexing rows k₀ l₀ o₀ v k l o
+indexed rows s v k₀ l₀ o₀ k l o e q f a b c = record {
+  verdict = f ∙ ap (λ y. orElse y (linkRefusal rows)) (sym (passed rows e q)) ∙ sym (in-two rows);
+  tables = λ z. record { kinds = a; links = b; owned = c };
+  kept = λ z. absurd (z (passed rows e q));
+}
+
+-- the tables of a sheet that is not refused
+pub tables-of : (rows : List ℤ) {k₀ l₀ o₀ k l o : List ℕ} {v : Verdict} → Indexing rows k₀ l₀ o₀ v k l o → refusalOf rows ≡ none → Tables rows k l o
+tables-of rows h e = h .tables (or-none-left (shapeRefusal rows) (linkRefusal rows) (sym (in-two rows) ∙ e))

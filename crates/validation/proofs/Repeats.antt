@@ -1,0 +1,47 @@
+-- A pair of numbers along a kind's chain, and the code's way to refusal 5. Assumes nothing.
+use Prim.Native.Nat.{ℕ, _<_, _≤_}
+use mathlib.Core.Path.{_≡_, sym, _∙_}
+use mathlib.Core.Bool.{Bool, true, false}
+use mathlib.Core.List.{List}
+use native.Mathlib.Omega.{arith}
+use borrow.Author.Tests.{ne-eqb}
+use lib.IntN.{ℤ}
+use Rattle.loops.specs.Search.{anyBelow}
+use Rattle.loops.specs.inner.Chain.{Stands, Blind}
+use Rattle.rows.specs.Cells.{num, is}
+use Rattle.sheet.specs.Places.{named}
+use Rattle.sheet.specs.inner.Groups.{group, namedPair, repeatedIn, repeatedBy}
+
+module _ (rows : List ℤ) (k g id other : ℕ) (q : g ≡ group (num rows k 0)) (e : id ≡ num rows k 1) (f : other ≡ num rows k 2) where
+  found : {r : Bool} → r ≡ repeatedIn rows k g id other → r ≡ repeatedBy rows k
+  found h = rw (← q, ← e, ← f) h
+
+  -- one kind, column 1 decides
+  pub by-id : {r : Bool} → (g ≡ 0 → ⊥) → (g ≡ 9 → ⊥) → (g ≡ 14 → ⊥) → r ≡ anyBelow (named rows g id) k → r ≡ repeatedBy rows k
+  by-id a b c h = found (unfold repeatedIn in rw (ne-eqb g 0 a, ne-eqb g 14 c, ne-eqb g 9 b) h)
+
+  -- one kind, columns 1 and 2 decide
+  pub by-pair : {r : Bool} → g ≡ 14 → r ≡ anyBelow (namedPair rows 14 id other) k → r ≡ repeatedBy rows k
+  by-pair z h = found (unfold repeatedIn in rw z h)
+
+  -- the timings
+  pub by-first : {r : Bool} → g ≡ 9 → r ≡ anyBelow (namedPair rows 9 id other) k → r ≡ true → true ≡ repeatedBy rows k
+  by-first z h t = found (unfold repeatedIn in rw (z, sym h ∙ t))
+
+  pub by-second : {r s : Bool} → g ≡ 9 → r ≡ anyBelow (namedPair rows 9 id other) k → r ≡ false → s ≡ anyBelow (namedPair rows 10 id other) k → s ≡ repeatedBy rows k
+  by-second z h t s = found (unfold repeatedIn in rw (z, sym h ∙ t) s)
+
+pub may-repeat : (rows : List ℤ) (k g : ℕ) → g ≡ group (num rows k 0) → g ≡ 0 → false ≡ repeatedBy rows k
+unfolding repeatedIn
+may-repeat rows k g q z = rw (← q, z)
+
+-- ---- along a kind's chain
+
+pub pair-blind : (rows : List ℤ) (x id other : ℕ) → Blind (named rows x id) (namedPair rows x id other)
+unfolding namedPair
+pair-blind rows x id other = record { still = λ k e. rw e }
+
+pub pair-test : (rows : List ℤ) (x id other n i k : ℕ) {r b : Bool} → i < k → k ≤ n → Stands (named rows x id) n i → r ≡ is rows i 2 other → r ≡ b
+    → namedPair rows x id other i ≡ b
+unfolding namedPair
+pair-test rows x id other n i k l z a e f = rw (a .here (omega arith)) (sym e ∙ f)

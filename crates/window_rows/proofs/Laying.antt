@@ -1,0 +1,177 @@
+-- Windows are laid out row by row along the chain of their owner. Assumes nothing.
+use Prim.Native.Nat.{ℕ, zero, suc, _+_, _*_, _/_, _<_, _≤_, min}
+use mathlib.Core.Path.{_≡_, refl, ap, ap₂, sym, _∙_}
+use mathlib.Core.Logic.{⊎-elim}
+use mathlib.Core.Bool.{true, false, _&&_}
+use mathlib.Core.List.{List, [], _∷_, _++_, map, append-nil}
+use mathlib.Core.Option.{some}
+use native.Mathlib.Omega.{arith}
+use borrow.Author.Tests.{le-leb, lt-leb}
+use lib.Dec.{leb}
+use lib.IntN.{ℤ, pos}
+use lib.ListN.{length}
+use Rattle.loops.specs.Lists.{given}
+use Rattle.loops.specs.Range.{collect}
+use Rattle.loops.specs.Search.{countBelow}
+use Rattle.loops.specs.inner.Chain.{First, Stands}
+use Rattle.loops.proofs.ListLaws.{map-append}
+use Rattle.loops.proofs.RangeLaws.{collect-step, collect-ext}
+use Rattle.loops.proofs.Walks.{over, stands-end}
+use Rattle.loops.specs.inner.Threes.{setThree}
+use Rattle.loops.proofs.ThreeLaws.{three-length, first-is, second-is, third-is, below-kept}
+use Rattle.calendar.specs.Calendar.{Window}
+use Rattle.calendar.specs.Layout.{windowsIn, windowAt, windowOf, windowsOf, calendarOf}
+use Rattle.rows.specs.Cells.{rowCount, num, is}
+use Rattle.sheet.specs.Places.{placeOf}
+use Rattle.sheet.specs.inner.Index.{ownerKind, ownedBy}
+use Rattle.model.specs.Sheet.{sheet}
+use Rattle.model.specs.Resource.{windows}
+use Rattle.model.proofs.OwnedLaws.{of-activity, of-resource}
+use Rattle.model.proofs.Requiring.{count-less}
+use Rattle.window_rows.specs.inner.Laid.{Holder, Laid}
+use Rattle.window_rows.proofs.WindowRows.{windowRow, windowNaming, resource-windows, activity-windows}
+
+-- ---- one window more
+
+module _ (w : List ℕ) (to c s e : ℕ) where
+  others : (i : ℕ) → i < to → windowAt (setThree w to c s e) i ≡ windowAt w i
+  others i l =
+      rw (
+        below-kept w to c s e (3 * i) (omega arith),
+        below-kept w to c s e (3 * i + 1) (omega arith),
+        below-kept w to c s e (3 * i + 2) (omega arith),
+      )
+
+  -- what stands before it stays
+  before-kept : (from j : ℕ) → j ≤ to → calendarOf (setThree w to c s e) from j ≡ calendarOf w from j
+  unfolding calendarOf windowsOf
+  before-kept from j l =
+      ap (map windowOf)
+      (ap (λ n. collect (λ i. given (leb from i) (windowAt (setThree w to c s e) i)) (min j (n / 3))) (three-length w to c s e)
+      ∙ collect-ext _ _ (min j (windowsIn w)) (λ i h. ap (given (leb from i)) (others i (omega arith))))
+
+  module _ (z : length w ≡ 2400) (l : to < 800) where
+    here : windowAt (setThree w to c s e) to ≡ record { closed = c; start = s; end = e }
+    here =
+        rw (
+          first-is w to c s e 2400 z (omega arith),
+          second-is w to c s e 2400 z (omega arith),
+          third-is w to c s e 2400 z (omega arith),
+        )
+
+    one-more : (at : ℕ) → at ≤ to
+        → calendarOf (setThree w to c s e) at (to + 1) ≡ calendarOf w at to ++ (record { closed = c; start = pos s; end = pos e } ∷ [])
+    unfolding calendarOf windowsOf
+    one-more at h =
+        let n : windowsIn w ≡ 800 = ap (λ k. k / 3) z in
+        let n′ : windowsIn (setThree w to c s e) ≡ 800 = ap (λ k. k / 3) (three-length w to c s e ∙ z) in
+        let a : min (to + 1) (windowsIn (setThree w to c s e)) ≡ to + 1 = omega arith in
+        let b : min to (windowsIn w) ≡ to = omega arith in
+        ap (map windowOf)
+        (ap (collect (λ i. given (leb at i) (windowAt (setThree w to c s e) i))) a
+        ∙ collect-step (λ i. given (leb at i) (windowAt (setThree w to c s e) i)) to
+        ∙ ap₂ _++_
+        (collect-ext _ _ to (λ i g. ap (given (leb at i)) (others i g)) ∙ ap (collect (λ i. given (leb at i) (windowAt w i))) (sym b))
+        (ap₂ given (le-leb at to h) here))
+        ∙ map-append windowOf (collect (λ i. given (leb at i) (windowAt w i)) (min to (windowsIn w))) (record { closed = c; start = s; end = e } ∷ [])
+
+-- nothing is laid out yet
+none-below : (w : List ℕ) (at n : ℕ) → n ≤ at → collect (λ i. given (leb at i) (windowAt w i)) n ≡ []
+unfolding collect
+none-below w at zero h = refl
+none-below w at (suc n) h = rw (none-below w at n (omega arith), lt-leb at n (omega arith))
+
+nothing-yet : (w : List ℕ) (at : ℕ) → calendarOf w at at ≡ []
+unfolding calendarOf windowsOf
+nothing-yet w at = ap (map windowOf) (none-below w at (min at (windowsIn w)) (omega arith))
+
+pub same-three : (w : List ℕ) (i : ℕ) {w′ : List ℕ} {a b c a′ b′ c′ : ℕ} → a ≡ a′ → b ≡ b′ → c ≡ c′ → w′ ≡ setThree w i a b c → w′ ≡ setThree w i a′ b′ c′
+same-three w i p q r h = rw (← p, ← q, ← r) h
+
+-- ---- row by row
+
+module _ (rows : List ℤ) (o x : ℕ) where
+  -- the window of row k, if it is one of row o
+  unfoldable pub windowBy : ℕ → List (Window ℤ)
+  windowBy k = given (ownedBy rows o x k) (windowRow rows k)
+
+  -- what the loop knows at row k
+  pub record Laying (w₀ w : List ℕ) (at to k : ℕ) : Type 0 where
+    pub size : length w ≡ 2400
+    pub count : to ≡ at + countBelow (ownedBy rows o x) k
+    pub list : calendarOf w at to ≡ collect windowBy k
+    pub kept : (from j : ℕ) → j ≤ at → calendarOf w from j ≡ calendarOf w₀ from j
+
+  still : (w₀ w : List ℕ) (at to k : ℕ) → ownedBy rows o x k ≡ false → Laying w₀ w at to k → Laying w₀ w at to (k + 1)
+  still w₀ w at to k e g =
+      let q : k + 1 ≡ suc k = omega arith in
+      rw q
+      (record {
+        size = g .size;
+        count = g .count ∙ (unfold countBelow in rw e (omega arith));
+        list = g .list ∙ (unfold collect windowBy in rw e (sym (append-nil _)));
+        kept = g .kept;
+      })
+
+  pub laying-first : {n i : ℕ} (w : List ℕ) (at : ℕ) → First (ownedBy rows o x) 0 n i → length w ≡ 2400 → Laying w w at at i
+  laying-first w at f z =
+      over (λ k. Laying w w at at k) (ownedBy rows o x) 0 _ _ (still w w at at) f
+      (record {
+        size = z;
+        count = unfold countBelow in omega arith;
+        list = unfold collect in nothing-yet w at;
+        kept = λ from j l. refl;
+      })
+
+  pub laying-turn : {w₀ w w′ : List ℕ} {at to k : ℕ} → ownedBy rows o x k ≡ true → to < 800 → w′ ≡ setThree w to (num rows k 2) (num rows k 3) (num rows k 4)
+      → Laying w₀ w at to k → Laying w₀ w′ at (to + 1) (suc k)
+  laying-turn {w₀} {w} {w′} {at} {to} {k} h l e g =
+      let m : at ≤ to = omega (arith, g .count) in
+      rw e
+      (record {
+        size = three-length w to (num rows k 2) (num rows k 3) (num rows k 4) ∙ g .size;
+        count = unfold countBelow in rw h (omega (arith, g .count));
+        list =
+            one-more w to (num rows k 2) (num rows k 3) (num rows k 4) (g .size) l at m
+            ∙ ap (λ y. y ++ windowRow rows k ∷ []) (g .list)
+            ∙ (unfold collect windowBy in rw h);
+        kept = λ from j q. before-kept w to (num rows k 2) (num rows k 3) (num rows k 4) from j (omega arith) ∙ g .kept from j q;
+      })
+
+  pub laying-next : {n j i : ℕ} {w₀ w : List ℕ} {at to : ℕ} → First (ownedBy rows o x) (suc i) n j → Laying w₀ w at to (suc i) → Laying w₀ w at to j
+  laying-next {i = i} {w₀} {w} {at} {to} f g = over (λ k. Laying w₀ w at to k) (ownedBy rows o x) (suc i) _ _ (still w₀ w at to) f g
+
+  -- there is room for one more
+  pub room : {n N i : ℕ} {w₀ w : List ℕ} {at to : ℕ} → Laying w₀ w at to i → i < N → N ≡ n → Stands (ownedBy rows o x) n i → at + countBelow (ownedBy rows o x) n ≤ 800 → to < 800
+  room {n} {N} {i} g l z s b = let h = counts n i (omega arith) (s .here (omega arith)) in omega (arith, g .count)
+    where
+      counts : (m k : ℕ) → k < m → ownedBy rows o x k ≡ true → countBelow (ownedBy rows o x) k < countBelow (ownedBy rows o x) m
+      counts m k q e = count-less (ownedBy rows o x) k m q e
+
+  -- they are those of the definition
+  by-owner : (id : ℕ) → ((k : ℕ) → ownedBy rows o x k ≡ (is rows k 0 x && is rows k 1 id)) → collect windowBy (rowCount rows) ≡ collect (windowNaming rows x id) (rowCount rows)
+  unfolding windowBy
+  by-owner id h = collect-ext _ _ (rowCount rows) (λ k l. ap (λ b. given b (windowRow rows k)) (h k))
+
+  pub windows-are : Holder rows o x → collect windowBy (rowCount rows) ≡ windows (sheet rows) x (num rows o 1)
+  windows-are h =
+      ⊎-elim
+      (λ (q : (x ≡ 16) × (placeOf rows 2 (num rows o 1) ≡ some o)).
+      by-owner (num rows o 1) (rw (q .0) (of-activity rows 16 o (num rows o 1) (unfold ownerKind in refl) (q .1)))
+      ∙ rw (q .0) (sym (activity-windows rows (num rows o 1))))
+      (λ (q : (x ≡ 15) × (placeOf rows 11 (num rows o 1) ≡ some o)).
+      by-owner (num rows o 1) (rw (q .0) (of-resource rows 15 o (num rows o 1) (unfold ownerKind in refl) (q .1)))
+      ∙ rw (q .0) (sym (resource-windows rows (num rows o 1))))
+      h
+
+  pub laid : {N i : ℕ} {w₀ w : List ℕ} {at to : ℕ} → Holder rows o x → N ≤ i → N ≡ rowCount rows → Stands (ownedBy rows o x) (rowCount rows) i
+      → Laying w₀ w at to i → Laid w₀ w at to (windows (sheet rows) x (num rows o 1)) × (to ≡ at + countBelow (ownedBy rows o x) (rowCount rows))
+  laid {i = i} {at = at} h l z s g =
+      let e : i ≡ rowCount rows = stands-end s l z in (
+        record {
+          size = g .size;
+          calendar = g .list ∙ ap (collect windowBy) e ∙ windows-are h;
+          kept = g .kept;
+        },
+        g .count ∙ ap (λ k. at + countBelow (ownedBy rows o x) k) e,
+      )

@@ -1,0 +1,41 @@
+use mir.Syntax.{w64}
+use mir.ValLaws.{toZ-ofZ}
+use mathlib.Core.Path.{ap, _∙_}
+use Rattle.work_end_inquiry.specs.Inquiry.{inquiredCalendar}
+use Rattle.work_end_inquiry.proofs.Ends.{ending-said}
+use borrow.Author.Needs.{needs}
+use Rattle.work_end_inquiry.proofs.ending.Statement.{statement}
+use Rattle.work_end_inquiry.proofs.ending.Tie as tie
+
+resource-calendar-requires : tie.Need-resource-calendar-requires
+resource-calendar-requires c κs = search needs
+
+slice-aggregate-joint-work-end : tie.Need-slice-aggregate-joint-work-end
+slice-aggregate-joint-work-end c = search needs
+
+slice-aggregate-joint-work-end-2 : tie.Need-slice-aggregate-joint-work-end-2
+slice-aggregate-joint-work-end-2 c = search needs
+
+nat-requires : tie.Need-nat-requires
+nat-requires c κs = search needs
+
+joint-work-end-requires : tie.Need-joint-work-end-requires
+joint-work-end-requires c κs = search needs
+
+answer-of-requires : tie.Need-answer-of-requires
+answer-of-requires c κs = search needs
+
+returns : tie.Need-returns
+returns c = ending-said _ (c .before .before .before .before .before .before .before .args .resource) (c .before .before .before .before .before .before .before .args .start) (c .before .before .before .before .before .before .before .args .work) (c .before .before .before .before .before .before .before .pre .0) (c .before .before .before .before .before .before .before .pre .3) _ _ (toZ-ofZ w64 (c .before .before .before .before .before .before .before .args .start) (c .before .before .before .before .before .before .before .fits .start)) (toZ-ofZ w64 (c .before .before .before .before .before .before .before .args .work) (c .before .before .before .before .before .before .before .fits .work)) ((c .before .before .before .before .before .resource-calendar .ensures .0) ∙ ap (inquiredCalendar _) (toZ-ofZ w64 (c .before .before .before .before .before .before .before .args .resource) (c .before .before .before .before .before .before .before .fits .resource))) (c .before .before .nat .ensures) (c .before .joint-work-end .ensures) (c .answer-of .ensures)
+
+pub ending-spec : {M : Type 1} → statement M
+ending-spec =
+    tie.close
+    (tie.spec
+    resource-calendar-requires
+    slice-aggregate-joint-work-end
+    slice-aggregate-joint-work-end-2
+    nat-requires
+    joint-work-end-requires
+    answer-of-requires
+    returns)

@@ -1,0 +1,36 @@
+use mir.Syntax.{w64}
+use mir.ValLaws.{toZ-ofZ}
+use mathlib.Core.Path.{_∙_}
+use Rattle.work_end_inquiry.proofs.Ends.{calendar-none, calendar-known, calendar-unknown}
+use borrow.Author.Needs.{needs}
+use Rattle.work_end_inquiry.proofs.resource_calendar.Statement.{statement}
+use Rattle.work_end_inquiry.proofs.resource_calendar.Tie as tie
+
+range-table-requires : tie.Need-range-table-requires
+range-table-requires c κs = search needs
+
+in-class-requires : tie.Need-in-class-requires
+in-class-requires c κs = search needs
+
+nat-requires : tie.Need-nat-requires
+nat-requires c κs = search needs
+
+resource-windows-requires : tie.Need-resource-windows-requires
+resource-windows-requires c κs = search needs
+
+returns : tie.Need-returns
+returns c = ((c .resource-windows .ensures .0) ∙ calendar-known _ (toZ-ofZ w64 (c .before .before .before .before .before .before .before .args .resource) (c .before .before .before .before .before .before .before .fits .resource)) (c .before .before .before .before .in-class .ensures) (c .before .before .before .if1 .taken) (((c .before .before .nat .ensures))), (c .resource-windows .ensures .1))
+
+returns-2 : tie.Need-returns-2
+returns-2 c = (calendar-none _ ∙ calendar-unknown _ (toZ-ofZ w64 (c .before .before .before .before .args .resource) (c .before .before .before .before .fits .resource)) (c .before .in-class .ensures) (((c .if1 .left))), (c .before .before .before .before .pre .3))
+
+pub resource-calendar-spec : {M : Type 1} → statement M
+resource-calendar-spec =
+    tie.close
+    (tie.spec
+    range-table-requires
+    in-class-requires
+    nat-requires
+    resource-windows-requires
+    returns
+    returns-2)

@@ -1,0 +1,2 @@
+pub mod Inquiry
+pub mod inner
