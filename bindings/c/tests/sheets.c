@@ -1,0 +1,118 @@
+/* Many sheets in one process. Reads texts, each after a line with its length; for each prints what the program check_schedule prints.
+   Beside that, on blocks of the heap that have exactly the lent length, so that sanitizers and valgrind see what is touched beside them:
+   the same answers in exactly the room that is needed, refusal 10 or 7 with one number less, nothing written by a refusal or after the
+   last row or finding, the same refusal by all three calls that are lent rows. Ends with status 1 where one of these fails. */
+#include "hutchdecade.h"
+
+#include <inttypes.h>
+#include <stdio.h>
+#include <stdlib.h>
+#include <string.h>
+
+enum { ROOM = 2000 * HUTCH_FINDING };
+#define MARK INT64_C(-7777777777777777777)
+
+static unsigned long sheet;
+
+static void expect(const char *what, int good) {
+    if (good) return;
+    fprintf(stderr, "sheet %lu: %s\n", sheet, what);
+    exit(1);
+}
+
+static int same(struct hutch_outcome a, struct hutch_outcome b) { return a.number == b.number && a.place == b.place; }
+
+static int is(struct hutch_outcome o, uint64_t number, uint64_t place) { return o.number == number && o.place == place; }
+
+static int64_t *marks(size_t numbers) {
+    int64_t *new = malloc(numbers * sizeof *new);
+    if (!new && numbers) abort();
+    for (size_t i = 0; i < numbers; i++) new[i] = MARK;
+    return new;
+}
+
+static int untouched(const int64_t *lent, size_t first, size_t numbers) {
+    for (size_t i = first; i < numbers; i++)
+        if (lent[i] != MARK) return 0;
+    return 1;
+}
+
+static size_t written(struct hutch_outcome o, size_t each) { return o.number == HUTCH_ACCEPTED ? (size_t)o.place * each : 0; }
+
+/* The text in less room than the program lends. */
+static void read_exactly(const uint8_t *text, size_t length, const int64_t *rows, size_t count) {
+    int64_t *lent = marks(count);
+    expect("read in exact room", is(sheet_read_text(text, length, lent, count), HUTCH_ACCEPTED, count / HUTCH_COLUMNS));
+    expect("the same rows", count == 0 || memcmp(lent, rows, count * sizeof *rows) == 0);
+    free(lent);
+    if (count == 0) return;
+    lent = marks(count - 1);
+    expect("one number less is 10", is(sheet_read_text(text, length, lent, count - 1), HUTCH_REFUSED_CROWDED, count / HUTCH_COLUMNS - 1));
+    expect("10 writes nothing", untouched(lent, 0, count - 1));
+    free(lent);
+}
+
+static void check_exactly(const int64_t *rows, size_t length, const int64_t *findings, size_t count) {
+    int64_t *lent = marks(count);
+    expect("checked in exact room", is(sheet_check_schedule(rows, length, lent, count), HUTCH_ACCEPTED, count / HUTCH_FINDING));
+    expect("the same findings", count == 0 || memcmp(lent, findings, count * sizeof *findings) == 0);
+    free(lent);
+    if (count == 0) return;
+    lent = marks(count - 1);
+    expect("one number less is 7", is(sheet_check_schedule(rows, length, lent, count - 1), HUTCH_REFUSED_FULL, 0));
+    expect("7 writes nothing", untouched(lent, 0, count - 1));
+    free(lent);
+}
+
+/* The calls that are lent rows refuse by 1 to 5 alike; 6 and 7 are the check's alone. */
+static void alike(const int64_t *rows, size_t length, struct hutch_outcome checked) {
+    struct hutch_outcome valid = sheet_validate(rows, length), none = {HUTCH_ACCEPTED, 0};
+    struct hutch_work_end end = sheet_work_end(rows, length, 1, 0, 0);
+    struct hutch_outcome asked = {end.number, end.place};
+    int own = checked.number >= HUTCH_REFUSED_MISSHAPEN && checked.number <= HUTCH_REFUSED_TWICE;
+    expect("the validation's answer", same(valid, own ? checked : none));
+    expect("the inquiry's answer", same(asked, own ? checked : none));
+}
+
+static struct hutch_outcome check(const uint8_t *text, size_t length, int64_t *findings) {
+    int64_t *lent = marks(HUTCH_MAX_NUMBERS);
+    struct hutch_outcome answer = sheet_read_text(text, length, lent, HUTCH_MAX_NUMBERS);
+    size_t count = written(answer, HUTCH_COLUMNS);
+    expect("nothing after the rows", untouched(lent, count, HUTCH_MAX_NUMBERS));
+    if (answer.number == HUTCH_ACCEPTED) {
+        int64_t *rows = marks(count);
+        if (count) memcpy(rows, lent, count * sizeof *rows);
+        read_exactly(text, length, rows, count);
+        answer = sheet_check_schedule(rows, count, findings, ROOM);
+        expect("nothing after the findings", untouched(findings, written(answer, HUTCH_FINDING), ROOM));
+        alike(rows, count, answer);
+        if (answer.number == HUTCH_ACCEPTED) check_exactly(rows, count, findings, written(answer, HUTCH_FINDING));
+        expect("the rows are as they were", count == 0 || memcmp(rows, lent, count * sizeof *rows) == 0);
+        free(rows);
+    }
+    free(lent);
+    return answer;
+}
+
+static void print(struct hutch_outcome answer, const int64_t *findings) {
+    if (answer.number != HUTCH_ACCEPTED) {
+        printf("refused,%" PRIu64 ",%" PRIu64 "\n", answer.number, answer.place);
+        return;
+    }
+    printf("accepted,%" PRIu64 "\n", answer.place);
+    for (const int64_t *f = findings; f < findings + written(answer, HUTCH_FINDING); f += HUTCH_FINDING)
+        printf("%" PRId64 ",%" PRId64 ",%" PRId64 ",%" PRId64 "\n", f[0], f[1], f[2], f[3]);
+}
+
+int main(void) {
+    size_t length;
+    for (; scanf("%zu%*1[\n]", &length) == 1; sheet++) {
+        uint8_t *text = malloc(length);
+        int64_t *findings = marks(ROOM);
+        if ((!text && length) || fread(text, 1, length, stdin) != length) return 3;
+        print(check(text, length, findings), findings);
+        free(text);
+        free(findings);
+    }
+    return 0;
+}
