@@ -1,9 +1,9 @@
 #!/usr/bin/env python3
-"""Times the derived times and refusal 6 (`pieces::held_of`, `times::needs_of`, `times::refused`) as they are built.
+"""Times the derived times and refusal 6 (`pieces::held_of`, `derived_times::needs_of`, `derived_times::refused`) as they are built.
 
-    times.py [--more N] [--rounds N] [--drawn N] [NAME..]      (after `rt check times_speed`; NAME: only sheets whose name has it)
+    times.py [--more N] [--rounds N] [--drawn N] [NAME..]      (after `rt check speed`; NAME: only sheets whose name has it)
 
-The program of the crate `times_speed` is run on accepted sheets of 800 rows that are meant to be the worst for this part, with a count of 1 and
+The program of the crate `speed` is run on accepted sheets of 800 rows that are meant to be the worst for this part, with a count of 1 and
 of 1 + N; a figure is the difference of the two user times, divided by N: the least, the median and the greatest of the rounds. --drawn: the
 same of N accepted sheets that are drawn at random from mixtures of these, of which only the slowest is printed.
 """
@@ -25,6 +25,7 @@ from generate import flat, row  # noqa: E402
 from hard import TASK, activity, book, external, filled, machine, many  # noqa: E402
 from reading import CAP, NONE, bits_of  # noqa: E402
 
+DERIVED_TIMES = 10  # as `speed` numbers its parts
 SLOW, FAST = bits_of(2.0**-10), bits_of(2.0**10)
 
 
@@ -107,15 +108,15 @@ def drawn(rng):
 
 
 def user_time(program, numbers, count):
-    """Seconds; the program must find the sheet accepted every time."""
+    """Seconds; the program must find the sheet accepted."""
     with tempfile.TemporaryFile() as given, tempfile.TemporaryFile() as got:
-        given.write(b"%d\n" % count + reading.spelled(numbers))
+        given.write(b"%d\n%d\n" % (DERIVED_TIMES, count) + reading.spelled(numbers))
         given.seek(0)
         child = subprocess.Popen([program], stdin=given, stdout=got)
         _, status, used = os.wait4(child.pid, 0)
         child.returncode = os.waitstatus_to_exitcode(status)
         got.seek(0)
-        if child.returncode or int(got.read()) != count:
+        if child.returncode or int(got.read()) != 1:
             raise SystemExit(f"times: a sheet is refused: {reading.refused_1_to_6(numbers)}")
         return used.ru_utime
 
@@ -143,7 +144,7 @@ def main():
     parser.add_argument("--drawn", type=int, default=0)
     parser.add_argument("names", nargs="*")
     options = parser.parse_args()
-    program = os.path.join(ROOT, "target", "bin", "times_speed")
+    program = os.path.join(ROOT, "target", "bin", "speed")
     if options.drawn:
         return of_drawn(program, options.drawn, options.more)
     print("| sheet | rows | least ms | median | greatest |\n|-|-|-|-|-|", flush=True)

@@ -1,15 +1,16 @@
 #!/usr/bin/env python3
-"""Makes the stored cases of calendar time: crates/calendar_cases/stdin (questions) and stdout (answers expected).
+"""Makes the stored list of questions about calendar time with their answers.
 
-    tools/cases/calendar_cases.py [FOLDER]      # FOLDER: crates/calendar_cases
+    calendar_cases.py [FOLDER]
 
-Always the same files. Every answer is worked out from document 01's "Calendar time" by arithmetic on lists of intervals (sort, merge,
+The same run gives the same file. Every answer is worked out from the rules' "Calendar time" by arithmetic on lists of intervals (sort, merge,
 cut), and every case whose numbers are small a second time by plain sets of milliseconds; the two must agree. Neither steps from one
 start or end to the next, as the library does. Examples G to L stand first and are written down by hand, as are the named cases' answers.
 """
-import os
 import random
 import sys
+
+import listing
 
 MOST = 2**64 - 1
 END = 4_000_000_000_000
@@ -158,6 +159,34 @@ def answer_by_sets(kind, numbers, places, x, y, z):
 
 
 CASES = []
+OUTCOMES = {"pause": 1, "never": 2, "beyond": 3}
+
+
+def spelled(x):
+    """A number of 64 bits, the last four as -4 to -1."""
+    assert x < 2**63 or MOST - x < 4
+    return x if x < 2**63 else x - MOST - 1
+
+
+def judged(kind, places, x, y, z, got):
+    """The line that has a question judged: what it asks and the answer, then the places."""
+    x, yes = spelled(x), int(got == "yes")
+    end = [OUTCOMES[got], 0] if got in OUTCOMES else [0, spelled(int(got))] if got.isdigit() else []
+    letter, numbers = {
+        FITS: ("F", [x, spelled(y), yes]),
+        WORKS: ("W", [x, yes]),
+        JOINT: ("J", [x, yes]),
+        AVAILABLE: ("A", [x, spelled(y), *end[1:]]),
+        WORK_END: ("E", [x, -z if y == 1 else z, *end]),
+        END_FROM: ("B", [x, spelled(y), *end]),
+    }[kind]
+    return listing.line(letter, numbers + places)
+
+
+def group(name):
+    """The name of the cases to come; a case is told by it and its number among them."""
+    global named
+    named = [name, 0]
 
 
 def case(kind, numbers, places, x, y=0, z=0, expected=None):
@@ -166,14 +195,16 @@ def case(kind, numbers, places, x, y=0, z=0, expected=None):
     if kind != FITS and max(numbers + [x, y, z]) < 200:
         assert got == answer_by_sets(kind, numbers, places, x, y, z), (kind, numbers, places, x, y, z)
     assert expected is None or got == str(expected), (kind, numbers, places, x, y, z, got, expected)
-    CASES.append(([kind, len(numbers), *numbers, len(places), *places, x, y, z], got))
+    named[1] += 1
+    windows = [listing.line("n", [1, *map(spelled, numbers[at : at + 3])]) for at in range(0, len(numbers), 3)]
+    CASES.append(listing.case(" ".join(map(str, named)), *windows, judged(kind, places, x, y, z, got)))
 
 
 def ends(numbers, places, start, work, expected=None):
     case(WORK_END, numbers, places, start, 1 if work < 0 else 0, abs(work), expected)
 
 
-# ---- document 01's examples, then named cases
+# ---- the rules' examples, then named cases
 
 def examples():
     shut, two = [(1, 5, 5)], [(0, 0, 10), (0, 20, 30)]
@@ -349,23 +380,18 @@ def at_random(r, instant, amount, many, rounds):
         case(END_FROM, numbers, places, near(), r.choice([0, 1, left, left + 1, amount()]))
 
 
-def main():
-    folder = sys.argv[1] if len(sys.argv) > 1 else os.path.join(os.path.dirname(__file__), "..", "..", "crates", "calendar_cases")
-    examples()
-    named_fits()
-    named_working()
-    named_available()
-    named_ends()
+def main(folder):
+    for name, make in [("example", examples), ("fits", named_fits), ("working", named_working), ("available", named_available), ("ends", named_ends)]:
+        group(name)
+        make()
     r = random.Random(20261115)
+    group("small")
     at_random(r, lambda: r.randrange(40), lambda: r.randrange(60), 9, 45)
+    group("large")
     at_random(r, lambda: r.randrange(END + 1) if r.random() < 0.9 else r.choice([0, END]), lambda: r.randrange(END + 1), 9, 15)
-    text = "".join(",".join(map(str, numbers)) + "\n" for numbers, _ in CASES)
-    assert len(text) <= 65536
-    with open(os.path.join(folder, "stdin"), "w") as f:
-        f.write(text)
-    with open(os.path.join(folder, "stdout"), "w") as f:
-        f.write("".join(got + "\n" for _, got in CASES))
-    print(len(CASES), "cases,", len(text), "bytes")
+    listing.write(folder, "cases", CASES, None)
+    print(len(CASES), "cases of calendar time")
 
 
-main()
+if __name__ == "__main__":
+    main(sys.argv[1] if len(sys.argv) > 1 else listing.folder_of("replay_calendar"))

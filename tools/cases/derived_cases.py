@@ -513,4 +513,4 @@ def main(folder):
 
 
 if __name__ == "__main__":
-    main(sys.argv[1] if len(sys.argv) > 1 else listing.folder_of("derived_cases"))
+    main(sys.argv[1] if len(sys.argv) > 1 else listing.folder_of("replay_derived_times"))

@@ -4,7 +4,7 @@
     findings_cases.py [FOLDER]
 
 The findings are those of the reference, compiled unchanged; the refusals 1 to 6 and the room (7) are those of the second
-reading of document 01. For the sheets of findings_named.py the findings were written down by hand too, and the reference
+reading of the rules. For the sheets of findings_named.py the findings were written down by hand too, and the reference
 is held to them. The same run gives the same files.
 """
 import random
@@ -15,7 +15,7 @@ import listing
 import answering
 import generate
 import reading
-from findings_named import NAMED
+from findings_named import LATER, NAMED
 from generate import flat, row
 from reading import CAP, NONE, bits_of
 
@@ -24,7 +24,7 @@ ROOM = 8000
 
 
 def numbers_of(lines):
-    """Rows from lines as in document 01's text."""
+    """Rows from lines as in the rules' text."""
     rows = [[NONE if x == "" else int(x) for x in line.split(",")] for line in lines]
     return flat([r + [0] * (10 - len(r)) for r in rows])
 
@@ -59,8 +59,8 @@ def said(findings):
     return " ".join(["accepted", str(len(lines)), *lines])
 
 
-def named(c):
-    for remark, lines, findings in NAMED:
+def named(c, sheets):
+    for remark, lines, findings in sheets:
         c.case(remark, numbers_of(lines), expected=said(findings))
 
 
@@ -148,15 +148,16 @@ def shifts(c):
 
 def main(folder):
     c = Calls()
-    named(c)
+    named(c, NAMED)
     rooms(c)
     refusals(c)
     seen = drawn(c)
     shifts(c)
+    named(c, LATER)
     cases = list(c.cases())
     listing.write(folder, "findings", cases)
     print(f"{len(cases)} cases; drawn, by check and type: " + ", ".join(f"{'.'.join(p)} {n}" for p, n in sorted(seen.items())))
 
 
 if __name__ == "__main__":
-    main(sys.argv[1] if len(sys.argv) > 1 else listing.folder_of("findings_cases"))
+    main(sys.argv[1] if len(sys.argv) > 1 else listing.folder_of("replay_findings"))

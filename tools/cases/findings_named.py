@@ -1,4 +1,4 @@
-"""Sheets made by hand for the points at which a check can go wrong, each with the findings that document 01 and the Rust
+"""Sheets made by hand for the points at which a check can go wrong, each with the findings that the rules and the Rust
 give it, written down by hand: CHECK.TYPE.ENTITY, in order (check 5's in the order of resources). findings_cases.py holds
 the reference to them.
 
@@ -317,4 +317,11 @@ NAMED = [
     ("one of each check", ["1,1,5,", TEN, NEEDS, "2,11,1,1,0,10,0,0,", "2,13,1,2,0,6,0,0,", "4,13,1,0,0", "5,13,7,1,1", MACHINE, "15,5,0,0,9", "21", "22,0,10", "22,0,11",
                            "23,10,1,5,0,9,0,,", "24,11,1,8,9", "23,13,1,5,8,12,0,0,4", "7,10,0,3"],
      "1.10.10 2.10.11 3.10.13 4.5.5 5.2.5 6.4.5 7.3.11 7.3.13 8.1.1 9.8.0"),
+]
+
+# Sheets that came later. They stand at the end of the list, so that what is drawn between stays as it was.
+LATER = [
+    # 7 check_precedence
+    ("each piece just in time for its own transport", TWO_STEPS + ["11,8,7,1", "14,5,6,1", "14,5,8,5", "4,11,2,0,0", BOOKED, "23,11,1,6,11,16,0,0,5",
+                                                                  "23,11,1,8,15,20,0,1,5"], ""),
 ]

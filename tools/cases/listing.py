@@ -13,9 +13,8 @@ SPELLED = {b"\n": b"|", b"\r": b"$", b"\x00": b"^", b"\xff": b"~"}  # bytes of a
 
 
 def folder_of(crate):
-    """Where the list of a program is: in its crate, if that has it whole (README.md), else here."""
-    home, here = os.path.join(ROOT, "crates", crate, "data"), os.path.join(HERE, crate)
-    return home if os.path.isdir(home) and not os.path.isdir(here) else here
+    """Where the list of a program is."""
+    return os.path.join(ROOT, "crates", crate, "data")
 
 
 # ---- writing ----------------------------------------------------------------------------------------------
@@ -135,7 +134,7 @@ def cases_of(path):
         tag, rest = line[:1], line[1:]
         if tag == b"#":
             case.remark = rest.strip().decode()
-        elif tag in b"RTCDPSO" and tag:
+        elif tag.isupper():
             yield tag.decode(), [number(x) for x in rest.split(b",")], case
             case = Case()
         elif tag:

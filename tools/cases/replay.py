@@ -1,5 +1,5 @@
 #!/usr/bin/env python3
-"""Reads the stored lists back, as the programs in the gate do, and holds each case to the second reading of document 01
+"""Reads the stored lists back, as the programs in the gate do, and holds each case to the second reading of the rules
 and the reference. Silent where all hold, but for the counts.
 
     replay.py [FILE..]        (no FILE: every list)
@@ -54,7 +54,64 @@ def overlap_case(_, bits, lag, start, end, first, last):
     return first == reading.overlap_start(bits, start, end) and last == end + lag
 
 
-CASES = {"R": rows_case, "T": text_case, "D": derived_case, "P": process_case, "S": share_case, "O": overlap_case}
+# ---- calendar time: the gathered numbers are windows, the last numbers of a line are calendars, as pairs of places
+
+
+def instant(z):
+    return z % 2**64
+
+
+def calendars(case, places):
+    """(opens, closures) for each pair of places."""
+    numbers = [instant(z) for z in case.numbers]
+    windows = [numbers[3 * i : 3 * i + 3] for i in range(len(numbers) // 3)]
+    chosen = [windows[a:b] for a, b in zip(places[::2], places[1::2])]
+    return [tuple([(s, e) for c, s, e in some if c == closed] for closed in (0, 1)) for some in chosen]
+
+
+def joint_end(found, start, work):
+    """Where work ends that is started at an instant, whether that is working time or not; none where too little follows."""
+    if work == 0:
+        return start
+    edges = sorted({start} | {x for windows in found for some in windows for w in some for x in w if x > start})
+    for a, b in zip(edges, edges[1:] + [None]):
+        if all(reading.works(*c, a) for c in found):
+            if b is None or b - a >= work:
+                return a + work
+            work -= b - a
+    return None
+
+
+def is_end(end, outcome, expected):
+    told = 2 if end is None else 3 if end >= 2**64 else 0
+    return outcome == told and (told != 0 or end == instant(expected))
+
+
+def fits_case(case, x, y, yes, *places):
+    return (yes == 1) == reading.interval_fits(*calendars(case, places)[0], instant(x), instant(y))
+
+
+def joint_case(case, x, yes, *places):
+    return (yes == 1) == all(reading.works(*c, instant(x)) for c in calendars(case, places))
+
+
+def available_case(case, x, y, ms, *places):
+    return instant(ms) == reading.available_ms(calendars(case, places), instant(x), instant(y))
+
+
+def work_end_case(case, x, work, outcome, end, *places):
+    found = calendars(case, places)
+    if not all(reading.works(*c, instant(x)) for c in found):
+        return outcome == 1
+    return is_end(joint_end(found, instant(x), max(work, 0)), outcome, end)
+
+
+def end_from_case(case, x, work, outcome, end, *places):
+    return is_end(joint_end(calendars(case, places), instant(x), instant(work)), outcome, end)
+
+
+CALENDAR = {"F": fits_case, "W": joint_case, "J": joint_case, "A": available_case, "E": work_end_case, "B": end_from_case}
+CASES = {**CALENDAR, "R": rows_case, "T": text_case, "D": derived_case, "P": process_case, "S": share_case, "O": overlap_case}
 
 
 def call_said(case, number, place):
@@ -85,5 +142,5 @@ def main(files):
 
 
 if __name__ == "__main__":
-    folders = [listing.folder_of(x) for x in ("sheet_cases", "derived_cases", "findings_cases")]
+    folders = [listing.folder_of(x) for x in ("replay_sheets", "replay_calendar", "replay_derived_times", "replay_findings")]
     main(sys.argv[1:] or [x for folder in folders for x in sorted(glob.glob(os.path.join(folder, "*.txt")))])

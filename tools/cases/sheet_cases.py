@@ -1,9 +1,9 @@
 #!/usr/bin/env python3
-"""Makes the stored list of rows and texts with the refusal or acceptance that document 01 gives them.
+"""Makes the stored list of rows and texts with the refusal or acceptance that the rules gives them.
 
     sheet_cases.py [FOLDER]
 
-The answers are those of the second reading of document 01 (../differential/reading.py). Where a case below names its
+The answers are those of the second reading of the rules (../differential/reading.py). Where a case below names its
 answer, that was written down by hand, and the reading is held to it. The same run gives the same files.
 """
 import random
@@ -311,7 +311,7 @@ def lines(c):
     c.case("every kind", b"".join(line_of(k) for k in KINDS), expected=24)
     c.case("every column none", b"".join(b"%d" % k + b"," * len(COLUMNS[k]) + b"\n" for k in KINDS), expected=24)
     example = b"1,1,100,\n2,10,1,0,0,60,0,0,\n5,10,7,1,1\n11,5,7,1\n23,10,1,5,50,110,0,,\n"
-    c.case("document 01's example", example, expected=5)
+    c.case("the rules' example", example, expected=5)
     c.case("its five rows just lent", example, lent=5, expected=5)
     c.case("one row less lent", example, lent=4, expected=(10, 4))
     c.case("no row lent", example, lent=0, expected=(10, 0))
@@ -436,4 +436,4 @@ def main(folder):
 
 
 if __name__ == "__main__":
-    main(sys.argv[1] if len(sys.argv) > 1 else listing.folder_of("sheet_cases"))
+    main(sys.argv[1] if len(sys.argv) > 1 else listing.folder_of("replay_sheets"))

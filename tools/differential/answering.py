@@ -1,4 +1,4 @@
-"""Answers cases by the second reading of document 01 (reading.py) and the reference (reference/)."""
+"""Answers cases by the second reading of the rules (reading.py) and the reference (reference/)."""
 import os
 import subprocess
 

@@ -1,4 +1,4 @@
-"""Holds the second reading and the reference to document 01's own examples and edges. Silent where all hold."""
+"""Holds the second reading and the reference to the rules' own examples and edges. Silent where all hold."""
 import reading
 from answering import answers
 from reading import CAP, NONE, bits_of

@@ -1,5 +1,5 @@
-"""A second reading of document 01, made from its text alone and apart from the product: the refusals 1 to 6,
-the text, derived times and calendar time. Each function stands beside the part of document 01 that it names.
+"""A second reading of the rules, made from its text alone and apart from the product: the refusals 1 to 6,
+the text, derived times and calendar time. Each function stands beside the part of the rules that it names.
 The findings of accepted sheets are not here: they come from the reference (reference/).
 
 An answer is ("refused", NUMBER, PLACE) or ("accepted", ...).

@@ -9,10 +9,10 @@ pub mod model;
 use models::{Constraint, Violation, ViolationType};
 use scheduler::{feasibility, feasibility_by_check};
 
-/// A finding: check, type, entity, severity (document 01, "The call").
+/// A finding: check, type, entity, severity (the rules, "The call").
 pub type Finding = [i64; 4];
 
-/// Document 01's number of a type.
+/// The rules' number of a type.
 fn type_number(violation_type: &ViolationType) -> i64 {
     match violation_type {
         ViolationType::DeadlineMiss => 1,
@@ -50,7 +50,7 @@ pub fn violations(model: &model::Model) -> Vec<Violation> {
 }
 
 /// The findings of an accepted sheet, check 5's in the order of their resources. Panics on a sheet that
-/// document 01 refuses, on any overflow in the build with overflow checks, and if the nine checks called
+/// the rules refuses, on any overflow in the build with overflow checks, and if the nine checks called
 /// one by one do not give what `check_schedule` gives.
 pub fn findings(rows: &[i64]) -> Vec<Finding> {
     let model = model::model(rows);

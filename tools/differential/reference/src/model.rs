@@ -1,4 +1,4 @@
-//! The reference's models from the rows of an accepted sheet (document 01, "The call").
+//! The reference's models from the rows of an accepted sheet (the rules, "The call").
 
 use std::collections::HashMap;
 
@@ -109,7 +109,7 @@ fn owners(rows: &[i64]) -> Owners {
     o
 }
 
-/// The models of an accepted sheet. Panics on a sheet that document 01 refuses.
+/// The models of an accepted sheet. Panics on a sheet that the rules refuses.
 pub fn model(rows: &[i64]) -> Model {
     let mut o = owners(rows);
     let mut schedule = Schedule::new();

@@ -1,5 +1,5 @@
 //! Stand-in for u_numflow, of which the reference uses `IntervalSet` alone. The crate was not at hand:
-//! this follows document 01, "Calendar time", where the set is a set of whole milliseconds.
+//! this follows the rules, "Calendar time", where the set is a set of whole milliseconds.
 
 pub mod collections {
     /// A set of whole numbers: ordered, disjoint, non-empty half-open stretches that do not touch.

@@ -1,0 +1,185 @@
+/* Times the call of several builds of the library on the same sheets, in turns, in one process; the first two are also compared.
+
+       between LAYOUT ROUNDS OLD.so NEW.so OLD-AGAIN.so < SHEETS
+
+   Reads lines "GROUP|NAME|N N ..". Writes for each a line "GROUP|NAME|ROWS|NUMBER|PLACE|ROUNDS|OLD|NEW|OLD AGAIN|ANSWERS": the medians in
+   nanoseconds, the number and the place that the old one answers, and of the answers `same`, `order` (the same but for the order of check 5's
+   lines) or what differs. The sheets of the group `once` come first and are run one after the other, each once in a round; any other is run alone,
+   round after round. LAYOUT is a number that decides which comes first and how far apart they lie: at a distance of, say, 128 KiB two copies of the same code
+   teach each other's branches to the processor, and the third one looks slower by up to a fifth. */
+#include <dlfcn.h>
+#include <stdint.h>
+#include <stdio.h>
+#include <stdlib.h>
+#include <string.h>
+#include <sys/mman.h>
+#include <time.h>
+
+enum { ARMS = 3, ORDERS = 6, ROOM = 800000, LINE = 4, PAGE = 4096, APART = 4096 };
+
+static const double LONG_NS = 1e6;   /* a call that takes longer is timed by the processor time of the thread: it may be interrupted */
+static const double BUDGET_NS = 4e8; /* how long the rounds of a sheet may take together, once each arm was at each place */
+static const int64_t MARK = -7777777777777777777;
+
+/* In a row of these each arm comes equally often at each place, and right after each of the others; in three each was at each place. */
+static const unsigned ORDER[ORDERS][ARMS] = {{0, 1, 2}, {1, 2, 0}, {2, 0, 1}, {2, 1, 0}, {1, 0, 2}, {0, 2, 1}};
+
+struct outcome {
+    uint64_t number, place;
+};
+typedef struct outcome check(const int64_t *rows, size_t length, int64_t *findings, size_t room);
+
+struct sheet {
+    char *group, *name;
+    int64_t *rows;
+    size_t length;
+    double *times[ARMS];
+    size_t rounds;
+};
+
+static check *arms[ARMS];
+static unsigned layout;
+static int64_t findings[ROOM], other[ROOM];
+
+static double now(clockid_t clock) {
+    struct timespec t;
+    clock_gettime(clock, &t);
+    return t.tv_sec * 1e9 + t.tv_nsec;
+}
+
+static void fail(const char *what) {
+    fprintf(stderr, "between: %s\n", what);
+    exit(1);
+}
+
+static void *got(void *memory) {
+    if (!memory) fail("no memory");
+    return memory;
+}
+
+/* Up to APART pages below the last one. */
+static check *load(const char *path) {
+    mmap(NULL, (rand() % APART + 1) * (size_t)PAGE, PROT_NONE, MAP_PRIVATE | MAP_ANONYMOUS, -1, 0);
+    void *library = dlopen(path, RTLD_NOW | RTLD_LOCAL);
+    if (!library) fail(dlerror());
+    check *found = (check *)dlsym(library, "sheet_check_schedule");
+    if (!found) fail(dlerror());
+    return found;
+}
+
+static struct sheet sheet_of(char *line, size_t rounds) {
+    struct sheet s = {.group = strdup(strtok(line, "|")), .name = strdup(strtok(NULL, "|"))};
+    char *at = strtok(NULL, "|\n");
+    s.rows = got(malloc((strlen(at ? at : "") / 2 + 1) * sizeof *s.rows));
+    for (char *end = at; at; at = end) {
+        int64_t x = strtoll(at, &end, 10);
+        if (end == at) break;
+        s.rows[s.length++] = x;
+    }
+    for (int arm = 0; arm < ARMS; arm++) s.times[arm] = got(malloc(rounds * sizeof **s.times));
+    return s;
+}
+
+/* Which arm is the k-th of a round; each layout begins with another. */
+static int turn(size_t round, int k) { return (ORDER[round % ORDERS][k] + layout) % ARMS; }
+
+static double timed(check *arm, const struct sheet *s, clockid_t clock) {
+    double start = now(clock);
+    arm(s->rows, s->length, findings, ROOM);
+    return now(clock) - start;
+}
+
+static void one_round(struct sheet *s, clockid_t clock) {
+    for (int k = 0; k < ARMS; k++) {
+        int arm = turn(s->rounds, k);
+        s->times[arm][s->rounds] = timed(arms[arm], s, clock);
+    }
+    s->rounds++;
+}
+
+static void run_alone(struct sheet *s, size_t rounds) {
+    clockid_t clock = timed(arms[turn(0, 0)], s, CLOCK_MONOTONIC) > LONG_NS ? CLOCK_THREAD_CPUTIME_ID : CLOCK_MONOTONIC;
+    double start = now(CLOCK_MONOTONIC);
+    while (s->rounds < rounds && (s->rounds % ARMS || !s->rounds || now(CLOCK_MONOTONIC) - start < BUDGET_NS)) one_round(s, clock);
+}
+
+/* Each arm goes through all the sheets before the next does, so that none meets a sheet that was just met. */
+static void run_once_each(struct sheet *s, size_t count, size_t rounds) {
+    for (size_t round = 0; round < rounds; round++)
+        for (int k = 0; k < ARMS; k++) {
+            int arm = turn(round, k);
+            for (size_t i = 0; i < count; i++) s[i].times[arm][round] = timed(arms[arm], &s[i], CLOCK_MONOTONIC);
+        }
+    for (size_t i = 0; i < count; i++) s[i].rounds = rounds;
+}
+
+static int by_size(const void *a, const void *b) {
+    double x = *(const double *)a, y = *(const double *)b;
+    return (x > y) - (x < y);
+}
+
+static double median(double *times, size_t count) {
+    qsort(times, count, sizeof *times, by_size);
+    return (times[count / 2] + times[(count - 1) / 2]) / 2;
+}
+
+static struct outcome written(check *arm, const struct sheet *s, int64_t *to) {
+    for (size_t i = 0; i < ROOM; i++) to[i] = MARK;
+    return arm(s->rows, s->length, to, ROOM);
+}
+
+static int by_numbers(const void *a, const void *b) {
+    const int64_t *x = a, *y = b;
+    for (int i = 0; i < LINE; i++)
+        if (x[i] != y[i]) return x[i] < y[i] ? -1 : 1;
+    return 0;
+}
+
+/* Sorts each run of lines of check 5. */
+static void sort_check_5(int64_t *list, uint64_t count) {
+    for (uint64_t from = 0, to; from < count; from = to) {
+        for (to = from; to < count && list[LINE * to] == 5; to++) continue;
+        qsort(list + LINE * from, to - from, LINE * sizeof *list, by_numbers);
+        if (to == from) to++;
+    }
+}
+
+static void print_answers(struct outcome a, struct outcome b) {
+    if (a.number != b.number || a.place != b.place) {
+        printf("answers %lu, %lu and %lu, %lu\n", a.number, a.place, b.number, b.place);
+    } else if (!memcmp(findings, other, sizeof findings)) {
+        puts("same");
+    } else {
+        if (!a.number && a.place <= ROOM / LINE) sort_check_5(findings, a.place), sort_check_5(other, a.place);
+        size_t i = 0;
+        while (i < ROOM && findings[i] == other[i]) i++;
+        i == ROOM ? puts("order") : printf("the lent number at %zu: %ld and %ld\n", i, findings[i], other[i]);
+    }
+}
+
+static void print_sheet(struct sheet *s) {
+    struct outcome a = written(arms[0], s, findings), b = written(arms[1], s, other);
+    printf("%s|%s|%zu|%lu|%lu|%zu", s->group, s->name, s->length / 10, a.number, a.place, s->rounds);
+    for (int arm = 0; arm < ARMS; arm++) printf("|%.0f", median(s->times[arm], s->rounds));
+    putchar('|');
+    print_answers(a, b);
+}
+
+int main(int count, char **words) {
+    if (count != 3 + ARMS) fail("usage: between LAYOUT ROUNDS OLD.so NEW.so OLD-AGAIN.so < SHEETS");
+    size_t rounds = strtoul(words[2], NULL, 10), sheets = 0, once = 0, room = 0;
+    layout = strtoul(words[1], NULL, 10);
+    srand(layout + 1); /* 0 and 1 would be the same */
+    for (int k = 0; k < ARMS; k++) arms[turn(0, k)] = load(words[3 + turn(0, k)]);
+    struct sheet *all = NULL;
+    char *line = NULL;
+    while (getline(&line, &room, stdin) > 0) {
+        all = got(realloc(all, (sheets + 1) * sizeof *all));
+        all[sheets++] = sheet_of(line, rounds);
+    }
+    while (once < sheets && !strcmp(all[once].group, "once")) once++;
+    run_once_each(all, once, rounds);
+    for (size_t i = once; i < sheets; i++) run_alone(&all[i], rounds);
+    for (size_t i = 0; i < sheets; i++) print_sheet(&all[i]);
+    return 0;
+}
