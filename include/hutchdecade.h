@@ -79,9 +79,9 @@ extern "C" {
 
 /* The stack of each call, in bytes. */
 #define HUTCH_STACK_READ_TEXT 1024
-#define HUTCH_STACK_VALIDATE 87040
-#define HUTCH_STACK_CHECK_SCHEDULE 164864
-#define HUTCH_STACK_WORK_END 131072
+#define HUTCH_STACK_VALIDATE 31744
+#define HUTCH_STACK_CHECK_SCHEDULE 124928
+#define HUTCH_STACK_WORK_END 51200
 
 /* `number` of an answer: accepted, or why not. `place` of a refusal is the row, counted from 0, or the line of a text; 0 for 1, 7 and 8. */
 enum hutch_number {

@@ -55,11 +55,11 @@ pub mod stack {
     /// Of [`crate::read_text`].
     pub const READ_TEXT: usize = 1024;
     /// Of [`crate::validate`].
-    pub const VALIDATE: usize = 87040;
+    pub const VALIDATE: usize = 31744;
     /// Of [`crate::check_schedule`].
-    pub const CHECK_SCHEDULE: usize = 164864;
+    pub const CHECK_SCHEDULE: usize = 124928;
     /// Of [`crate::work_end`].
-    pub const WORK_END: usize = 131072;
+    pub const WORK_END: usize = 51200;
 }
 
 /// The kinds of rows: the first number of each. The header has their columns.

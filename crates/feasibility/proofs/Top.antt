@@ -68,8 +68,8 @@ module _ (rows o : List ℤ) where
         }
 
     -- the first pass held them all, and they were copied
-    pub accepted-copy : {x o′ : List ℤ} {k : ℕ} → length o < 2 ^ 60 → length o₀ ≡ 1024 → sink x k ≡ emit (sink o₀ 0) (findings rows)
-        → k ≤ length o / 4 → k ≤ 256 → o′ ≡ sets o 0 (take (4 * k) x) → Checked rows o (Call·Accepted k) o′
+    pub accepted-copy : {x o′ : List ℤ} {k : ℕ} → length o < 2 ^ 60 → length o₀ ≡ 4096 → sink x k ≡ emit (sink o₀ 0) (findings rows)
+        → k ≤ length o / 4 → k ≤ 1024 → o′ ≡ sets o 0 (take (4 * k) x) → Checked rows o (Call·Accepted k) o′
     unfolding refusal
     accepted-copy {x = x} {k = k} short room ran fits few copied =
         let fs : List Violation = findings rows in

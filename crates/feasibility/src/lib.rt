@@ -90,12 +90,12 @@ fn write_findings(
     ensures { λ r. ⌜ Checked (now (rows .entry)) (now (out .entry)) r (now (out .exit)) ⌝ }
 {
     let lacking = check6_calendars::lacking_of(rows, kinds, links, owned, need);
-    let mut first = [0i64; 1024];
+    let mut first = [0i64; 4096];
     let count = check_all(rows, kinds, links, owned, held, need, &lacking, &mut first);
     if count > out.len() / 4 {
         return Answer::Refused(refusals::FULL, 0);
     }
-    if count <= 256 {
+    if count <= 1024 {
         let end = 4 * count;
         line_buffer::store(out, 0, &first[..end]);
         return Answer::Accepted(count);
