@@ -1,12 +1,16 @@
 #!/usr/bin/env python3
 """Makes the stored list of sheets with the reference's findings.
 
-    findings_cases.py [FOLDER]
+    findings_cases.py [FOLDER]            the list anew
+    findings_cases.py --keep [FOLDER]     the stored sheets as they are, with the answers of today's reference; prints the cases whose
+                                          answers changed. A sheet of findings_named.py that is not stored yet is added at the end
 
 The findings are those of the reference, compiled unchanged; the refusals 1 to 6 and the room (7) are those of the second
 reading of the rules. For the sheets of findings_named.py the findings were written down by hand too, and the reference
-is held to them. The same run gives the same files.
+is held to them. The same run gives the same files. After a change of a rule --keep is the one to use: the sheets of the whole
+list are drawn by what the reference finds in them, so that anew other sheets are drawn.
 """
+import os
 import random
 import sys
 
@@ -146,6 +150,32 @@ def shifts(c):
                 c.case(f"{remark}, shifted by {by}", reading.shifted(numbers, by), room)
 
 
+def stored(folder):
+    """The cases that are stored, by file: remark, numbers, room, and the judged line."""
+    files = sorted((f for f in os.listdir(folder) if f.startswith("findings-")), key=lambda f: int(f[9:-4]))
+    return {f: [(case.remark, case.numbers, judged, case.expected) for _, judged, case in listing.cases_of(os.path.join(folder, f))] for f in files}
+
+
+def keep(folder):
+    files, hand = stored(folder), {remark: (numbers_of(lines), said(findings)) for remark, lines, findings in NAMED + LATER}
+    known = {remark for cases in files.values() for remark, *_ in cases}
+    files[list(files)[-1]] += [(remark, numbers, [ROOM], None) for remark, (numbers, _) in hand.items() if remark not in known]
+    changed = []
+    for file, cases in files.items():
+        c = Calls()
+        for remark, numbers, judged, _ in cases:
+            numbers, expected = hand.get(remark, (numbers, None))
+            c.case(remark, numbers, judged[0], expected)
+        made = list(c.cases())
+        for (remark, _, judged, expected), text in zip(cases, made, strict=True):
+            lines = [[int(x) for x in line[1:].split(b",")] for line in text.split(b"\n") if line[:1] in (b"e", b"C")]
+            if [x for times, *finding in lines[:-1] for x in finding * times] != expected or lines[-1] != judged:
+                changed.append(remark)
+        with open(os.path.join(folder, file), "wb") as out:
+            out.write(b"".join(made))
+    print(f"{sum(map(len, files.values()))} cases, {len(changed)} changed or new" + "".join(f"\n  {remark}" for remark in changed))
+
+
 def main(folder):
     c = Calls()
     named(c, NAMED)
@@ -160,4 +190,5 @@ def main(folder):
 
 
 if __name__ == "__main__":
-    main(sys.argv[1] if len(sys.argv) > 1 else listing.folder_of("replay_findings"))
+    words = [word for word in sys.argv[1:] if word != "--keep"]
+    (keep if "--keep" in sys.argv else main)(words[0] if words else listing.folder_of("replay_findings"))

@@ -1,6 +1,7 @@
 """Answers cases by the second reading of the rules (reading.py) and the reference (reference/)."""
 import os
 import subprocess
+import sys
 
 import reading
 
@@ -14,8 +15,16 @@ def build(profile="dev"):
     """Builds the reference; gives the path of its program. dev: overflow checks on; release: for timing."""
     words = ["cargo", "build", "--offline", "--quiet", "--profile", profile]
     words += ["--manifest-path", os.path.join(HERE, "reference", "Cargo.toml")]
-    subprocess.run(words, check=True, env=dict(os.environ, CARGO_TARGET_DIR=BUILT))
+    if subprocess.run(words, env=dict(os.environ, CARGO_TARGET_DIR=BUILT)).returncode:
+        raise SystemExit("the reference was not built: cargo says why")
+    if patches():
+        print("the reference: the source, patched by " + ", ".join(patches()), file=sys.stderr)
     return os.path.join(BUILT, "debug" if profile == "dev" else profile, "reference")
+
+
+def patches():
+    """The names of the patches that the reference is built with."""
+    return sorted(name for name in os.listdir(os.path.join(HERE, "patches")) if name.endswith(".patch"))
 
 
 def numbers(words):

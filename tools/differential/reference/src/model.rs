@@ -1,6 +1,10 @@
-//! The reference's models from the rows of an accepted sheet (the rules, "The call").
+//! The reference's models from the rows of an accepted sheet (the rules, "The call"). The benchmark times
+//! this too, so it is no dearer than it must be: owners are found by a hash of one multiplication, and
+//! every vector and table that grows with the sheet is given its size at once. What remains is the
+//! names, which are strings in the reference.
 
 use std::collections::HashMap;
+use std::hash::{BuildHasherDefault, Hasher};
 
 use crate::models::{
     Activity, ActivityDuration, Assignment, Calendar, Constraint, Overlap, Part, Resource,
@@ -26,6 +30,40 @@ fn name(id: i64) -> String {
     id.to_string()
 }
 
+/// The hash of an id: its product with an odd number.
+#[derive(Default)]
+struct Spread(u64);
+
+impl Hasher for Spread {
+    fn finish(&self) -> u64 {
+        self.0
+    }
+
+    fn write(&mut self, _: &[u8]) {
+        unreachable!("ids are i64");
+    }
+
+    fn write_i64(&mut self, id: i64) {
+        self.0 = (id as u64).wrapping_mul(0x9E37_79B9_7F4A_7C15);
+    }
+}
+
+/// Where the row of an id stands among those of its kind.
+type Places = HashMap<i64, usize, BuildHasherDefault<Spread>>;
+
+fn places(count: usize) -> Places {
+    Places::with_capacity_and_hasher(count, BuildHasherDefault::default())
+}
+
+/// How many rows there are of each kind.
+fn counts(rows: &[i64]) -> [usize; 25] {
+    let mut counts = [0; 25];
+    for r in rows.chunks_exact(10) {
+        counts[r[0] as usize] += 1;
+    }
+    counts
+}
+
 /// Puts a window or closure into a calendar, which is there from its first window on.
 fn add_window(calendar: &mut Option<Calendar>, closed: bool, start: i64, end: i64) {
     let calendar = calendar.get_or_insert_with(|| Calendar::new(""));
@@ -40,23 +78,23 @@ fn add_window(calendar: &mut Option<Calendar>, closed: bool, start: i64, end: i6
 /// The owners first, for they may come after what they own.
 struct Owners {
     tasks: Vec<Task>,
-    task_at: HashMap<i64, usize>,
+    task_at: Places,
     activities: Vec<(usize, Activity)>,
-    activity_at: HashMap<i64, usize>,
+    activity_at: Places,
     resources: Vec<Resource>,
-    resource_at: HashMap<i64, usize>,
+    resource_at: Places,
     constraints: Vec<Constraint>,
 }
 
-fn owners(rows: &[i64]) -> Owners {
+fn owners(rows: &[i64], counts: &[usize; 25]) -> Owners {
     let mut o = Owners {
-        tasks: Vec::new(),
-        task_at: HashMap::new(),
-        activities: Vec::new(),
-        activity_at: HashMap::new(),
-        resources: Vec::new(),
-        resource_at: HashMap::new(),
-        constraints: Vec::new(),
+        tasks: Vec::with_capacity(counts[1]),
+        task_at: places(counts[1]),
+        activities: Vec::with_capacity(counts[2]),
+        activity_at: places(counts[2]),
+        resources: Vec::with_capacity(counts[11]),
+        resource_at: places(counts[11]),
+        constraints: Vec::with_capacity(counts[17..=21].iter().sum()),
     };
     for r in rows.chunks_exact(10) {
         match r[0] {
@@ -111,8 +149,12 @@ fn owners(rows: &[i64]) -> Owners {
 
 /// The models of an accepted sheet. Panics on a sheet that the rules refuses.
 pub fn model(rows: &[i64]) -> Model {
-    let mut o = owners(rows);
+    let rows = &*crate::handed::handed(rows);
+    let counts = counts(rows);
+    let mut o = owners(rows, &counts);
     let mut schedule = Schedule::new();
+    schedule.assignments.reserve_exact(counts[23]);
+    schedule.time_only.reserve_exact(counts[24]);
     for r in rows.chunks_exact(10) {
         match r[0] {
             3..=10 | 16 => {

@@ -1,5 +1,8 @@
 //! Stand-in for u_numflow, of which the reference uses `IntervalSet` alone. The crate was not at hand:
 //! this follows the rules, "Calendar time", where the set is a set of whole milliseconds.
+//!
+//! The reference is timed with it, so it is no dearer than it must be: a sorted vector for each set, made
+//! with one allocation (none for an empty set), merged in place, and cut by bisection.
 
 pub mod collections {
     /// A set of whole numbers: ordered, disjoint, non-empty half-open stretches that do not touch.
@@ -24,31 +27,58 @@ pub mod collections {
         pub fn from_intervals(
             pairs: impl IntoIterator<Item = (i64, i64)>,
         ) -> Result<Self, Reversed> {
-            let mut pairs: Vec<(i64, i64)> = pairs.into_iter().collect();
-            if pairs.iter().any(|(s, e)| s > e) {
-                return Err(Reversed);
-            }
-            pairs.retain(|(s, e)| s < e);
-            pairs.sort_unstable();
-            let mut stretches: Vec<(i64, i64)> = Vec::with_capacity(pairs.len());
+            let pairs = pairs.into_iter();
+            let mut stretches = Vec::with_capacity(pairs.size_hint().1.unwrap_or(0));
             for (s, e) in pairs {
-                match stretches.last_mut() {
-                    Some(last) if s <= last.1 => last.1 = last.1.max(e),
-                    _ => stretches.push((s, e)),
+                if s > e {
+                    return Err(Reversed);
+                }
+                if s < e {
+                    stretches.push((s, e));
                 }
             }
+            stretches.sort_unstable();
+            stretches.dedup_by(|next, last| {
+                let meets = next.0 <= last.1;
+                if meets {
+                    last.1 = last.1.max(next.1);
+                }
+                meets
+            });
             Ok(Self { stretches })
         }
 
         /// What of the set lies in start..end.
         pub fn clip(&self, start: i64, end: i64) -> Result<Self, Reversed> {
-            Ok(self.intersection(&Self::from_intervals([(start, end)])?))
+            if start >= end {
+                return if start > end {
+                    Err(Reversed)
+                } else {
+                    Ok(Self::new())
+                };
+            }
+            let from = self.stretches.partition_point(|x| x.1 <= start);
+            let to = self.stretches.partition_point(|x| x.0 < end);
+            let mut stretches = self.stretches[from..to.max(from)].to_vec();
+            if let Some(first) = stretches.first_mut() {
+                first.0 = first.0.max(start);
+            }
+            if let Some(last) = stretches.last_mut() {
+                last.1 = last.1.min(end);
+            }
+            Ok(Self { stretches })
         }
 
         /// The numbers in both sets.
         pub fn intersection(&self, other: &Self) -> Self {
+            match (&self.stretches[..], &other.stretches[..]) {
+                ([], _) | (_, []) => return Self::new(),
+                (_, &[(start, end)]) => return self.clip(start, end).expect("start below end"),
+                (&[(start, end)], _) => return other.clip(start, end).expect("start below end"),
+                _ => {}
+            }
             let (mut i, mut j) = (0, 0);
-            let mut stretches = Vec::new();
+            let mut stretches = Vec::with_capacity(self.stretches.len() + other.stretches.len());
             while i < self.stretches.len() && j < other.stretches.len() {
                 let (a, b) = (self.stretches[i], other.stretches[j]);
                 let (s, e) = (a.0.max(b.0), a.1.min(b.1));
@@ -66,7 +96,10 @@ pub mod collections {
 
         /// The numbers of this set that are not in the other.
         pub fn difference(&self, other: &Self) -> Self {
-            let mut stretches = Vec::new();
+            if self.stretches.is_empty() || other.stretches.is_empty() {
+                return self.clone();
+            }
+            let mut stretches = Vec::with_capacity(self.stretches.len() + other.stretches.len());
             let mut j = 0;
             for &(start, end) in &self.stretches {
                 let mut s = start;
@@ -94,12 +127,10 @@ pub mod collections {
             self.stretches.iter().copied()
         }
 
-        /// How many numbers the set holds.
+        /// How many numbers the set holds. They lie apart, so that 64 bits hold the sum.
         pub fn measure(&self) -> u128 {
-            self.stretches
-                .iter()
-                .map(|&(s, e)| (e as i128 - s as i128) as u128)
-                .sum()
+            let lengths = self.stretches.iter().map(|&(s, e)| e.abs_diff(s));
+            u128::from(lengths.sum::<u64>())
         }
     }
 
@@ -145,16 +176,19 @@ pub mod collections {
                     assert_eq!(holds(&all, x), holds(&a, x));
                     assert_eq!(holds(&both, x), holds(&a, x) && holds(&b, x));
                     assert_eq!(holds(&less, x), holds(&a, x) && !holds(&b, x));
-                    if lo <= hi {
-                        let cut: Vec<_> = sa.clip(lo, hi).unwrap().iter().collect();
+                    if let Ok(cut) = sa.clip(lo, hi) {
+                        let cut: Vec<_> = cut.iter().collect();
                         assert_eq!(holds(&cut, x), holds(&a, x) && lo <= x && x < hi);
                     }
                 }
+                assert_eq!(sa.clip(lo, hi).is_err(), lo > hi);
+                assert_eq!(IntervalSet::from_intervals([(lo, hi)]).is_err(), lo > hi);
                 assert_eq!(
                     sa.measure(),
                     (-1..13).filter(|&x| holds(&a, x)).count() as u128
                 );
-                for s in [&sa, &sa.intersection(&sb), &sa.difference(&sb)] {
+                let cut = sa.clip(lo.min(hi), hi).unwrap();
+                for s in [&sa, &sa.intersection(&sb), &sa.difference(&sb), &cut] {
                     let list: Vec<_> = s.iter().collect();
                     assert!(
                         list.iter().all(|(s, e)| s < e) && list.windows(2).all(|w| w[0].1 < w[1].0)
