@@ -1,10 +1,10 @@
-/* Times the call of several builds of the library on the same sheets, in turns, in one process; the first two are also compared.
+/* Times one call of several builds of the library on the same sheets, in turns, in one process; the first two are also compared.
 
-       between LAYOUT ROUNDS OLD.so NEW.so OLD-AGAIN.so < SHEETS
+       between CALL LAYOUT ROUNDS OLD.so NEW.so OLD-AGAIN.so < SHEETS
 
-   Reads lines "GROUP|NAME|N N ..". Writes for each a line "GROUP|NAME|ROWS|NUMBER|PLACE|ROUNDS|OLD|NEW|OLD AGAIN|ANSWERS": the medians in
-   nanoseconds, the number and the place that the old one answers, and of the answers `same`, `order` (the same but for the order of check 5's
-   lines) or what differs. The sheets of the group `once` come first and are run one after the other, each once in a round; any other is run alone,
+   CALL is sheet_check_schedule or sheet_read_text. Reads lines "GROUP|NAME|N N ..", or, of texts, "GROUP|NAME|TEXT" with a semicolon for each line feed. Writes
+   for each a line "GROUP|NAME|ROWS|NUMBER|PLACE|ROUNDS|OLD|NEW|OLD AGAIN|ANSWERS": the medians in nanoseconds, the number and the place that the
+   old one answers, and of the answers `same`, `order` (the same but for the order of check 5's lines) or what differs. The sheets of the group `once` come first and are run one after the other, each once in a round; any other is run alone,
    round after round. LAYOUT is a number that decides which comes first and how far apart they lie: at a distance of, say, 128 KiB two copies of the same code
    teach each other's branches to the processor, and the third one looks slower by up to a fifth. */
 #include <dlfcn.h>
@@ -15,7 +15,7 @@
 #include <sys/mman.h>
 #include <time.h>
 
-enum { ARMS = 3, ORDERS = 6, ROOM = 800000, LINE = 4, PAGE = 4096, APART = 4096 };
+enum { ARMS = 3, ORDERS = 6, ROOM = 800000, LINE = 4, ROW = 10, PAGE = 4096, APART = 4096 };
 
 static const double LONG_NS = 1e6;   /* a call that takes longer is timed by the processor time of the thread: it may be interrupted */
 static const double BUDGET_NS = 4e8; /* how long the rounds of a sheet may take together, once each arm was at each place */
@@ -27,19 +27,21 @@ static const unsigned ORDER[ORDERS][ARMS] = {{0, 1, 2}, {1, 2, 0}, {2, 0, 1}, {2
 struct outcome {
     uint64_t number, place;
 };
-typedef struct outcome check(const int64_t *rows, size_t length, int64_t *findings, size_t room);
+typedef struct outcome call(const void *lent, size_t length, int64_t *written, size_t room); /* rows and findings, or a text and rows */
 
 struct sheet {
     char *group, *name;
-    int64_t *rows;
-    size_t length;
+    void *lent;
+    size_t length, rows;
     double *times[ARMS];
     size_t rounds;
 };
 
-static check *arms[ARMS];
+static call *arms[ARMS];
+static const char *name;
+static int of_texts;
 static unsigned layout;
-static int64_t findings[ROOM], other[ROOM];
+static int64_t written[ROOM], other[ROOM];
 
 static double now(clockid_t clock) {
     struct timespec t;
@@ -58,24 +60,35 @@ static void *got(void *memory) {
 }
 
 /* Up to APART pages below the last one. */
-static check *load(const char *path) {
+static call *load(const char *path) {
     mmap(NULL, (rand() % APART + 1) * (size_t)PAGE, PROT_NONE, MAP_PRIVATE | MAP_ANONYMOUS, -1, 0);
     void *library = dlopen(path, RTLD_NOW | RTLD_LOCAL);
     if (!library) fail(dlerror());
-    check *found = (check *)dlsym(library, "sheet_check_schedule");
+    call *found = (call *)dlsym(library, name);
     if (!found) fail(dlerror());
     return found;
 }
 
-static struct sheet sheet_of(char *line, size_t rounds) {
-    struct sheet s = {.group = strdup(strtok(line, "|")), .name = strdup(strtok(NULL, "|"))};
-    char *at = strtok(NULL, "|\n");
-    s.rows = got(malloc((strlen(at ? at : "") / 2 + 1) * sizeof *s.rows));
-    for (char *end = at; at; at = end) {
+static void take_text(struct sheet *s, const char *text) {
+    s->lent = got(strdup(text));
+    s->length = strlen(text);
+    for (char *at = s->lent; (at = strchr(at, ';')); s->rows++) *at = '\n';
+}
+
+static void take_numbers(struct sheet *s, const char *at) {
+    int64_t *numbers = s->lent = got(malloc((strlen(at) / 2 + 1) * sizeof *numbers));
+    for (char *end;; at = end) {
         int64_t x = strtoll(at, &end, 10);
         if (end == at) break;
-        s.rows[s.length++] = x;
+        numbers[s->length++] = x;
     }
+    s->rows = s->length / ROW;
+}
+
+static struct sheet sheet_of(char *line, size_t rounds) {
+    struct sheet s = {.group = strdup(strtok(line, "|")), .name = strdup(strtok(NULL, "|"))};
+    char *rest = strtok(NULL, "|\n");
+    (of_texts ? take_text : take_numbers)(&s, rest ? rest : "");
     for (int arm = 0; arm < ARMS; arm++) s.times[arm] = got(malloc(rounds * sizeof **s.times));
     return s;
 }
@@ -83,9 +96,9 @@ static struct sheet sheet_of(char *line, size_t rounds) {
 /* Which arm is the k-th of a round; each layout begins with another. */
 static int turn(size_t round, int k) { return (ORDER[round % ORDERS][k] + layout) % ARMS; }
 
-static double timed(check *arm, const struct sheet *s, clockid_t clock) {
+static double timed(call *arm, const struct sheet *s, clockid_t clock) {
     double start = now(clock);
-    arm(s->rows, s->length, findings, ROOM);
+    arm(s->lent, s->length, written, ROOM);
     return now(clock) - start;
 }
 
@@ -123,9 +136,9 @@ static double median(double *times, size_t count) {
     return (times[count / 2] + times[(count - 1) / 2]) / 2;
 }
 
-static struct outcome written(check *arm, const struct sheet *s, int64_t *to) {
+static struct outcome answer(call *arm, const struct sheet *s, int64_t *to) {
     for (size_t i = 0; i < ROOM; i++) to[i] = MARK;
-    return arm(s->rows, s->length, to, ROOM);
+    return arm(s->lent, s->length, to, ROOM);
 }
 
 static int by_numbers(const void *a, const void *b) {
@@ -147,30 +160,32 @@ static void sort_check_5(int64_t *list, uint64_t count) {
 static void print_answers(struct outcome a, struct outcome b) {
     if (a.number != b.number || a.place != b.place) {
         printf("answers %lu, %lu and %lu, %lu\n", a.number, a.place, b.number, b.place);
-    } else if (!memcmp(findings, other, sizeof findings)) {
+    } else if (!memcmp(written, other, sizeof written)) {
         puts("same");
     } else {
-        if (!a.number && a.place <= ROOM / LINE) sort_check_5(findings, a.place), sort_check_5(other, a.place);
+        if (!of_texts && !a.number && a.place <= ROOM / LINE) sort_check_5(written, a.place), sort_check_5(other, a.place);
         size_t i = 0;
-        while (i < ROOM && findings[i] == other[i]) i++;
-        i == ROOM ? puts("order") : printf("the lent number at %zu: %ld and %ld\n", i, findings[i], other[i]);
+        while (i < ROOM && written[i] == other[i]) i++;
+        i == ROOM ? puts("order") : printf("the lent number at %zu: %ld and %ld\n", i, written[i], other[i]);
     }
 }
 
 static void print_sheet(struct sheet *s) {
-    struct outcome a = written(arms[0], s, findings), b = written(arms[1], s, other);
-    printf("%s|%s|%zu|%lu|%lu|%zu", s->group, s->name, s->length / 10, a.number, a.place, s->rounds);
+    struct outcome a = answer(arms[0], s, written), b = answer(arms[1], s, other);
+    printf("%s|%s|%zu|%lu|%lu|%zu", s->group, s->name, s->rows, a.number, a.place, s->rounds);
     for (int arm = 0; arm < ARMS; arm++) printf("|%.0f", median(s->times[arm], s->rounds));
     putchar('|');
     print_answers(a, b);
 }
 
 int main(int count, char **words) {
-    if (count != 3 + ARMS) fail("usage: between LAYOUT ROUNDS OLD.so NEW.so OLD-AGAIN.so < SHEETS");
-    size_t rounds = strtoul(words[2], NULL, 10), sheets = 0, once = 0, room = 0;
-    layout = strtoul(words[1], NULL, 10);
+    if (count != 4 + ARMS) fail("usage: between CALL LAYOUT ROUNDS OLD.so NEW.so OLD-AGAIN.so < SHEETS");
+    size_t rounds = strtoul(words[3], NULL, 10), sheets = 0, once = 0, room = 0;
+    name = words[1];
+    of_texts = !strcmp(name, "sheet_read_text");
+    layout = strtoul(words[2], NULL, 10);
     srand(layout + 1); /* 0 and 1 would be the same */
-    for (int k = 0; k < ARMS; k++) arms[turn(0, k)] = load(words[3 + turn(0, k)]);
+    for (int k = 0; k < ARMS; k++) arms[turn(0, k)] = load(words[4 + turn(0, k)]);
     struct sheet *all = NULL;
     char *line = NULL;
     while (getline(&line, &room, stdin) > 0) {

@@ -49,7 +49,7 @@ def sheets():
         [row(1, 1, NONE, 5), row(2, 1, 1, 0, 0, 10**6, 0, 1, 5), needs(), machine(1, capacity=900)] + many(530, lambda i: window(1, i)), lambda i: book(1, **long))
     late = [row(1, 1, NONE, 5), row(2, 1, 1, 0, 0, 10**6, 0, 1, 5), needs()]
     yield "resumable piece, 528 windows of the activity", filled(late + [machine(1, capacity=900)] + many(528, lambda i: row(16, 1, 0, i * 10, i * 10 + 5)), lambda i: book(1, **long))
-    yield "the same, 530 windows, on a resource that is not in the sheet", filled(late + many(530, lambda i: row(16, 1, 0, i * 10, i * 10 + 5)), lambda i: book(1, **long))
+    yield "resumable piece, 530 windows of the activity, on a resource that is not in the sheet", filled(late + many(530, lambda i: row(16, 1, 0, i * 10, i * 10 + 5)), lambda i: book(1, **long))
     yield "resumable piece, 520 windows, 20 companions that are missing", filled(
         late + [machine(1, capacity=900)] + many(20, lambda i: row(13, 1, 1000 + i)) + many(520, lambda i: window(1, i)), lambda i: book(1, **long))
     for windows in (395, 530, 700):

@@ -1,31 +1,23 @@
 #!/usr/bin/env python3
 """Times the derived times and refusal 6 (`pieces::held_of`, `derived_times::needs_of`, `derived_times::refused`) as they are built.
 
-    times.py [--more N] [--rounds N] [--drawn N] [NAME..]      (after `rt check speed`; NAME: only sheets whose name has it)
+    tools/benchmark/times.py [--more N] [--rounds N] [--drawn N] [NAME..]      (NAME: only sheets whose name has it)
 
-The program of the crate `speed` is run on accepted sheets of 800 rows that are meant to be the worst for this part, with a count of 1 and
-of 1 + N; a figure is the difference of the two user times, divided by N: the least, the median and the greatest of the rounds. --drawn: the
-same of N accepted sheets that are drawn at random from mixtures of these, of which only the slowest is printed.
+The program of the crate `speed`, which is proved and compiled first, is run on accepted sheets of up to 800 rows that are meant to be the worst
+for this part, with a count of 1 and of 1 + N; a figure is the difference of the two processor times, divided by N: the least, the median and the
+greatest of the rounds. --drawn: the same, once, of N accepted sheets that are drawn at random from mixtures of these, of which only the
+slowest is printed.
 """
 import argparse
-import os
 import random
 import statistics
-import subprocess
-import sys
-import tempfile
 
-HERE = os.path.dirname(os.path.abspath(__file__))
-ROOT = os.path.dirname(os.path.dirname(HERE))
-sys.path.insert(0, os.path.join(os.path.dirname(HERE), "differential"))
+import speed
+from generate import flat, reading, row
+from hard import TASK, activity, book, external, filled, machine, many
+from reading import CAP, bits_of
+from sheets import accepted
 
-import hard  # noqa: E402
-import reading  # noqa: E402
-from generate import flat, row  # noqa: E402
-from hard import TASK, activity, book, external, filled, machine, many  # noqa: E402
-from reading import CAP, NONE, bits_of  # noqa: E402
-
-DERIVED_TIMES = 10  # as `speed` numbers its parts
 SLOW, FAST = bits_of(2.0**-10), bits_of(2.0**10)
 
 
@@ -62,7 +54,7 @@ def sheets():
     yield "one part, one resource, a small fixed timing", filled(split_by(3) + [row(10, 1, 1, 0, 1, 0)], lambda i: part(1, 1))
     for timed in (200, 400, 600, 700):
         yield f"one part, {timed} bookings of a fixed timing, the others a resource each", split_by(CAP) + [fixed(1)] + many(timed, lambda i: part(1)) + many(796 - timed, lambda i: part(10 + i))
-        yield f"the same, those {timed} last", split_by(CAP) + [fixed(1)] + many(796 - timed, lambda i: part(10 + i)) + many(timed, lambda i: part(1))
+        yield f"one part, the others a resource each, then {timed} bookings of a fixed timing", split_by(CAP) + [fixed(1)] + many(796 - timed, lambda i: part(10 + i)) + many(timed, lambda i: part(1))
     for timings in (100, 200, 266, 398):
         yield f"one part, {timings} fixed timings", split_by(CAP) + many(timings, lambda i: fixed(i)) + many(797 - timings, lambda i: part(timings - 1 - i % timings))
     yield "398 speeds", [TASK, activity()] + many(399, lambda i: row(9, 1, i, bits_of(1.0 + i * 2.0**-40))) + many(399, lambda i: book(398 - i))
@@ -107,56 +99,57 @@ def drawn(rng):
     return filled(rows, booking)
 
 
-def user_time(program, numbers, count):
-    """Seconds; the program must find the sheet accepted."""
-    with tempfile.TemporaryFile() as given, tempfile.TemporaryFile() as got:
-        given.write(b"%d\n%d\n" % (DERIVED_TIMES, count) + reading.spelled(numbers))
-        given.seek(0)
-        child = subprocess.Popen([program], stdin=given, stdout=got)
-        _, status, used = os.wait4(child.pid, 0)
-        child.returncode = os.waitstatus_to_exitcode(status)
-        got.seek(0)
-        if child.returncode or int(got.read()) != 1:
-            raise SystemExit(f"times: a sheet is refused: {reading.refused_1_to_6(numbers)}")
-        return used.ru_utime
-
-
 def milliseconds(program, numbers, more):
     """Of one call."""
-    once = user_time(program, numbers, 1)
-    return (user_time(program, numbers, 1 + more) - once) * 1000 / more
+    found, printed = speed.seconds(program, speed.DERIVED_TIMES, reading.spelled(numbers), more)
+    if printed != 1:
+        raise SystemExit("times: the program refuses a sheet that the second reading accepts")
+    return found * 1000
+
+
+def measured(program, names, rounds, more):
+    """Name, row count and the times of each sheet, in order."""
+    for name, rows in sheets():
+        if not names or any(x in name for x in names):
+            numbers = accepted(name, flat(rows))
+            assert len(rows) <= 800, (name, len(rows))
+            yield name, len(rows), sorted(milliseconds(program, numbers, more) for _ in range(rounds))
+
+
+def line(name, rows, times):
+    return f"| {name} | {rows} | {times[0]:.1f} | {statistics.median(times):.1f} | {times[-1]:.1f} |"
+
+
+HEAD = "| sheet | rows | least, ms | median | greatest |\n|-|-|-|-|-|"
 
 
 def of_drawn(program, count, more):
+    """In words."""
     found, seed = [], 0
     while len(found) < count:
         numbers = flat(drawn(random.Random(f"times {seed}")))
         seed += 1
         if reading.refused_1_to_6(numbers) is None:
             found.append((milliseconds(program, numbers, more), seed - 1))
-    print(f"{count} accepted sheets drawn, of {seed}: the slowest, {max(found)[1]}, takes {max(found)[0]:.1f} ms")
+    return f"{count} accepted sheets drawn, of {seed}: the slowest, {max(found)[1]}, takes {max(found)[0]:.1f} ms"
 
 
 def main():
-    parser = argparse.ArgumentParser()
+    parser = argparse.ArgumentParser(description=__doc__, formatter_class=argparse.RawDescriptionHelpFormatter)
     parser.add_argument("--more", type=int, default=20)
     parser.add_argument("--rounds", type=int, default=5)
     parser.add_argument("--drawn", type=int, default=0)
     parser.add_argument("names", nargs="*")
     options = parser.parse_args()
-    program = os.path.join(ROOT, "target", "bin", "speed")
+    program = speed.program()
     if options.drawn:
-        return of_drawn(program, options.drawn, options.more)
-    print("| sheet | rows | least ms | median | greatest |\n|-|-|-|-|-|", flush=True)
+        print(of_drawn(program, options.drawn, options.more))
+        return
+    print(HEAD, flush=True)
     worst = 0
-    for name, rows in sheets():
-        if options.names and not any(x in name for x in options.names):
-            continue
-        numbers = flat(rows)
-        assert len(rows) <= 800, (name, len(rows))
-        found = [milliseconds(program, numbers, options.more) for _ in range(options.rounds)]
-        worst = max(worst, max(found))
-        print(f"| {name} | {len(rows)} | {min(found):.1f} | {statistics.median(found):.1f} | {max(found):.1f} |", flush=True)
+    for found in measured(program, options.names, options.rounds, options.more):
+        worst = max(worst, found[2][-1])
+        print(line(*found), flush=True)
     print(f"\nThe greatest: {worst:.1f} ms")
 
 

@@ -2,11 +2,11 @@
 // times with who is held and refusal 6, 11 the validation, 12 a work end over 800 windows, which looks at no sheet. The second line spells the
 // count. Prints what the last run gave: how many findings, or 1 where a time, a sheet or a question came out as it should. For measuring: the
 // times of this program for two counts, and their difference (docs/SPEED.md).
+//
+// A part of 100 more is run on several sheets, which semicolons part, in turn, so that none is met twice in a row. Each is read and indexed
+// before, every time; part 100 does only that, and its time is to be taken off.
 ghost use mathlib.Core.Path.{_≡_};
-ghost use mathlib.Core.Option.{none};
 ghost use lib.ListN.{length};
-ghost use Rattle.sheet.specs.inner.Index.{Linked, Owned};
-ghost use Rattle.sheet.specs.Refusals.{refusalOf};
 ghost use Rattle.model.specs.inner.Indexed.{Indexed};
 ghost use Rattle.pieces.specs.inner.Held.{Held};
 ghost use Rattle.derived_times.specs.inner.Needs.{Needs};
@@ -16,11 +16,11 @@ use refusals::Answer;
 use refusals::Verdict;
 use text::Number;
 
-// Room for two lines and a text. The promises give the lengths, which is all that lending an array as a slice asks.
-fn no_text() -> [u8; 65600]
-    ensures { λ r. ⌜ 65600 ≡ length r ⌝ }
+// Room for two lines and many texts. The promises give the lengths, which is all that lending an array as a slice asks.
+fn no_text() -> [u8; 400000]
+    ensures { λ r. ⌜ 400000 ≡ length r ⌝ }
 {
-    [0; 65600]
+    [0; 400000]
 }
 
 fn no_rows() -> [i64; 8000]
@@ -73,19 +73,24 @@ fn one_if_fine(v: Verdict) -> usize {
     }
 }
 
-fn one_if_never(x: calendar::Answer) -> usize {
+fn one_if_never(x: calendar::WorkEnd) -> usize {
     match x {
-        calendar::Answer::End(_) => 0,
-        calendar::Answer::Pause => 0,
-        calendar::Answer::Never => 1,
-        calendar::Answer::Beyond => 0,
+        calendar::WorkEnd::End(_) => 0,
+        calendar::WorkEnd::Pause => 0,
+        calendar::WorkEnd::Never => 1,
+        calendar::WorkEnd::Beyond => 0,
     }
 }
 
-fn derive_times(rows: &[i64], links: &[u16; 1600], owned: &[u16; 8810]) -> usize
-    requires { ⌜ (refusalOf (now rows) ≡ none) × Linked (now rows) (now links) × Owned (now rows) (now owned) ⌝ }
+fn derive_times(
+    rows: &[i64],
+    kinds: &[u16; 3680],
+    links: &[u16; 1600],
+    owned: &[u16; 8810],
+) -> usize
+    requires { ⌜ Indexed (now rows) (now kinds) (now links) (now owned) ⌝ }
 {
-    let held = pieces::held_of(rows, links, owned);
+    let held = pieces::held_of(rows, kinds, links, owned);
     let need = derived_times::needs_of(rows, links, owned, &held);
     one_if_fine(derived_times::refused(rows, &need))
 }
@@ -140,7 +145,7 @@ fn once(
         7 => check7_precedence::check_precedence(rows, kinds, links, owned, out, 0),
         8 => check8_deadlines::check_deadlines(rows, kinds, out, 0),
         9 => check9_constraints::check_constraints(rows, kinds, out, 0),
-        10 => derive_times(rows, links, owned),
+        10 => derive_times(rows, kinds, links, owned),
         11 => one_if_fine(validation::validate(rows)),
         12 => end_work(),
         _ => 0,
@@ -188,7 +193,7 @@ fn timed(
 ) -> usize
     requires { ⌜ Indexed (now rows) (now kinds) (now links) (now owned) ⌝ }
 {
-    let held = pieces::held_of(rows, links, owned);
+    let held = pieces::held_of(rows, kinds, links, owned);
     let need = derived_times::needs_of(rows, links, owned, &held);
     let verdict = derived_times::refused(rows, &need);
     let Verdict::Fine = verdict else {
@@ -222,6 +227,35 @@ fn found_in(text: &[u8], part: u64, count: u64) -> usize {
     }
 }
 
+// What the part gave on the last sheet.
+fn on_each(texts: &[u8], part: u64) -> usize {
+    let mut rest = texts;
+    loop {
+        let sheet = text::first_part(rest, b';');
+        let found = found_in(sheet, part, 1);
+        let n = sheet.len();
+        if rest.len() <= n {
+            return found;
+        }
+        rest = &rest[n + 1..];
+    }
+}
+
+fn in_turn(texts: &[u8], part: u64, count: u64) -> usize {
+    let mut n = 0;
+    for k in 0..count {
+        n = on_each(texts, part);
+    }
+    n
+}
+
+fn found_by(texts: &[u8], part: u64, count: u64) -> usize {
+    if part < 100 {
+        return found_in(texts, part, count);
+    }
+    in_turn(texts, part - 100, count)
+}
+
 fn main() {
     let mut input = no_text();
     let n = io::read_full(STDIN_FILENO, &mut input);
@@ -229,7 +263,7 @@ fn main() {
     let part = text::first_part(read, b'\n');
     let rest = after(read, part.len());
     let count = text::first_part(rest, b'\n');
-    let found = found_in(after(rest, count.len()), number_of(part), number_of(count));
+    let found = found_by(after(rest, count.len()), number_of(part), number_of(count));
     io::print_decimal(STDOUT_FILENO, found as u64);
     io::write_all(STDOUT_FILENO, b"\n");
 }

@@ -4,10 +4,10 @@ use Rattle.speed.proofs.derive_times.Statement.{statement}
 use Rattle.speed.proofs.derive_times.Tie as tie
 
 held-of-requires : tie.Need-held-of-requires
-held-of-requires c κs = (accepted _ (c .pre .0), c .pre .1, c .pre .2)
+held-of-requires c κs = (accepted _ (c .pre .accepted), c .pre .by-kind, c .pre .linked, c .pre .by-owner)
 
 needs-of-requires : tie.Need-needs-of-requires
-needs-of-requires c κs = (accepted _ (c .before .before .pre .0), c .before .before .pre .1, c .before .before .pre .2, c .before .held-of .ensures)
+needs-of-requires c κs = (accepted _ (c .before .before .pre .accepted), c .before .before .pre .linked, c .before .before .pre .by-owner, c .before .held-of .ensures)
 
 refused-requires : tie.Need-refused-requires
 refused-requires c κs = search needs
