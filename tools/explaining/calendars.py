@@ -41,6 +41,12 @@ class Calendar:
         last = bisect.bisect_left(self.stretches, end, key=lambda stretch: stretch[0])
         return [(max(a, start), min(b, end)) for a, b in self.stretches[first:last]]
 
+    def pausing(self, start, end):
+        """The rows that take working time away between two instants."""
+        rows = [c for c in self.closures if max(c.start, start) < min(c.end, end)]
+        opened = Calendar(self.owner, self.opens)
+        return rows + (self.opens if sum(b - a for a, b in opened.within(start, end)) < end - start else [])
+
     def works(self, instant):
         return bool(self.within(instant, instant + 1))
 
@@ -141,10 +147,13 @@ def pauses(calendars, row):
 
 
 def worked(calendars, row):
-    """The joint working time within a row, as a figure, and its stretches in words, in brackets."""
+    """The joint working time within a row, as a figure, and in brackets, in words, its stretches and who pauses between them."""
     found = [(row.start, row.end)] if row.start < row.end else []
     for calendar in calendars:
         if calendar.rows:
             found = [stretch for start, end in found for stretch in calendar.within(start, end)]
     figure = total("worked", *(Figure("stretch", b - a) for a, b in found))
-    return figure, f" ({listed([f'{a}..{b}' for a, b in found], 5)})" if found else ""
+    pausing = [(calendar.owner, calendar.pausing(row.start, row.end)) for calendar in calendars if calendar.rows]
+    words = [listed([f"{a}..{b}" for a, b in found], 5)] * bool(found)
+    words += ["pauses: " + listed([f"{owner} ({lines(rows, 4)})" for owner, rows in pausing if rows], 4)] * any(rows for _, rows in pausing)
+    return figure, f" ({'; '.join(words)})" if words else ""

@@ -19,7 +19,7 @@ def ask(program, text):
     try:
         done = subprocess.run([program], input=text, capture_output=True, check=False)
     except OSError as error:
-        raise Unanswered(f"{program}: {error.strerror}. Build it by 'rt check', or name it by --program") from None
+        raise Unanswered(f"{program}: {error.strerror}. Build it by 'rt check check_schedule', or name it by --program") from None
     lines = done.stdout.decode("ascii", "replace").split("\n")
     refused = re.fullmatch(r"refused,(\d+),(\d+)", lines[0])
     accepted = re.fullmatch(r"accepted,(\d+)", lines[0])

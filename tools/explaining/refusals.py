@@ -95,7 +95,7 @@ def out_of_range(place, text, numbers):
     for column, (name, value, mark) in enumerate(zip(COLUMNS[kind], numbers[1:], CLASSES[kind])):
         least, greatest, optional = reading.COLUMNS[kind][column]
         if not (least <= value <= greatest or (optional and value == reading.NONE)):
-            words.append(f"Field {column + 2} ({name.replace('_', ' ')}) is {wrong_value(value, mark.rstrip('?'))}")
+            words.append(f"Field {column + 1} ({name.replace('_', ' ')}) is {wrong_value(value, mark.rstrip('?'))}")
             at = at if at is not None else byte_of(text, column + 1)
     if kind == 23 and (numbers[7] == reading.NONE) != (numbers[8] == reading.NONE):
         has, lacks = ("index", "work") if numbers[8] == reading.NONE else ("work", "index")

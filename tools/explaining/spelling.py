@@ -71,17 +71,17 @@ def not_a_row(line):
 
 
 def wrong_fields(line, start):
-    """The fields that are no numbers, the first three in words; and blanks about fields, once for the line."""
+    """The fields that are no numbers, the first three in words; and blanks about fields, once for the line. The kind is field 0."""
     at, blanks, wrong = start, [], []
     fields = line.split(b",")
     for number, field in enumerate(fields):
         bare = field.strip(b" \t")
         if bare != field:
-            blanks.append((number + 1, at if field[:1] in (b" ", b"\t") else at + len(bare)))
+            blanks.append((number, at if field[:1] in (b" ", b"\t") else at + len(bare)))
         if number == 0 and bare == b"":
             wrong.append(Fault("The line begins with a comma: the number of the kind is missing.", at))
         elif bare and not reading.is_number(bare):
-            wrong.append(Fault(f"Field {number + 1}{column_words(fields, number)} {mistyped(fields, number, bare)}.", at))
+            wrong.append(Fault(f"Field {number}{column_words(fields, number)} {mistyped(fields, number, bare)}.", at))
         at += len(field) + 1
     yield from wrong[:3]
     if len(wrong) > 3:

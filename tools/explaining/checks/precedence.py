@@ -41,13 +41,19 @@ def step_after_step(sheet, before, after):
         moved, move_words = move(sheet, ran_on, runs_on)
         earliest = total("earliest start", ready, moved)
         if row.start < earliest.value:
-            words = f"{piece_words(row)} starts at {row.start}; the earliest is {earliest}, {ms(earliest.value - row.start)} later: {ready_words}{move_words}."
+            words = f"{piece_words(row)} starts at {row.start}; the earliest is {earliest}, {ms(earliest.value - row.start)} later: {ready_words}{move_words}.{tie_words(before, after)}"
             cause = "before the share of the step before" if overlap else "before the step before"
             rows = [before, after] + [overlap] * bool(overlap) + [previous.ending]
             yield Reason(cause, after.id, row, words, [Relation(typed(row, "start"), "<", earliest)], rows)
             break  # only the first early piece is reported
     if overlap:
         yield from ends_early(sheet, before, after, previous, overlap, ran_on)
+
+
+def tie_words(before, after):
+    """Why the one is the step before, where the sequences do not say it."""
+    tied = before.sequence == after.sequence
+    return f" Both have sequence {after.sequence}: such steps follow one another in the order of their rows ({line(before)}, {line(after)})." * tied
 
 
 def piece_words(row):
@@ -73,7 +79,7 @@ def ends_early(sheet, before, after, previous, overlap, ran_on):
     earliest = total("earliest end", typed(previous.ending, "end"), typed(overlap, "finish_lag"), moved)
     if own.end < earliest.value:
         words = f"Activity {after.id} ends at {own.end}; the earliest is {earliest}, {ms(earliest.value - own.end)} later: the step before it, activity {before.id}, ends at "
-        words += f"{previous.end} ({line(previous.ending)}), the finish lag is {overlap.finish_lag} ms ({line(overlap)}){move_words}."
+        words += f"{previous.end} ({line(previous.ending)}), the finish lag is {overlap.finish_lag} ms ({line(overlap)}){move_words}.{tie_words(before, after)}"
         yield Reason("ends before the step before", after.id, own.ending, words, [Relation(typed(own.ending, "end"), "<", earliest)], [before, after])
 
 
