@@ -9,7 +9,7 @@ use lib.ListN.{getD}
 use mir.Syntax.{w64}
 use mir.Val.{Fits}
 use borrow.Author.Tests.{lt-ltb, le-ltb}
-use Rattle.calendar.specs.declared.Answer.the-variants.{End, Never, Beyond}
+use Rattle.calendar.specs.declared.WorkEnd.the-variants.{End, Never, Beyond}
 use Rattle.calendar.specs.Clock.{clock}
 use Rattle.calendar.specs.WorkEnd.{Ending, endsAt, never, mapEnding, endFrom}
 use Rattle.calendar.specs.Layout.{calendarsOf, saying}

@@ -36,6 +36,23 @@ nearer-is t x b = go (ltb t x) (ltb x b) refl refl
     go false true e e′ = record { most = omega arith; above = λ l. l; clear = inl (ltb-false t x e) }
     go false false e e′ = record { most = omega arith; above = λ l. l; clear = inl (ltb-false t x e) }
 
+nearer-min : (t x b m : ℕ) → nearer t x (min b m) ≡ min b (nearer t x m)
+unfolding nearer
+nearer-min t x b m = go (ltb t x) (ltb x (min b m)) (ltb x m) refl refl
+  where
+    go : (v v′ v″ : Bool) → ltb x (min b m) ≡ v′ → ltb x m ≡ v″ → cond (v && v′) x (min b m) ≡ min b (cond (v && v″) x m)
+    go true true true e e′ = omega (arith, ltb-true x (min b m) e)
+    go true true false e e′ = omega (arith, ltb-true x (min b m) e, ltb-false x m e′)
+    go true false true e e′ = omega (arith, ltb-false x (min b m) e, ltb-true x m e′)
+    go true false false e e′ = refl
+    go false v′ v″ e e′ = refl
+
+-- the nearer of two instants may be found before b is known, and held to b then
+pub nearer-first : (t x y b m : ℕ) → b ≤ m → min b (nearer t y (nearer t x m)) ≡ nearer t y (nearer t x b)
+nearer-first t x y b m l =
+    let e : min b m ≡ b = omega arith in
+    sym (nearer-min t y b (nearer t x m)) ∙ ap (nearer t y) (sym (nearer-min t x b m) ∙ ap (nearer t x) e)
+
 -- no start and no end of a window lies after t and before r
 abbrev Clear : ℕ → ℕ → List TimeWindow → Type 0
 Clear t r [] = Unit

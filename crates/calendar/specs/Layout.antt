@@ -9,8 +9,8 @@ use Rattle.loops.specs.Numbers.{toNat}
 use Rattle.loops.specs.Lists.{given}
 use Rattle.loops.specs.Range.{collect}
 use Rattle.calendar.specs.declared.TimeWindow.{TimeWindow}
-use Rattle.calendar.specs.declared.Answer.{Answer}
-use Rattle.calendar.specs.declared.Answer.the-variants.{End, Pause, Never, Beyond}
+use Rattle.calendar.specs.declared.WorkEnd.{WorkEnd}
+use Rattle.calendar.specs.declared.WorkEnd.the-variants.{End, Pause, Never, Beyond}
 use Rattle.calendar.specs.Calendar.{Window, Calendar}
 use Rattle.calendar.specs.WorkEnd.{Ending, endsAt, pauses, never}
 
@@ -40,7 +40,7 @@ unfoldable pub calendarsOf : List ℕ → List ℕ → List (Calendar ℤ)
 calendarsOf w cs = map (map windowOf) (listsOf w cs)
 
 -- the answer that says so: an end past the last number of 64 bits is beyond
-abbrev pub saying : Ending ℤ → Answer
+abbrev pub saying : Ending ℤ → WorkEnd
 saying (endsAt e) = cond (ltb (toNat e) (2 ^ 64)) (End (toNat e)) Beyond
 saying pauses = Pause
 saying never = Never

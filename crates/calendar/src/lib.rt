@@ -26,7 +26,7 @@ pub struct TimeWindow {
 }
 
 // When work ends: at an instant; or the start is no working time; or too little working time follows; or at an instant that is no u64.
-pub enum Answer {
+pub enum WorkEnd {
     End(u64),
     Pause,
     Never,
@@ -120,6 +120,12 @@ fn greater(a: u64, b: u64) -> u64
     ensures { λ r. ⌜ r ≡ max a b ⌝ }
 {
     if a <= b { b } else { a }
+}
+
+fn lesser(a: u64, b: u64) -> u64
+    ensures { λ r. ⌜ r ≡ min a b ⌝ }
+{
+    if a <= b { a } else { b }
 }
 
 // ---- whether an interval fits
@@ -229,12 +235,17 @@ struct Here {
     pub stop: u64,
 }
 
+// The last instant that a u64 holds: every window has ended by then.
+const LAST: u64 = 18446744073709551615;
+
+// The window's own stop comes first, so that only its comparison waits for the windows before: the processor looks at several windows at a time.
 fn with_window(s: Here, x: TimeWindow, t: u64) -> Here
     ensures { λ r. ⌜ r ≡ withWindow t s x ⌝ }
 {
+    let stop = nearer_of(t, x.end, nearer_of(t, x.start, LAST));
     Here {
         most: greater(s.most, standing_at(x, t)),
-        stop: nearer_of(t, x.end, nearer_of(t, x.start, s.stop)),
+        stop: lesser(s.stop, stop),
     }
 }
 
@@ -330,15 +341,12 @@ pub fn joint_available_ms(cs: &[usize], w: &[u64], a: u64, e: u64) -> u64
     sum
 }
 
-// The last instant that a u64 holds: every window has ended by then.
-const LAST: u64 = 18446744073709551615;
-
 // The first instant by which `work` milliseconds of joint working time have passed since `start`. A start in a pause is no obstacle here.
-pub fn end_from(cs: &[usize], w: &[u64], start: u64, work: u64) -> Answer
+pub fn end_from(cs: &[usize], w: &[u64], start: u64, work: u64) -> WorkEnd
     ensures { λ r. ⌜ r ≡ saying (endFrom clock (calendarsOf (now (w .entry)) (now (cs .entry))) (pos start) work) ⌝ }
 {
     if work == 0 {
-        return Answer::End(start);
+        return WorkEnd::End(start);
     }
     let mut t = start;
     let mut left = work;
@@ -346,15 +354,15 @@ pub fn end_from(cs: &[usize], w: &[u64], start: u64, work: u64) -> Answer
         let s = joint_look(cs, w, t, LAST);
         let d = gained(s, t);
         if left <= d {
-            return Answer::End(t + left);
+            return WorkEnd::End(t + left);
         }
         left = less(left, d);
         t = s.stop;
     }
     if joint_working(cs, w, t) {
-        return Answer::Beyond;
+        return WorkEnd::Beyond;
     }
-    Answer::Never
+    WorkEnd::Never
 }
 
 // An amount of work that may be below zero, which counts as none.
@@ -368,11 +376,11 @@ fn amount(work: i64) -> u64
 }
 
 // When `work` milliseconds of work started at `start` end, if it runs only while every one of the calendars works and pauses otherwise.
-pub fn joint_work_end(cs: &[usize], w: &[u64], start: u64, work: i64) -> Answer
+pub fn joint_work_end(cs: &[usize], w: &[u64], start: u64, work: i64) -> WorkEnd
     ensures { λ r. ⌜ r ≡ saying (jointWorkEnd clock (calendarsOf (now (w .entry)) (now (cs .entry))) (pos start) work) ⌝ }
 {
     if !joint_working(cs, w, start) {
-        return Answer::Pause;
+        return WorkEnd::Pause;
     }
     end_from(cs, w, start, amount(work))
 }

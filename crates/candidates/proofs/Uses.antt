@@ -9,11 +9,9 @@ use lib.Dec.{eqb}
 use lib.IntN.{ℤ}
 use Rattle.loops.specs.Lists.{keep, head, option, among, isEmpty}
 use Rattle.loops.specs.Search.{someIf, firstPlace, anyBelow}
-use Rattle.loops.specs.inner.Chain.{First, Stands, Blind}
+use Rattle.loops.specs.inner.Chain.{Stands, Blind}
 use Rattle.loops.proofs.BoolLaws.{and-left}
 use Rattle.loops.proofs.ListLaws.{keep-collect, head-collect}
-use Rattle.loops.proofs.SearchLaws.{any-hit}
-use Rattle.loops.proofs.Walks.{itself, any-first}
 use Rattle.rows.specs.Cells.{rowCount, num, is}
 use Rattle.sheet.specs.Places.{placeOf}
 use Rattle.sheet.specs.inner.Index.{ownerKind, ownPlace, ownedBy}
@@ -51,22 +49,19 @@ module _ (rows : List ℤ) (q : ℕ) where
     none-listed = ap isEmpty (candidates-are rows q l h) ∙ none-given (ownedBy rows q 6) (λ k. num rows k 3) (rowCount rows)
 
     -- it lists some
-    pub by-list : (k : ℕ) {i N id : ℕ} {r : Bool} → First (ownedBy rows q 6) 0 (rowCount rows) i → N ≡ rowCount rows → i < N → id ≡ num rows k 1
+    pub by-list : (k : ℕ) {id : ℕ} {o r : Bool} → o ≡ anyBelow (ownedBy rows q 6) (rowCount rows) → o ≡ true → id ≡ num rows k 1
         → r ≡ among id (candidates (sheet rows) (requirementOf rows q)) → r ≡ isCandidate (sheet rows) (requirementOf rows q) (resourceOf rows k)
     unfolding isCandidate
-    by-list k {i} f z m e g =
-        let t : isEmpty (candidates (sheet rows) (requirementOf rows q)) ≡ false =
-        none-listed ∙ ap not (sym (any-hit (ownedBy rows q 6) i (rowCount rows) (rowCount rows) (omega arith) refl (f .here (omega arith)))) in
+    by-list k f h e g =
+        let t : isEmpty (candidates (sheet rows) (requirementOf rows q)) ≡ false = none-listed ∙ ap not (sym f ∙ h) in
         rw (t, ← e) g
 
     -- it lists none
-    pub by-type : (k : ℕ) {i N t : ℕ} {r : Bool} → First (ownedBy rows q 6) 0 (rowCount rows) i → N ≡ rowCount rows → N ≤ i → t ≡ num rows q 2
+    pub by-type : (k : ℕ) {t : ℕ} {o r : Bool} → o ≡ anyBelow (ownedBy rows q 6) (rowCount rows) → o ≡ false → t ≡ num rows q 2
         → r ≡ is rows k 2 t → r ≡ isCandidate (sheet rows) (requirementOf rows q) (resourceOf rows k)
     unfolding isCandidate is
-    by-type k {i} f z m e g =
-        let w : i ≡ rowCount rows = omega (arith, f .high) in
-        let t : isEmpty (candidates (sheet rows) (requirementOf rows q)) ≡ true =
-        none-listed ∙ ap not (rw w at (any-first (ownedBy rows q 6) f (itself (ownedBy rows q 6)))) in
+    by-type k f h e g =
+        let t : isEmpty (candidates (sheet rows) (requirementOf rows q)) ≡ true = none-listed ∙ ap not (sym f ∙ h) in
         rw (t, ← e) g
 
 -- ---- usage

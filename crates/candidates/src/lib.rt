@@ -29,13 +29,11 @@ fn is_listed(rows: &[i64], owned: &[u16; 8810], q: usize, id: u64) -> bool
 }
 
 // Whether the resource of row k may fill the requirement of row q: one of its candidates or, where it lists none, one of its type.
-fn is_candidate(rows: &[i64], owned: &[u16; 8810], q: usize, k: usize) -> bool
+pub fn is_candidate(rows: &[i64], owned: &[u16; 8810], q: usize, k: usize) -> bool
     requires { ⌜ Owned (now rows) (now owned) × (q < rowCount (now rows)) × (is (now rows) q 0 5 ≡ true) ⌝ }
     ensures { λ r. ⌜ r ≡ isCandidate (sheet (now (rows .entry))) (requirementOf (now (rows .entry)) q) (resourceOf (now (rows .entry)) k) ⌝ }
 {
-    let n = rows::row_count(rows);
-    let first = sheet::first_owned(rows, owned, q, 6);
-    if first < n {
+    if sheet::has_owned(rows, owned, q, 6) {
         return is_listed(rows, owned, q, rows::num_at(rows, k, 1));
     }
     rows::is_at(rows, k, 2, rows::num_at(rows, q, 2))

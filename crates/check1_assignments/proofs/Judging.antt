@@ -1,7 +1,7 @@
 -- The findings of a booking, put together from what the code asks. Assumes nothing.
 use Prim.Native.Nat.{ℕ, suc, _+_}
 use mathlib.Core.Path.{_≡_, refl, ap, ap₂, sym, _∙_}
-use mathlib.Core.Bool.{Bool, true, false, cond, true≢false, or-false}
+use mathlib.Core.Bool.{Bool, true, false, cond, or-false}
 use mathlib.Core.List.{List, [], _∷_, _++_, append-nil}
 use mathlib.Core.Option.{Option, none, some}
 use native.Mathlib.Omega.{arith}
@@ -17,11 +17,8 @@ use Rattle.loops.specs.Range.{collect}
 use Rattle.loops.specs.inner.Chain.{Silent}
 use Rattle.loops.proofs.NumberLaws.{shorter}
 use Rattle.rows.specs.Cells.{rowCount, cell, num, is}
-use Rattle.rows.specs.Class.{task-c, t?-c}
-use Rattle.sheet.specs.inner.Accepted.{Accepted}
+use Rattle.rows.specs.Class.{t?-c}
 use Rattle.sheet.specs.Places.{ofKind, placeOf}
-use Rattle.sheet.specs.Refusals.{lacks}
-use Rattle.sheet.specs.inner.Index.{orEnd, ownPlace}
 use Rattle.calendar.specs.Clock.{clock}
 use Rattle.findings.specs.declared.Violation.{Violation}
 use Rattle.findings.specs.inner.Sink.{Sink, emit}
@@ -32,14 +29,12 @@ use Rattle.model.specs.Task.{findTask}
 use Rattle.model.specs.Activity.{findActivity, neededMs}
 use Rattle.model.specs.Schedule.{Assignment, assignmentsBelow, unknownActivity, durationTooShort, earlyStart}
 use Rattle.model.proofs.RowLaws.{assignment-row, assignment-none}
-use Rattle.model.proofs.Accepting.{has-owner}
-use Rattle.model.proofs.Finds.{find-task, find-activity, own-task}
+use Rattle.model.proofs.Finds.{find-task, find-activity}
 use Rattle.definition.specs.Pieces.{isHeld, runsOn}
 use Rattle.definition.specs.CheckAssignments.{misplaced, units, uses, earlyAssignment, checkKnown, checkAssignment, checkAssignmentAt, checkAssignments}
 use Rattle.pieces.specs.inner.Held.{heldAt}
 use Rattle.derived_times.specs.inner.Needs.{Needs}
 use Rattle.check1_assignments.specs.inner.Bookings.{Booked}
-use Rattle.check1_assignments.proofs.Placing.{activity-named, activity-kind}
 
 module _ (rows : List ℤ) where
   -- ---- releases
@@ -52,27 +47,18 @@ module _ (rows : List ℤ) where
   early-is : (k r c : ℕ) → earlyAssignment clock (sheet rows) (assignmentOf rows k) (maybeAt rows r c) ≡ given (ltb (num rows k 4) (num rows r c)) (earlyStart 1 (num rows k 1))
   early-is k r c = early-cell (assignmentOf rows k) (num rows k 4) refl (cell rows r c)
 
-  task-there : (a : ℕ) → lacks task-c rows a 2 ≡ false → placeOf rows 1 (num rows a 2) ≡ none → ⊥
-  unfolding lacks
-  task-there a e q = true≢false (rw q at e)
-
-  early-task : (acc : Accepted rows) (a k t : ℕ) → Booked rows a k → t ≡ ownPlace rows a
+  early-task : (a k : ℕ)
       → earlyAssignment clock (sheet rows) (assignmentOf rows k) (option (findTask (sheet rows) (num rows a 2)) none (λ x. x .release))
-      ≡ given (ltb (num rows k 4) (num rows t 3)) (earlyStart 1 (num rows k 1))
-  early-task acc a k t b e =
+      ≡ given (option (placeOf rows 1 (num rows a 2)) false (λ t. ltb (num rows k 4) (num rows t 3))) (earlyStart 1 (num rows k 1))
+  early-task a k =
       ap (λ x. earlyAssignment clock (sheet rows) (assignmentOf rows k) (option x none (λ y. y .release))) (find-task rows (num rows a 2))
-      ∙ go (placeOf rows 1 (num rows a 2)) refl
+      ∙ go (placeOf rows 1 (num rows a 2))
     where
-      absent : placeOf rows 1 (num rows a 2) ≡ none → ⊥
-      absent q = task-there a (has-owner rows acc a 2 2 (activity-named rows a k b .within) (activity-kind rows a k b)) q
-
-      go : (x : Option ℕ) → placeOf rows 1 (num rows a 2) ≡ x
+      go : (x : Option ℕ)
           → earlyAssignment clock (sheet rows) (assignmentOf rows k) (option (option x none (λ j. some (taskOf rows j))) none (λ y. y .release))
-          ≡ given (ltb (num rows k 4) (num rows t 3)) (earlyStart 1 (num rows k 1))
-      go none q = absurd (absent q)
-      go (some j) q =
-          let w : t ≡ j = e ∙ own-task rows a (activity-kind rows a k b) ∙ ap (orEnd rows) q ∙ (unfold orEnd in refl) in
-          early-is k j 3 ∙ ap (λ i. given (ltb (num rows k 4) (num rows i 3)) (earlyStart 1 (num rows k 1))) (sym w)
+          ≡ given (option x false (λ t. ltb (num rows k 4) (num rows t 3))) (earlyStart 1 (num rows k 1))
+      go none = refl
+      go (some t) = early-is k t 3
 
   -- ---- a booking of an activity
 
@@ -123,9 +109,9 @@ module _ (rows : List ℤ) where
         → d ≡ heldAt rows k → d ≡ true → s ≡ emit s known
     held-told s h e f i j = sym (emit-none s) ∙ ap (emit s) (sym (held-is (sym e ∙ f) (is-held h i j)))
 
-    pub judged-told : Accepted rows → Booked rows a k → (need : List ℕ) → Needs rows need
+    pub judged-told : Booked rows a k → (need : List ℕ) → Needs rows need
         → misplaced (sheet rows) (activityOf rows a) (assignmentOf rows k) ≡ false → isHeld (sheet rows) (assignmentOf rows k) ≡ false
-        → {id used setup t : ℕ} {over short early late : Bool} (s₀ : Sink) {s₁ s₂ s₃ s₄ : Sink}
+        → {id used setup : ℕ} {over short early late : Bool} (s₀ : Sink) {s₁ s₂ s₃ s₄ : Sink}
         → id ≡ num rows k 1
         → used ≡ uses (sheet rows) (activityOf rows a) (assignmentOf rows k) (assignmentsBelow (sheet rows) k)
         → over ≡ ltZ (units (sheet rows) (num rows a 1)) (pos (used + 1))
@@ -135,11 +121,10 @@ module _ (rows : List ℤ) where
         → s₂ ≡ emit s₁ (given short (durationTooShort 1 id))
         → early ≡ ltb (num rows k 4) (num rows a 8)
         → s₃ ≡ emit s₂ (given early (earlyStart 1 id))
-        → t ≡ ownPlace rows a
-        → late ≡ ltb (num rows k 4) (num rows t 3)
+        → late ≡ option (placeOf rows 1 (num rows a 2)) false (λ t. ltb (num rows k 4) (num rows t 3))
         → s₄ ≡ emit s₃ (given late (earlyStart 1 id))
         → s₄ ≡ emit s₀ known
-    judged-told acc b need nd h g {id} {used} {setup} {t} {over} {short} {early} {late} s₀ i u o q₁ r w q₂ e q₃ z l q₄ =
+    judged-told b need nd h g {id} {used} {setup} {over} {short} {early} {late} s₀ i u o q₁ r w q₂ e q₃ l q₄ =
         emit-then _ _ s₀ (emit-then _ _ s₀ (emit-then _ _ s₀ q₁ q₂) q₃) q₄
         ∙ ap (emit s₀)
         (ap₂ _++_
@@ -149,7 +134,7 @@ module _ (rows : List ℤ) where
         (ap₂ (λ x y. given x (durationTooShort 1 y)) (w ∙ ap (λ x. ltb (num rows k 5) (num rows k 4 + x)) (ap (λ x. x + getD need k 0) r ∙ sym (nd .at k (assignmentOf rows k) (activityOf rows a) (b .within) (assignment-row rows k (b .kind)) (found a k b)))
         ∙ sym (shorter (num rows k 4) (num rows k 5) (neededMs (sheet rows) (activityOf rows a) (assignmentOf rows k) (runsOn (sheet rows) (assignmentOf rows k))))) i))
         (ap₂ (λ x y. given x (earlyStart 1 y)) e i ∙ sym (early-is k a 8)))
-        (ap₂ (λ x y. given x (earlyStart 1 y)) l i ∙ sym (early-task acc a k t b z))
+        (ap₂ (λ x y. given x (earlyStart 1 y)) l i ∙ sym (early-task a k))
         ∙ sym (judged-is h g))
 
   -- ---- any booking

@@ -8,8 +8,8 @@ use native.Mathlib.Omega.{arith}
 use native.Mathlib.Decide.{decLt}
 use lib.Dec.{eqb, ltb}
 use lib.IntN.{ℤ, pos, negsuc, subℕ, _+ℤ_, _-ℤ_}
-use lib.Signed.{ltZ, leZ}
-use borrow.Author.Tests.{lt-ltb, le-ltb, leb-true}
+use lib.Signed.{ltZ}
+use borrow.Author.Tests.{lt-ltb, le-ltb}
 use Rattle.loops.specs.Lists.{given}
 use Rattle.loops.specs.Numbers.{maxZ}
 use Rattle.loops.specs.Range.{fold}
@@ -18,7 +18,7 @@ use Rattle.loops.proofs.ListLaws.{map-collect, foldl-collect}
 use Rattle.loops.proofs.RangeLaws.{fold-ext}
 use Rattle.rows.specs.Cells.{rowCount, cell, num, is}
 use Rattle.rows.specs.Class.{n-c}
-use Rattle.rows.specs.Ranges.{between, inRange, inClass}
+use Rattle.rows.specs.Ranges.{inClass}
 use Rattle.sheet.specs.inner.Accepted.{Accepted}
 use Rattle.sheet.specs.Places.{placeOf}
 use Rattle.sheet.specs.inner.Index.{ownerKind, ownedBy}
@@ -27,9 +27,10 @@ use Rattle.model.specs.Activity.{ResourceRequirement, requirementAt, requiremen
 use Rattle.model.proofs.RowLaws.{kind-is}
 use Rattle.model.proofs.OwnedLaws.{of-activity}
 use Rattle.model.proofs.Accepting.{in-class}
-use Rattle.loops.proofs.BoolLaws.{and-left, and-right, or-left}
 use Rattle.definition.specs.CheckAssignments.{units}
+use Rattle.rows.proofs.Signed.{number-low}
 use Rattle.pieces.specs.inner.Bookings.{indexKey}
+use Rattle.pieces.proofs.Indices.{key-neg, key-pos, key-most}
 use Rattle.check1_assignments.specs.declared.Units.{Units}
 use Rattle.check1_assignments.specs.inner.Bookings.{quantities}
 
@@ -62,41 +63,21 @@ add-neg r o n = go (decLt r o)
 
 -- ---- a quantity added
 
-lowest : (x : ℤ) → inClass n-c x ≡ true → leZ (negsuc 999999) x ≡ true
-unfolding inClass inRange between
-lowest x e = and-left (leZ (negsuc 999999) x) (leZ x (pos 1000000)) (or-left (leZ (negsuc 999999) x && leZ x (pos 1000000)) false e refl)
-
-key-down : (n : ℕ) → n ≤ 999999 → indexKey (negsuc n) ≡ 1000000 - n
-unfolding indexKey
-key-down n h = rw (le-ltb 1000001 (suc n) (omega arith)) (omega arith)
-
-key-up : (n : ℕ) → indexKey (pos n) ≡ n + 1000001
-unfolding indexKey
-key-up n = refl
-
-raise : (x : ℤ) (r o : ℕ) → leZ (negsuc 999999) x ≡ true → subℕ (r + indexKey x) (o + 1000001) ≡ subℕ r o +ℤ x
-raise (pos n) r o e = rw (key-up n) (sub-same (r + (n + 1000001)) (o + 1000001) (r + n) o (omega arith)) ∙ sym (add-pos r o n)
+raise : (x : ℤ) (r o : ℕ) → inClass n-c x ≡ true → subℕ (r + indexKey x) (o + 1000001) ≡ subℕ r o +ℤ x
+raise (pos n) r o e = rw (key-pos n) (sub-same (r + (n + 1000001)) (o + 1000001) (r + n) o (omega arith)) ∙ sym (add-pos r o n)
 raise (negsuc n) r o e =
-    let l : n ≤ 999999 = leb-true n 999999 e in
-    rw (key-down n l) (sub-same (r + (1000000 - n)) (o + 1000001) r (o + suc n) (omega arith)) ∙ sym (add-neg r o n)
+    let l = number-low n e in
+    rw (key-neg n l) (sub-same (r + (1000000 - n)) (o + 1000001) r (o + suc n) (omega arith)) ∙ sym (add-neg r o n)
 
 pub raised-by : (x : ℤ) (r o : ℕ) → inClass n-c x ≡ true → pos (r + indexKey x) -ℤ pos (o + 1000001) ≡ (pos r -ℤ pos o) +ℤ x
-raised-by x r o e = sub-is (r + indexKey x) (o + 1000001) ∙ raise x r o (lowest x e) ∙ ap (λ z. z +ℤ x) (sym (sub-is r o))
-
-highest : (x : ℤ) → inClass n-c x ≡ true → leZ x (pos 1000000) ≡ true
-unfolding inClass inRange between
-highest x e = and-right (leZ (negsuc 999999) x) (leZ x (pos 1000000)) (or-left (leZ (negsuc 999999) x && leZ x (pos 1000000)) false e refl)
-
-key-at-most : (x : ℤ) → inClass n-c x ≡ true → indexKey x ≤ 2000001
-key-at-most (pos n) e = let l : n ≤ 1000000 = leb-true n 1000000 (highest (pos n) e) in rw (key-up n) (omega arith)
-key-at-most (negsuc n) e = let l : n ≤ 999999 = leb-true n 999999 (lowest (negsuc n) e) in rw (key-down n l) (omega arith)
+raised-by x r o e = sub-is (r + indexKey x) (o + 1000001) ∙ raise x r o e ∙ ap (λ z. z +ℤ x) (sym (sub-is r o))
 
 module _ (rows : List ℤ) (acc : Accepted rows) where
   pub quantity-class : (q : ℕ) → is rows q 0 5 ≡ true → inClass n-c (cell rows q 3) ≡ true
   quantity-class q h = in-class rows acc q 5 3 h
 
   pub quantity-key : (q : ℕ) → is rows q 0 5 ≡ true → indexKey (cell rows q 3) ≤ 2000001
-  quantity-key q h = key-at-most (cell rows q 3) (quantity-class q h)
+  quantity-key q h = key-most (cell rows q 3) (quantity-class q h)
 
 -- ---- the sum along the activity's chain
 

@@ -8,9 +8,9 @@ ghost use lib.Dec.{ltb};
 ghost use lib.IntN.{ℤ, pos, _-ℤ_};
 ghost use lib.Signed.{ltZ};
 ghost use lib.ListN.{getD};
-ghost use Rattle.loops.specs.Lists.{given, isSome};
+ghost use Rattle.loops.specs.Lists.{given, option, isSome};
 ghost use Rattle.rows.specs.Cells.{rowCount, cell, num, is};
-ghost use Rattle.sheet.specs.Places.{placeOf};
+ghost use Rattle.sheet.specs.Places.{placeOf, taskPlace};
 ghost use Rattle.sheet.specs.inner.Index.{Kinds, Linked, Owned};
 ghost use Rattle.sheet.specs.inner.Accepted.{Accepted};
 ghost use Rattle.calendar.specs.Clock.{clock};
@@ -167,6 +167,17 @@ fn is_early(rows: &[i64], k: usize, r: usize, c: usize) -> bool
     rows::num_at(rows, k, 4) < rows::num_at(rows, r, c)
 }
 
+// Whether booking k starts before the release of the task that the activity of row a is of.
+fn is_early_in_task(rows: &[i64], links: &[u16; 1600], k: usize, a: usize) -> bool
+    requires { ⌜ Linked (now rows) (now links) × (a < rowCount (now rows)) × (is (now rows) a 0 2 ≡ true) ⌝ }
+    ensures { λ b. ⌜ b ≡ option (taskPlace (now (rows .entry)) (num (now (rows .entry)) a 2)) false (λ t. ltb (num (now (rows .entry)) k 4) (num (now (rows .entry)) t 3)) ⌝ }
+{
+    let Found::At(t) = sheet::task_of(rows, links, a) else {
+        return false;
+    };
+    is_early(rows, k, t, 3)
+}
+
 // ---- the check
 
 fn tell(out: &mut [i64], n: usize, yes: bool, kind: u8, entity: u64, severity: u8) -> usize
@@ -205,8 +216,7 @@ fn check_judged(
     let setup = rows::id_at(rows, k, 6);
     let m2 = tell(out, m, is_short(rows, need, k, setup), 10, id, 90);
     let m3 = tell(out, m2, is_early(rows, k, a, 8), 11, id, 90);
-    let t = sheet::owner_of(rows, links, a);
-    tell(out, m3, is_early(rows, k, t, 3), 11, id, 90)
+    tell(out, m3, is_early_in_task(rows, links, k, a), 11, id, 90)
 }
 
 // Booking k of the activity of row a.

@@ -1,7 +1,7 @@
 -- What is reported of a span, and of an activity without one. Assumes nothing.
 use Prim.Native.Nat.{ℕ, _+_, _<_, _≤_}
 use mathlib.Core.Path.{_≡_, refl, ap, ap₂, sym, _∙_}
-use mathlib.Core.Bool.{Bool, true, false, cond, not, _&&_, true≢false}
+use mathlib.Core.Bool.{Bool, true, false, cond, not, _&&_}
 use mathlib.Core.List.{List, [], _∷_, append-nil}
 use mathlib.Core.Option.{Option, none, some}
 use native.Mathlib.Omega.{arith}
@@ -21,24 +21,25 @@ use Rattle.loops.proofs.NumberLaws.{shorter}
 use Rattle.rows.specs.Cells.{rowCount, num, is}
 use Rattle.sheet.specs.declared.Found.{Found}
 use Rattle.sheet.specs.declared.Found.the-variants.{At, Nothing}
-use Rattle.sheet.specs.Places.{foundOf, ofKind, placeOf}
-use Rattle.sheet.specs.inner.Index.{ownerKind, orEnd, ownPlace, ownedBy}
-use Rattle.sheet.specs.Refusals.{refusalOf, isAbsent, lacks}
+use Rattle.sheet.specs.Places.{ofKind, placeOf}
+use Rattle.sheet.specs.inner.Found.{foundOf}
+use Rattle.sheet.specs.inner.Index.{ownerKind, ownPlace, ownedBy}
+use Rattle.sheet.specs.Refusals.{refusalOf}
 use Rattle.sheet.proofs.Lookups.{placed}
 use Rattle.findings.specs.declared.Violation.{Violation}
 use Rattle.findings.specs.inner.Sink.{Sink, emit}
 use Rattle.findings.proofs.SinkLaws.{emit-none, emit-then}
 use Rattle.resource_timing.specs.Durations.{totalMs}
 use Rattle.model.specs.Sheet.{sheet}
-use Rattle.model.specs.inner.Records.{maybeAt, activityOf, spanOf}
+use Rattle.model.specs.inner.Records.{taskOf, maybeAt, activityOf, spanOf}
 use Rattle.model.specs.Task.{Task, taskAt, tasks, findTask}
 use Rattle.model.specs.Activity.{Activity, activityAt, activities, activitiesOf, requirements}
 use Rattle.model.specs.Resource.{windows}
 use Rattle.model.specs.Schedule.{timeOnlyBelow, timeOnly, unknownActivity, durationTooShort, timeWindowViolation, earlyStart}
 use Rattle.model.proofs.RowLaws.{task-row, task-none, activity-row, activity-none, span-row, span-none}
-use Rattle.model.proofs.Accepting.{accepted, at-most, has-owner, found-again}
+use Rattle.model.proofs.Accepting.{accepted, at-most, found-again}
 use Rattle.model.proofs.OwnedLaws.{of-task}
-use Rattle.model.proofs.Finds.{find-task, own-task}
+use Rattle.model.proofs.Finds.{find-task}
 use Rattle.definition.specs.CheckTimeOnly.{known, seen, earlySpan, checkFirst, checkSpan, checkSpanAt, checkUnplaced}
 use Rattle.check2_time_only.specs.inner.Tests.{tooShort, outsideOwn}
 use Rattle.check2_time_only.specs.inner.Known.{Known}
@@ -102,34 +103,27 @@ module _ (rows : List ℤ) (a k : ℕ) where
   early-is none = refl
   early-is (some y) = refl
 
-  pub task-found : {t : ℕ} → refusalOf rows ≡ none → a < rowCount rows → is rows a 0 2 ≡ true → t ≡ ownPlace rows a → placeOf rows 1 (num rows a 2) ≡ some t
-  task-found {t} acc l h e = go (placeOf rows 1 (num rows a 2)) refl
+  task-release : option (placeOf rows 1 (num rows a 2)) none (λ t. maybeAt rows t 3) ≡ option (findTask (sheet rows) (num rows a 2)) none (λ y. y .release)
+  task-release = go (placeOf rows 1 (num rows a 2)) ∙ sym (ap (λ y. option y none (λ t. t .release)) (find-task rows (num rows a 2)))
     where
-      go : (x : Option ℕ) → placeOf rows 1 (num rows a 2) ≡ x → placeOf rows 1 (num rows a 2) ≡ some t
-      go none q =
-          let z : isAbsent (placeOf rows 1 (num rows a 2)) ≡ false = unfold lacks in has-owner rows (accepted rows acc) a 2 2 l h in
-          absurd (true≢false (rw q at z))
-      go (some j) q =
-          let z : t ≡ j = e ∙ own-task rows a h ∙ (unfold orEnd in ap (orEnd rows) q) in
-          q ∙ ap some (sym z)
+      go : (x : Option ℕ) → option x none (λ t. maybeAt rows t 3) ≡ option (option x none (λ j. some (taskOf rows j))) none (λ t. t .release)
+      go none = refl
+      go (some t) = refl
 
-  task-release : {t : ℕ} → placeOf rows 1 (num rows a 2) ≡ some t → maybeAt rows t 3 ≡ option (findTask (sheet rows) (num rows a 2)) none (λ y. y .release)
-  task-release q = rw (find-task rows (num rows a 2), q)
-
-  pub first-told : (s₀ : Sink) {s₁ s₂ s₃ s₄ : Sink} {b₁ b₂ b₃ b₄ : Bool} {id t : ℕ} {x y : Option ℤ} → id ≡ num rows k 1
+  pub first-told : (s₀ : Sink) {s₁ s₂ s₃ s₄ : Sink} {b₁ b₂ b₃ b₄ : Bool} {id : ℕ} {x y : Option ℤ} → id ≡ num rows k 1
       → b₁ ≡ tooShort clock (spanOf rows k) (activityOf rows a) own → b₂ ≡ outsideOwn clock (spanOf rows k) (activityOf rows a) own
       → x ≡ maybeAt rows a 8 → b₃ ≡ option x false (λ z. ltZ (pos (num rows k 3)) z)
-      → placeOf rows 1 (num rows a 2) ≡ some t → y ≡ maybeAt rows t 3 → b₄ ≡ option y false (λ z. ltZ (pos (num rows k 3)) z)
+      → y ≡ option (placeOf rows 1 (num rows a 2)) none (λ t. maybeAt rows t 3) → b₄ ≡ option y false (λ z. ltZ (pos (num rows k 3)) z)
       → s₁ ≡ emit s₀ (given b₁ (durationTooShort 2 id)) → s₂ ≡ emit s₁ (given b₂ (timeWindowViolation 2 id))
       → s₃ ≡ emit s₂ (given b₃ (earlyStart 2 id)) → s₄ ≡ emit s₃ (given b₄ (earlyStart 2 id))
       → s₄ ≡ emit s₀ (checkFirst clock (sheet rows) (spanOf rows k) (activityOf rows a))
   unfolding checkFirst
-  first-told s₀ {s₁} {s₂} {s₃} i e₁ e₂ rx e₃ q ry e₄ h₁ h₂ h₃ h₄ =
+  first-told s₀ {s₁} {s₂} {s₃} i e₁ e₂ rx e₃ ry e₄ h₁ h₂ h₃ h₄ =
       emit-then _ _ s₀
       (emit-then _ _ s₀
       (emit-then _ _ s₀ (rw (e₁, i) at h₁) (rw (e₂, i) at h₂))
       ((rw (e₃, rx, i) at h₃) ∙ ap (emit s₂) (early-is (maybeAt rows a 8))))
-      ((rw (e₄, ry ∙ task-release q, i) at h₄) ∙ ap (emit s₃) (early-is (option (findTask (sheet rows) (num rows a 2)) none (λ z. z .release))))
+      ((rw (e₄, ry ∙ task-release, i) at h₄) ∙ ap (emit s₃) (early-is (option (findTask (sheet rows) (num rows a 2)) none (λ z. z .release))))
 
 -- ---- a span
 

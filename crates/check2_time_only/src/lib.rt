@@ -10,7 +10,7 @@ ghost use Rattle.loops.specs.Lists.{given, option, isEmpty, each};
 ghost use Rattle.calendar.specs.Clock.{clock};
 ghost use Rattle.calendar.specs.Layout.{calendarOf};
 ghost use Rattle.rows.specs.Cells.{rowCount, num, is};
-ghost use Rattle.sheet.specs.Places.{placeOf};
+ghost use Rattle.sheet.specs.Places.{placeOf, taskPlace};
 ghost use Rattle.sheet.specs.inner.Index.{Linked, Owned};
 ghost use Rattle.sheet.specs.Refusals.{refusalOf};
 ghost use Rattle.findings.specs.inner.Sink.{sink, emit};
@@ -21,7 +21,7 @@ ghost use Rattle.model.specs.Task.{tasks};
 ghost use Rattle.model.specs.Activity.{requirements, activitiesOf};
 ghost use Rattle.model.specs.Resource.{windows};
 ghost use Rattle.model.specs.Schedule.{timeOnlyBelow, violation};
-ghost use Rattle.model.specs.inner.Records.{taskOf, activityOf, spanOf};
+ghost use Rattle.model.specs.inner.Records.{maybeAt, taskOf, activityOf, spanOf};
 ghost use Rattle.spans.specs.inner.Instants.{meant};
 ghost use Rattle.definition.specs.CheckTimeOnly.{seen, checkFirst, checkSpanAt, checkUnplaced, checkTimeOnly};
 ghost use Rattle.check2_time_only.specs.inner.Tests.{tooShort, outsideOwn};
@@ -124,6 +124,17 @@ fn is_early(rows: &[i64], k: usize, release: Instant) -> bool
     start < x
 }
 
+// The release of the task that the activity of row a is of.
+fn task_release(rows: &[i64], links: &[u16; 1600], a: usize) -> Instant
+    requires { ⌜ Linked (now rows) (now links) × (a < rowCount (now rows)) × (is (now rows) a 0 2 ≡ true) ⌝ }
+    ensures { λ r. ⌜ meant r ≡ option (taskPlace (now (rows .entry)) (num (now (rows .entry)) a 2)) none (λ t. maybeAt (now (rows .entry)) t 3) ⌝ }
+{
+    let Found::At(t) = sheet::task_of(rows, links, a) else {
+        return Instant::Nothing;
+    };
+    spans::instant_at(rows, t, 3)
+}
+
 fn tell(out: &mut [i64], n: usize, yes: bool, kind: u8, entity: u64, severity: u8) -> usize
     requires { ⌜ entity < 9223372036854775808 ⌝ }
     ensures { λ r. ⌜ sink (now (out .exit)) r ≡ emit (sink (now (out .entry)) n) (given yes (violation 2 kind entity severity)) ⌝ }
@@ -155,8 +166,7 @@ fn check_first(
     let short = is_short(rows, a, k, &w, to);
     let outside = is_outside(rows, a, k, &w, to);
     let own = is_early(rows, k, spans::instant_at(rows, a, 8));
-    let t = sheet::owner_of(rows, links, a);
-    let of_task = is_early(rows, k, spans::instant_at(rows, t, 3));
+    let of_task = is_early(rows, k, task_release(rows, links, a));
     let id = rows::id_at(rows, k, 1);
     let m1 = tell(out, n, short, 10, id, 90);
     let m2 = tell(out, m1, outside, 7, id, 75);

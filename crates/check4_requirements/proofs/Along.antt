@@ -1,27 +1,32 @@
 -- Loops along a chain that test or report at each of its places. Assumes nothing.
 use Prim.Native.Nat.{ℕ, suc, _+_, _<_, _≤_}
-use mathlib.Core.Path.{_≡_, ap, sym, _∙_}
-use mathlib.Core.Bool.{Bool, true, false, _||_, or-false}
-use mathlib.Core.List.{List}
+use mathlib.Core.Path.{_≡_, refl, ap, sym, _∙_}
+use mathlib.Core.Bool.{Bool, true, false, cond, _||_, _&&_, true≢false, or-false}
+use mathlib.Core.List.{List, []}
 use mathlib.Core.Option.{none, some}
 use native.Mathlib.Omega.{arith}
 use native.Mathlib.Numerals.{add-one}
+use lib.Dec.{eqb, ltb}
 use lib.IntN.{ℤ}
+use lib.ListN.{getD, set}
+use borrow.Author.Tests.{lt-ltb, le-ltb}
 use Rattle.loops.specs.Range.{collect}
 use Rattle.loops.specs.Search.{anyBelow}
 use Rattle.loops.specs.inner.Chain.{First, Stands, Blind, only}
-use Rattle.loops.proofs.BoolLaws.{and-left}
+use Rattle.loops.proofs.BoolLaws.{and-left, and-right}
 use Rattle.loops.proofs.SearchLaws.{any-none}
 use Rattle.loops.proofs.Walks.{over, silent-only}
 use Rattle.findings.specs.declared.Violation.{Violation}
 use Rattle.findings.specs.inner.Sink.{Sink, emit}
 use Rattle.findings.proofs.Reports.{emit-next}
-use Rattle.rows.specs.Cells.{rowCount, num, is}
+use Rattle.findings.proofs.SinkLaws.{emit-none}
+use Rattle.rows.specs.Cells.{num, is}
 use Rattle.sheet.specs.Places.{placeOf}
-use Rattle.sheet.specs.inner.Index.{ownedBy, ownPlace, resPlace, orEnd}
-use lib.Dec.{eqb}
-use borrow.Author.Tests.{le-ltb}
-use Rattle.check4_requirements.specs.inner.ByRow.{both, owns, names, candidateAt, candidateOf, lackingAt, lackingOf, takes}
+use Rattle.sheet.specs.inner.Index.{ownedBy, ownPlace}
+use Rattle.model.specs.Sheet.{sheet}
+use Rattle.model.specs.Activity.{isCandidate}
+use Rattle.model.specs.inner.Records.{requirementOf, resourceOf}
+use Rattle.check4_requirements.specs.inner.ByRow.{both, candidateOf, lackingOf, claimable, takes}
 
 -- ---- tests
 
@@ -72,37 +77,66 @@ pub emit-turn : (p : ℕ → Bool) (f : ℕ → List Violation) {n N i j : ℕ} 
     → s ≡ emit s₀ (collect (only p f) i) → s′ ≡ emit s (f i) → s′ ≡ emit s₀ (collect (only p f) j)
 emit-turn p f s₀ {s} x l z a r t = emit-next (only p f) s₀ x (silent-only p f) r (t ∙ ap (emit s) (sym (only-here p f l z a)))
 
--- the row of a booking's resource
-pub resource-row : (rows : List ℤ) (k : ℕ) → is rows k 0 23 ≡ true → resPlace rows k ≡ orEnd rows (placeOf rows 11 (num rows k 3))
-unfolding resPlace
-resource-row rows k e = rw e
-
 -- a place of an owner's chain is of the kind
 pub kind-here : (rows : List ℤ) (o x : ℕ) {n N i : ℕ} → i < N → N ≡ n → Stands (ownedBy rows o x) n i → is rows i 0 x ≡ true
 unfolding ownedBy
 kind-here rows o x {i = i} l z a = and-left (is rows i 0 x) (eqb (ownPlace rows i) o) (a .here (omega arith))
 
--- ---- candidates and skills
+-- ---- what is claimed
 
-module _ (rows : List ℤ) (q k : ℕ) {r : ℕ} (e : some r ≡ placeOf rows 11 (num rows k 3)) where
-  pub candidate-named : {x : ℕ} {o b : Bool} → o ≡ anyBelow (ownedBy rows q 6) (rowCount rows) → o ≡ true → x ≡ num rows k 3 → b ≡ names rows q 6 3 x → b ≡ candidateOf rows q (num rows k 3)
-  unfolding candidateAt owns
-  candidate-named s h f g = rw (← e, sym s ∙ h, ← f) g
+module _ (rows : List ℤ) (q k : ℕ) where
+  pub candidate-none : none ≡ placeOf rows 11 (num rows k 3) → none ≡ cond (candidateOf rows q (num rows k 3)) (placeOf rows 11 (num rows k 3)) none
+  candidate-none e = rw (← e)
 
-  pub candidate-typed : {t : ℕ} {o b : Bool} → o ≡ anyBelow (ownedBy rows q 6) (rowCount rows) → o ≡ false → t ≡ num rows q 2 → b ≡ is rows r 2 t → b ≡ candidateOf rows q (num rows k 3)
-  unfolding candidateAt owns
-  candidate-typed s h f g = rw (← e, sym s ∙ h, ← f) g
+  module _ {r : ℕ} {b : Bool} (e : some r ≡ placeOf rows 11 (num rows k 3)) (s : b ≡ isCandidate (sheet rows) (requirementOf rows q) (resourceOf rows r)) where
+    pub candidate-yes : b ≡ true → some r ≡ cond (candidateOf rows q (num rows k 3)) (placeOf rows 11 (num rows k 3)) none
+    candidate-yes h = rw (← e, sym s ∙ h)
 
-pub candidate-none : (rows : List ℤ) (q k : ℕ) → none ≡ placeOf rows 11 (num rows k 3) → false ≡ candidateOf rows q (num rows k 3)
-candidate-none rows q k e = rw (← e)
+    pub candidate-no : b ≡ false → none ≡ cond (candidateOf rows q (num rows k 3)) (placeOf rows 11 (num rows k 3)) none
+    candidate-no h = rw (← e, sym s ∙ h)
 
-module _ (rows : List ℤ) (q k : ℕ) (h : is rows k 0 23 ≡ true) {r : ℕ} (e : r ≡ resPlace rows k) where
-  row-is : r ≡ orEnd rows (placeOf rows 11 (num rows k 3))
-  row-is = e ∙ resource-row rows k h
+module _ (rows : List ℤ) (q : ℕ) (free : List ℕ) (units k : ℕ) where
+  module _ {r : ℕ} (e : some r ≡ cond (claimable rows q free k) (placeOf rows 11 (num rows k 3)) none) where
+    claim-may : claimable rows q free k ≡ true
+    claim-may = go (claimable rows q free k) e
+      where
+        go : (b : Bool) → some r ≡ cond b (placeOf rows 11 (num rows k 3)) none → b ≡ true
+        go true f = refl
+        go false f = absurd (let z : _≡_ {A = ℕ} 0 1 = cc in omega arith)
 
-  pub lacking-is : {x : ℕ} → x ≡ num rows k 3 → lackingAt rows q r x ≡ lackingOf rows q (num rows k 3)
-  lacking-is f = rw (← row-is, f)
+    pub claim-place : placeOf rows 11 (num rows k 3) ≡ some r
+    claim-place = sym (rw claim-may at e)
 
-pub takes-full : (rows : List ℤ) (q : ℕ) (free : List ℕ) (units k : ℕ) {m : ℕ} → m ≡ num rows q 3 → m ≤ units → takes rows q free units k ≡ false
-unfolding takes
-takes-full rows q free units k e l = rw (le-ltb units (num rows q 3) (omega arith))
+    pub claim-takes : {m : ℕ} → m ≡ num rows q 3 → units < m → takes rows q free units k ≡ true
+    unfolding takes
+    claim-takes f l = rw (lt-ltb units (num rows q 3) (omega arith)) claim-may
+
+  -- whatever may be claimed is found
+  pub claim-none : none ≡ cond (claimable rows q free k) (placeOf rows 11 (num rows k 3)) none → takes rows q free units k ≡ false
+  unfolding takes claimable
+  claim-none e = go (claimable rows q free k) refl e
+    where
+      last-false : (b : Bool) → (b && false) ≡ false
+      last-false true = refl
+      last-false false = refl
+
+      go : (b : Bool) → claimable rows q free k ≡ b → none ≡ cond b (placeOf rows 11 (num rows k 3)) none → (ltb units (num rows q 3) && claimable rows q free k) ≡ false
+      go true h f = absurd (true≢false (sym (and-right (eqb (getD free k 0) 1) (candidateOf rows q (num rows k 3)) h) ∙ (rw (← f))))
+      go false h f = rw h (last-false (ltb units (num rows q 3)))
+
+  pub takes-full : {m : ℕ} → m ≡ num rows q 3 → m ≤ units → takes rows q free units k ≡ false
+  unfolding takes
+  takes-full e l = rw (le-ltb units (num rows q 3) (omega arith))
+
+  -- what booking k leaves: the findings, the units and the marks
+  abbrev Left : Sink → Sink → ℕ → List ℕ → Type 0
+  Left s s′ units′ free′ =
+      (s′ ≡ emit s (cond (takes rows q free units k) (lackingOf rows q (num rows k 3)) []))
+      × ((units′ ≡ units + cond (takes rows q free units k) 1 0) × (free′ ≡ cond (takes rows q free units k) (set free k 0) free))
+
+  pub left-alone : (s : Sink) → takes rows q free units k ≡ false → Left s s units free
+  left-alone s e = rw e (sym (emit-none s), (omega arith, refl))
+
+  pub left-claimed : (s : Sink) {s′ : Sink} {x : ℕ} {free′ : List ℕ} → takes rows q free units k ≡ true → x ≡ num rows k 3
+      → s′ ≡ emit s (lackingOf rows q x) → free′ ≡ set free k 0 → Left s s′ (units + 1) free′
+  left-claimed s e f w m = rw e (rw f at w, (refl, m))

@@ -11,7 +11,7 @@ use lib.IntN.{ℤ, pos, negsuc}
 use lib.Signed.{ltZ}
 use borrow.Author.Tests.{ltb-true, ne-eqb, le-ltb}
 use Rattle.loops.specs.Numbers.{toNat}
-use Rattle.loops.specs.Lists.{given, anyOf, allOf, among, isEmpty, each, option}
+use Rattle.loops.specs.Lists.{given, anyOf, allOf, among, each, option}
 use Rattle.loops.specs.Range.{collect}
 use Rattle.loops.specs.Search.{anyBelow}
 use Rattle.loops.specs.inner.Chain.{only}
@@ -22,22 +22,22 @@ use Rattle.loops.proofs.PlaceLaws.{any-same, place-none}
 use Rattle.rows.specs.Cells.{rowCount, cell, num, is}
 use Rattle.rows.specs.Table.{classOf}
 use Rattle.sheet.specs.Places.{named, placeOf}
-use Rattle.sheet.specs.inner.Index.{ownerKind, ownerOf, ownerPlace, orEnd, ownPlace, ownedBy}
+use Rattle.sheet.specs.inner.Index.{ownerKind, ownedBy}
 use Rattle.sheet.specs.Refusals.{isAbsent, lacks}
 use Rattle.sheet.specs.inner.Accepted.{Accepted}
 use Rattle.sheet.proofs.Lookups.{is-num, num-is, Named, placed}
 use Rattle.model.specs.Sheet.{sheet, rowAt}
 use Rattle.model.specs.inner.Records.{numAt, requirementOf, resourceOf}
 use Rattle.model.specs.Resource.{resourceAt, resources, listed, skills, companions}
-use Rattle.model.specs.Activity.{namedFor, candidates, requiredSkills, isCandidate}
+use Rattle.model.specs.Activity.{namedFor, requiredSkills, isCandidate}
 use Rattle.model.specs.Schedule.{skillMismatch, requirementUnfilled}
 use Rattle.model.proofs.RowLaws.{kind-is, row-none, row-here, resource-row, resource-none}
 use Rattle.model.proofs.Accepting.{has-owner, one-row}
 use Rattle.model.proofs.OwnedLaws.{of-resource}
-use Rattle.model.proofs.Requiring.{of-requirement, candidates-are, none-given, among-given}
+use Rattle.model.proofs.Requiring.{of-requirement}
 use Rattle.definition.specs.CheckRequirements.{claim, claiming, passing, candidateId, lacking, claims}
-use Rattle.check4_requirements.specs.inner.ByRow.{both, owns, names, resourceRow, candidateAt, candidateOf, lackingFor, lackingOf, claimOf, filled, claimsOf}
-use Rattle.check4_requirements.proofs.Lists.{only-same, both-same, each-only, any-only, given-any, given-each, each-ext, swap, any-false, any-at}
+use Rattle.check4_requirements.specs.inner.ByRow.{hasSkill, candidateOf, lackingFor, lackingOf, claimOf, filled, claimsOf}
+use Rattle.check4_requirements.proofs.Lists.{only-same, both-same, each-only, any-only, none-collect, given-any, given-each, each-ext, swap, any-false, any-at}
 
 -- what a column names along a chain
 abbrev pub along : List ℤ → ℕ → ℕ → ℕ → List ℕ
@@ -51,11 +51,11 @@ given-only p y n = collect-ext _ _ n (λ k l. go k (p k))
     go k true = refl
     go k false = refl
 
-pub among-along : (rows : List ℤ) (o x c v : ℕ) → among v (along rows o x c) ≡ names rows o x c v
-unfolding names is
-among-along rows o x c v =
-    any-only (ownedBy rows o x) (λ k. num rows k c ∷ []) (rowCount rows) (eqb v)
-    ∙ both-same _ _ _ (rowCount rows) (λ k l e. given-any true (num rows k c) (eqb v) ∙ swap v (num rows k c))
+skill-along : (rows : List ℤ) (r v : ℕ) → among v (along rows r 12 2) ≡ hasSkill rows r v
+unfolding hasSkill is
+skill-along rows r v =
+    any-only (ownedBy rows r 12) (λ k. num rows k 2 ∷ []) (rowCount rows) (eqb v)
+    ∙ both-same _ _ _ (rowCount rows) (λ k l e. given-any true (num rows k 2) (eqb v) ∙ swap v (num rows k 2))
 
 module _ (rows : List ℤ) (acc : Accepted rows) where
   -- ---- rows of a resource
@@ -66,47 +66,41 @@ module _ (rows : List ℤ) (acc : Accepted rows) where
     known : (k : ℕ) → k < rowCount rows → is rows k 0 x ≡ true → placeOf rows 11 (num rows k 1) ≡ none → ⊥
     known k l e q = true≢false (sym (cl k ∙ ap isAbsent q) ∙ has-owner rows acc k x 1 l e)
 
-    own-row : (k : ℕ) → is rows k 0 x ≡ true → ownPlace rows k ≡ orEnd rows (placeOf rows 11 (num rows k 1))
-    unfolding ownPlace ownerPlace ownerOf
-    own-row k e = rw (is-num rows k 0 x e, o)
-
-    within : (y : Option ℕ) (k : ℕ) → placeOf rows 11 (num rows k 1) ≡ y → (y ≡ none → ⊥) → orEnd rows y < rowCount rows
-    unfolding orEnd
-    within none k e d = absurd (d refl)
-    within (some j) k e d = placed rows 11 (num rows k 1) j e .within
-
-    owned-named : (r k : ℕ) → k < rowCount rows → ownedBy rows (resourceRow rows r) x k ≡ (is rows k 0 x && is rows k 1 r)
-    owned-named r k l = go (placeOf rows 11 r) refl
+    -- a resource that is not in the sheet is not named
+    unnamed : (r k : ℕ) → k < rowCount rows → placeOf rows 11 r ≡ none → (is rows k 0 x && is rows k 1 r) ≡ false
+    unnamed r k l q = go (is rows k 0 x) refl
       where
-        off : placeOf rows 11 r ≡ none → (b : Bool) → is rows k 0 x ≡ b → (b && eqb (ownPlace rows k) (rowCount rows)) ≡ (b && is rows k 1 r)
-        off q true e =
-            ne-eqb (ownPlace rows k) (rowCount rows)
-            (λ z. let w = within (placeOf rows 11 (num rows k 1)) k refl (known k l e) in let u = own-row k e in omega arith)
-            ∙ sym (unfold is in ne-eqb (num rows k 1) r (λ z. known k l e (ap (placeOf rows 11) z ∙ q)))
-        off q false e = refl
+        go : (b : Bool) → is rows k 0 x ≡ b → (b && is rows k 1 r) ≡ false
+        go true e = unfold is in ne-eqb (num rows k 1) r (λ z. known k l e (ap (placeOf rows 11) z ∙ q))
+        go false e = refl
 
-        go : (y : Option ℕ) → placeOf rows 11 r ≡ y → ownedBy rows (orEnd rows (placeOf rows 11 r)) x k ≡ (is rows k 0 x && is rows k 1 r)
-        go (some a) q = ap (λ y. ownedBy rows (orEnd rows y) x k) q ∙ (unfold orEnd in of-resource rows x a r o q k)
-        go none q = ap (λ y. ownedBy rows (orEnd rows y) x k) q ∙ (unfold orEnd ownedBy in off q (is rows k 0 x) refl)
-
-    listed-along : (r : ℕ) → listed (sheet rows) x r ≡ along rows (resourceRow rows r) x 2
-    unfolding listed only is
-    listed-along r = collect-ext _ _ (rowCount rows) (λ k l. at k (is rows k 0 x) refl ∙ sym (ap (λ b. cond b (num rows k 2 ∷ []) []) (owned-named r k l)))
+    listed-along : (r : ℕ) → listed (sheet rows) x r ≡ option (placeOf rows 11 r) [] (λ a. along rows a x 2)
+    unfolding listed
+    listed-along r = collect-ext _ _ (rowCount rows) (λ k l. at k (is rows k 0 x) refl) ∙ go (placeOf rows 11 r) refl
       where
+        go : (y : Option ℕ) → placeOf rows 11 r ≡ y
+            → collect (λ k. cond (is rows k 0 x && is rows k 1 r) (num rows k 2 ∷ []) []) (rowCount rows) ≡ option y [] (λ a. along rows a x 2)
+        go none q = none-collect _ (rowCount rows) (λ k l. ap (λ b. cond b (num rows k 2 ∷ []) []) (unnamed r k l q))
+        go (some a) q = unfold only in collect-ext _ _ (rowCount rows) (λ k l. ap (λ b. cond b (num rows k 2 ∷ []) []) (sym (of-resource rows x a r o q k)))
+
         pick : (b : Bool) (k : ℕ) → given b (num rows k 2) ≡ cond b (num rows k 2 ∷ []) []
         pick true k = refl
         pick false k = refl
 
         at : (k : ℕ) (b : Bool) → is rows k 0 x ≡ b
             → rowAt (sheet rows) x (λ k. given (eqb (numAt (sheet rows) k 1) r) (numAt (sheet rows) k 2)) k ≡ cond (is rows k 0 x && is rows k 1 r) (num rows k 2 ∷ []) []
-        at k true e = row-here rows k x (λ k. given (eqb (numAt (sheet rows) k 1) r) (numAt (sheet rows) k 2)) e ∙ plain r k e ∙ pick (is rows k 1 r) k ∙ ap (λ b. cond (b && is rows k 1 r) (num rows k 2 ∷ []) []) (sym e)
+        at k true e = unfold is in row-here rows k x (λ k. given (eqb (numAt (sheet rows) k 1) r) (numAt (sheet rows) k 2)) e ∙ plain r k e ∙ pick (is rows k 1 r) k ∙ ap (λ b. cond (b && is rows k 1 r) (num rows k 2 ∷ []) []) (sym e)
         at k false e = row-none rows k x (λ k. given (eqb (numAt (sheet rows) k 1) r) (numAt (sheet rows) k 2)) e ∙ ap (λ b. cond (b && is rows k 1 r) (num rows k 2 ∷ []) []) (sym e)
 
-  pub skills-along : (r : ℕ) → skills (sheet rows) r ≡ along rows (resourceRow rows r) 12 2
+  has-skill : (r v : ℕ) → among v (skills (sheet rows) r) ≡ option (placeOf rows 11 r) false (λ a. hasSkill rows a v)
   unfolding lacks
-  skills-along r = listed-along 12 (unfold ownerKind in refl) (λ k. refl) (λ v k e. rw (kind-is rows k 12 e)) r
+  has-skill r v = ap (among v) (listed-along 12 (unfold ownerKind in refl) (λ k. refl) (λ v k e. rw (kind-is rows k 12 e)) r) ∙ go (placeOf rows 11 r)
+    where
+      go : (y : Option ℕ) → among v (option y [] (λ a. along rows a 12 2)) ≡ option y false (λ a. hasSkill rows a v)
+      go none = unfold anyOf in refl
+      go (some a) = skill-along rows a v
 
-  pub companions-along : (r : ℕ) → companions (sheet rows) r ≡ along rows (resourceRow rows r) 13 2
+  pub companions-along : (r : ℕ) → companions (sheet rows) r ≡ option (placeOf rows 11 r) [] (λ a. along rows a 13 2)
   unfolding lacks
   companions-along r = listed-along 13 (unfold ownerKind in refl) (λ k. refl) (λ v k e. rw (kind-is rows k 13 e)) r
 
@@ -137,21 +131,9 @@ module _ (rows : List ℤ) (acc : Accepted rows) where
         ap (each (λ skill. given (not (among skill (skills (sheet rows) r))) (skillMismatch 4 r))) required-along
         ∙ each-only (ownedBy rows q 7) (λ k. num rows k 3 ∷ []) (rowCount rows) (λ skill. given (not (among skill (skills (sheet rows) r))) (skillMismatch 4 r))
         ∙ only-same _ _ _ (rowCount rows) (λ k m e. given-each true (num rows k 3) (λ skill. given (not (among skill (skills (sheet rows) r))) (skillMismatch 4 r))
-        ∙ ap (λ b. given (not b) (skillMismatch 4 r)) (ap (among (num rows k 3)) (skills-along r) ∙ among-along rows (resourceRow rows r) 12 2 (num rows k 3)))
+        ∙ ap (λ b. given (not b) (skillMismatch 4 r)) (has-skill r (num rows k 3)))
 
     -- ---- candidates
-
-    turned : (b : Bool) (u v : Bool) → cond (not b) u v ≡ cond b v u
-    turned true u v = refl
-    turned false u v = refl
-
-    candidate-row : (a : ℕ) → isCandidate (sheet rows) (requirementOf rows q) (resourceOf rows a) ≡ cond (owns rows q 6) (names rows q 6 3 (num rows a 1)) (is rows a 2 (num rows q 2))
-    unfolding isCandidate owns names both is
-    candidate-row a =
-        ap₂ (λ b c. cond b (eqb (num rows a 2) (num rows q 2)) c)
-        (ap isEmpty (candidates-are rows q l h) ∙ none-given (ownedBy rows q 6) (λ k. num rows k 3) (rowCount rows))
-        (ap (among (num rows a 1)) (candidates-are rows q l h) ∙ among-given (ownedBy rows q 6) (λ k. num rows k 3) (num rows a 1) (rowCount rows))
-        ∙ turned (anyBelow (ownedBy rows q 6) (rowCount rows)) (eqb (num rows a 2) (num rows q 2)) (anyBelow (λ k. ownedBy rows q 6 k && eqb (num rows k 3) (num rows a 1)) (rowCount rows))
 
     only-one : (x a : ℕ) → Named rows 11 x a → (k : ℕ) → k < rowCount rows → named rows 11 x k ≡ true → k ≡ a
     unfolding named
@@ -186,7 +168,7 @@ module _ (rows : List ℤ) (acc : Accepted rows) where
     other x a f k m d false e = ap (λ b. b && isCandidate (sheet rows) (requirementOf rows q) (resourceOf rows k)) e
 
     pub candidate-is : (x : ℕ) → candidateId (sheet rows) (requirementOf rows q) x ≡ candidateOf rows q x
-    unfolding candidateId resources candidateAt chosen
+    unfolding candidateId resources chosen
     candidate-is x =
         any-collect (λ r. eqb (r .id) x && isCandidate (sheet rows) (requirementOf rows q) r) (resourceAt (sheet rows)) (rowCount rows)
         ∙ any-same _ _ (rowCount rows) (λ k m. chosen-at x k)
@@ -194,14 +176,14 @@ module _ (rows : List ℤ) (acc : Accepted rows) where
       where
         go : (y : Option ℕ) → placeOf rows 11 x ≡ y
             → anyBelow (chosen x) (rowCount rows)
-            ≡ option (placeOf rows 11 x) false (λ r. cond (owns rows q 6) (names rows q 6 3 x) (is rows r 2 (num rows q 2)))
+            ≡ option (placeOf rows 11 x) false (λ r. isCandidate (sheet rows) (requirementOf rows q) (resourceOf rows r))
         go none e =
             any-false (chosen x) (rowCount rows) (λ k m. unfold placeOf in ap (λ b. b && isCandidate (sheet rows) (requirementOf rows q) (resourceOf rows k)) (place-none (named rows 11 x) (rowCount rows) e k m))
             ∙ sym (rw e)
         go (some a) e =
             let f = placed rows 11 x a e in
             any-at (chosen x) (rowCount rows) a (f .within) (λ k m d. other x a f k m d (named rows 11 x k) refl)
-            ∙ ap₂ _&&_ (mine x a f) (candidate-row a ∙ ap (λ v. cond (owns rows q 6) (names rows q 6 3 v) (is rows a 2 (num rows q 2))) (f .id-is))
+            ∙ ap (λ b. b && isCandidate (sheet rows) (requirementOf rows q) (resourceOf rows a)) (mine x a f)
             ∙ sym (rw e)
 
 -- ---- all requirements

@@ -24,7 +24,7 @@ use Rattle.rows.specs.Cells.{rowCount, num}
 use Rattle.sheet.specs.inner.Index.{ownedBy}
 use Rattle.model.specs.Schedule.{requirementUnfilled}
 use Rattle.definition.specs.CheckRequirements.{Claim, claim, claiming, passing}
-use Rattle.check4_requirements.specs.inner.ByRow.{candidateOf, lackingOf, claimOf, filled, claimsOf, markedAt, unclaimedOf, takes, requirementRows, freeIn, freeAt, runsOnIn, Free}
+use Rattle.check4_requirements.specs.inner.ByRow.{candidateOf, lackingOf, claimOf, filled, claimsOf, markedAt, unclaimedOf, claimable, takes, requirementRows, freeIn, freeAt, runsOnIn, Free}
 use Rattle.check4_requirements.proofs.Along.{only-here}
 
 -- ---- a list in two parts
@@ -122,7 +122,7 @@ module _ (rows : List ℤ) (o q : ℕ) where
         ≡ joined (claimOf rows q (seen free₀ i))
         (cond (takes rows q free units i) (record { claimed = num rows i 3 ∷ []; unclaimed = [] })
         (record { claimed = []; unclaimed = given (eqb (getD free i 0) 1) (num rows i 3) }))
-    unfolding takes
+    unfolding takes claimable
     next-claim =
         ap (claimOf rows q) (next-seen free₀ ∙ ap (λ y. seen free₀ i ++ y) same-mark)
         ∙ claim-append (candidateOf rows q) (num rows q 3) (seen free₀ i) (given (eqb (getD free i 0) 1) (num rows i 3))

@@ -35,6 +35,12 @@ both-same p t u n h = any-same _ _ n (λ k l. go k l (p k) refl)
     go k l true e = ap (λ x. p k && x) (h k l e)
     go k l false e = rw e
 
+-- nothing at any place
+pub none-collect : {A : Type 0} (f : ℕ → List A) (n : ℕ) → ((k : ℕ) → k < n → f k ≡ []) → collect f n ≡ []
+unfolding collect
+none-collect f zero h = refl
+none-collect f (suc n) h = ap₂ _++_ (none-collect f n (λ k l. h k (omega arith))) (h n (omega arith))
+
 module _ {A : Type 0} (p : ℕ → Bool) (g : ℕ → List A) (n : ℕ) where
   pub each-only : {B : Type 0} (f : A → List B) → each f (collect (only p g) n) ≡ collect (only p (λ k. each f (g k))) n
   unfolding only

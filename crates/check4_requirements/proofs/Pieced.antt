@@ -42,7 +42,7 @@ use Rattle.pieces.specs.inner.Bookings.{indexKey, keyAt, inPiece}
 use Rattle.pieces.specs.inner.Held.{heldAt}
 use Rattle.pieces.proofs.Indices.{indexIn, before-key, same-key}
 use Rattle.pieces.proofs.Companions.{booking, index-class, booked-index, of-piece}
-use Rattle.check4_requirements.specs.inner.ByRow.{keys, both, owns, keyIs, keyBelow, differs, differsIn, apart, freeIn, freeAt, runsOnIn}
+use Rattle.check4_requirements.specs.inner.ByRow.{assignsAt, keys, both, owns, keyIs, keyBelow, differs, differsIn, apart, freeIn, freeAt, runsOnIn}
 use Rattle.check4_requirements.proofs.Lists.{only-same, both-same, map-only, keep-only, any-only, all-only, given-keep, given-any, given-map, any-false}
 
 -- ---- part indices as numbers
@@ -343,3 +343,22 @@ module _ (rows : List ℤ) (acc : Accepted rows) (o : ℕ) (l : o < rowCount row
             ≡ option y false (λ j. anyBelow (both (ownedBy rows o 23) (differsIn rows p j)) (rowCount rows))
         go none = refl
         go (some j) = differ-is j
+
+-- ---- whether a booking is on a resource, and of a piece
+
+and-true-right : (a : Bool) → a ≡ (a && true)
+and-true-right true = refl
+and-true-right false = refl
+
+and-false-right : (a : Bool) → false ≡ (a && false)
+and-false-right true = refl
+and-false-right false = refl
+
+module _ (rows : List ℤ) (p x k : ℕ) {b : Bool} (e : b ≡ is rows k 3 x) where
+  pub assigned-there : {c : Bool} → b ≡ true → c ≡ keyIs rows p k → c ≡ assignsAt rows p x k
+  unfolding assignsAt
+  assigned-there t q = q ∙ rw (← e, t) (and-true-right (keyIs rows p k))
+
+  pub assigned-elsewhere : b ≡ false → false ≡ assignsAt rows p x k
+  unfolding assignsAt
+  assigned-elsewhere t = rw (← e, t) (and-false-right (keyIs rows p k))

@@ -3,22 +3,21 @@ use Prim.Native.Nat.{ℕ, _<_}
 use mathlib.Core.Path.{_≡_, refl, ap, ap₂, sym, _∙_}
 use mathlib.Core.Bool.{Bool, true, false, cond, not, _&&_}
 use mathlib.Core.List.{List, [], _∷_, _++_, append-nil}
-use mathlib.Core.Option.{some}
+use mathlib.Core.Option.{Option, none, some}
 use lib.Dec.{eqb}
 use lib.IntN.{ℤ}
 use borrow.Author.Tests.{lt-ltb}
-use Rattle.loops.specs.Lists.{given, allOf, each, isEmpty, among}
+use Rattle.loops.specs.Lists.{given, allOf, each, option, isEmpty, among}
 use Rattle.loops.specs.Ordered.{values}
 use Rattle.loops.specs.Range.{collect}
 use Rattle.loops.specs.inner.Chain.{only}
-use Rattle.loops.proofs.BoolLaws.{and-left}
 use Rattle.loops.proofs.RangeLaws.{collect-ext}
 use Rattle.loops.proofs.ListLaws.{each-collect, each-keep}
 use Rattle.findings.specs.declared.Violation.{Violation}
 use Rattle.calendar.specs.Clock.{clock}
 use Rattle.rows.specs.Cells.{rowCount, num, is}
 use Rattle.sheet.specs.Places.{ofKind, placeOf}
-use Rattle.sheet.specs.inner.Index.{ownerKind, ownedBy, resPlace}
+use Rattle.sheet.specs.inner.Index.{ownerKind, ownedBy}
 use Rattle.sheet.specs.inner.Accepted.{Accepted}
 use Rattle.model.specs.Sheet.{sheet}
 use Rattle.model.specs.inner.Indexed.{Indexed}
@@ -29,7 +28,7 @@ use Rattle.model.specs.Activity.{Activity, activityAt, activities, activitiesOf
 use Rattle.model.specs.Schedule.{Assignment, requirementUnfilled}
 use Rattle.model.proofs.RowLaws.{task-row, task-none, activity-row, activity-none}
 use Rattle.model.proofs.Accepting.{accepted, found-again}
-use Rattle.model.proofs.OwnedLaws.{of-task, of-activity, own-resource}
+use Rattle.model.proofs.OwnedLaws.{of-task, of-activity}
 use Rattle.model.proofs.Requiring.{requirement-row, requirement-none}
 use Rattle.definition.specs.Pieces.{resourcesOf}
 use Rattle.definition.specs.CheckRequirements.{unaccompanied, claims, checkPieceRequirements, orNothing, bookingsByPiece, checkActivityRequirements, checkRequirements}
@@ -49,19 +48,22 @@ module _ (rows : List ℤ) (acc : Accepted rows) where
         ∙ both-same _ _ _ (rowCount rows) (λ k m e. given-any (keyIs rows p k) (num rows k 3) (eqb x) ∙ ap (λ b. keyIs rows p k && b) (swap x (num rows k 3)))
 
     -- the companions of a booking's resource that the piece does not have
-    missing-is : (p k : ℕ) → is rows k 0 23 ≡ true
-        → each (λ c. given (not (among c (assigned rows acc o l h p))) (requirementUnfilled 4 (num rows o 1))) (companions (sheet rows) (num rows k 3))
-        ≡ missing rows o p (num rows o 1) (resPlace rows k)
+    missing-is : (p x : ℕ)
+        → each (λ c. given (not (among c (assigned rows acc o l h p))) (requirementUnfilled 4 (num rows o 1))) (companions (sheet rows) x)
+        ≡ option (placeOf rows 11 x) [] (λ r. missing rows o p (num rows o 1) r)
     unfolding missingFor
-    missing-is p k e =
-        ap (each (λ c. given (not (among c (assigned rows acc o l h p))) (requirementUnfilled 4 (num rows o 1)))) (companions-along rows acc (num rows k 3) ∙ ap (λ r. along rows r 13 2) (sym (own-resource rows k e)))
-        ∙ each-only (ownedBy rows (resPlace rows k) 13) (λ j. num rows j 2 ∷ []) (rowCount rows) (λ c. given (not (among c (assigned rows acc o l h p))) (requirementUnfilled 4 (num rows o 1)))
-        ∙ only-same _ _ _ (rowCount rows) (λ j m f. given-each true (num rows j 2) (λ c. given (not (among c (assigned rows acc o l h p))) (requirementUnfilled 4 (num rows o 1)))
-        ∙ ap (λ b. given (not b) (requirementUnfilled 4 (num rows o 1))) (assigns-is p (num rows j 2)))
-
-    kind-of : (k : ℕ) → ownedBy rows o 23 k ≡ true → is rows k 0 23 ≡ true
-    unfolding ownedBy
-    kind-of k e = and-left (is rows k 0 23) _ e
+    missing-is p x =
+        ap (each (λ c. given (not (among c (assigned rows acc o l h p))) (requirementUnfilled 4 (num rows o 1)))) (companions-along rows acc x)
+        ∙ go (placeOf rows 11 x)
+      where
+        go : (y : Option ℕ)
+            → each (λ c. given (not (among c (assigned rows acc o l h p))) (requirementUnfilled 4 (num rows o 1))) (option y [] (λ r. along rows r 13 2))
+            ≡ option y [] (λ r. missing rows o p (num rows o 1) r)
+        go none = unfold each in refl
+        go (some r) =
+            each-only (ownedBy rows r 13) (λ j. num rows j 2 ∷ []) (rowCount rows) (λ c. given (not (among c (assigned rows acc o l h p))) (requirementUnfilled 4 (num rows o 1)))
+            ∙ only-same _ _ _ (rowCount rows) (λ j m f. given-each true (num rows j 2) (λ c. given (not (among c (assigned rows acc o l h p))) (requirementUnfilled 4 (num rows o 1)))
+            ∙ ap (λ b. given (not b) (requirementUnfilled 4 (num rows o 1))) (assigns-is p (num rows j 2)))
 
     unaccompanied-is : (p : ℕ) → unaccompanied (sheet rows) (num rows o 1) (resourcesOf (pieceAt rows acc o l h p)) ≡ unaccompaniedIn rows o p (num rows o 1)
     unfolding unaccompanied missingAt freeAt
@@ -71,7 +73,7 @@ module _ (rows : List ℤ) (acc : Accepted rows) where
         (λ r. each (λ c. given (not (among c (assigned rows acc o l h p))) (requirementUnfilled 4 (num rows o 1))) (companions (sheet rows) r))
         ∙ only-same _ _ _ (rowCount rows) (λ k m e. given-each (freeIn rows p k) (num rows k 3)
         (λ r. each (λ c. given (not (among c (assigned rows acc o l h p))) (requirementUnfilled 4 (num rows o 1))) (companions (sheet rows) r))
-        ∙ ap (λ y. cond (freeIn rows p k) y []) (missing-is p k (kind-of k e)))
+        ∙ ap (λ y. cond (freeIn rows p k) y []) (missing-is p (num rows k 3)))
 
     -- ---- the requirements
 

@@ -8,6 +8,7 @@ use native.Mathlib.Nat.{not-suc-le-zero}
 use borrow.Author.Tests.{ltb-true}
 use lib.Dec.{T, ltb}
 use lib.IntN.{ℤ, pos, negsuc, natAbs}
+use lib.ListN.{length}
 use lib.Signed.{ltZ}
 use mir.Syntax.{w64}
 use mir.Val.{SFits, toZ, ofZ}
@@ -22,7 +23,7 @@ use Rattle.findings.specs.declared.Violation.{Violation}
 use Rattle.findings.specs.inner.Sink.{Sink, emit}
 use Rattle.model.specs.Sheet.{sheet}
 use Rattle.model.specs.Schedule.{capacityExceeded}
-use Rattle.load.specs.Load.{peakOf, capOf, peak, bookedAt, bookedResources}
+use Rattle.load.specs.Load.{bookingsOn, peakOf, capOf, peak, bookedAt, bookedResources}
 use Rattle.load.specs.inner.Firsts.{isFirst}
 use Rattle.load.specs.inner.Lent.{lent, Gathered}
 use Rattle.load.proofs.Firsts.{booked-at}
@@ -51,6 +52,10 @@ module _ (rows : List ℤ) (x : ℕ) where
   pub peak-is : {p m : ℕ} {b b′ : List ℕ} → Gathered rows x b b′ m → p ≡ peakOf ltZ (lent b′ m) → p ≡ peak clock (sheet rows) x
   unfolding peak
   peak-is g e = e ∙ ap (peakOf ltZ) (g .list)
+
+  -- as many as there are
+  pub bookings-all : {m : ℕ} {b b′ : List ℕ} → Gathered rows x b b′ m → Gathered rows x b b′ (length (bookingsOn (sheet rows) x))
+  bookings-all {b = b} {b′ = b′} g = subst (Gathered rows x b b′) (g .count) g
 
   pub resource-told : (s : Sink) {s′ : Sink} {o : Bool} {c : ℤ} {p : ℕ} → SFits w64 c → o ≡ ltZ (toZ w64 (ofZ w64 c)) (pos p) → c ≡ capOf (sheet rows) x
       → p ≡ peak clock (sheet rows) x → s′ ≡ emit s (given o (capacityExceeded 5 x)) → s′ ≡ emit s (checkResource clock (sheet rows) x)

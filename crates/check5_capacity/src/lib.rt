@@ -8,6 +8,8 @@ ghost use Rattle.calendar.specs.Clock.{clock};
 ghost use Rattle.findings.specs.inner.Sink.{sink, emit};
 ghost use Rattle.model.specs.Sheet.{sheet};
 ghost use Rattle.model.specs.inner.Indexed.{Indexed};
+ghost use Rattle.load.specs.Load.{bookingsOn};
+ghost use Rattle.load.specs.inner.Lent.{Gathered};
 ghost use Rattle.definition.specs.CheckCapacity.{checkResource, checkCapacity};
 use findings::Violation;
 
@@ -34,7 +36,7 @@ fn check_resource(
 ) -> usize
     requires { ⌜ Indexed (now rows) (now kinds) (now links) (now owned) × (length (now b) ≡ 2400) × (x < 9223372036854775808) ⌝ }
     ensures wrote { λ r. ⌜ sink (now (out .exit)) r ≡ emit (sink (now (out .entry)) n) (checkResource clock (sheet (now (rows .entry))) x) ⌝ }
-    ensures size { λ r. ⌜ length (now (b .exit)) ≡ 2400 ⌝ }
+    ensures bookings { λ r. ⌜ Gathered (now (rows .entry)) x (now (b .entry)) (now (b .exit)) (length (bookingsOn (sheet (now (rows .entry))) x)) ⌝ }
 {
     let m = load::gather_bookings(rows, kinds, links, owned, x, b);
     let peak = load::peak_of(b, m);

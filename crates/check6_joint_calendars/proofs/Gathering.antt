@@ -1,6 +1,6 @@
 -- Calendars are laid out one behind the other, resource by resource; there is always place for one more. Assumes nothing.
 use Prim.Native.Nat.{ℕ, zero, suc, _+_, _*_, _<_, _≤_}
-use mathlib.Core.Path.{_≡_, refl, ap, ap₂, sym, _∙_}
+use mathlib.Core.Path.{_≡_, refl, ap, ap₂, sym, subst, _∙_}
 use mathlib.Core.Bool.{Bool, true, false, cond, _&&_, true≢false}
 use mathlib.Core.List.{List, [], _∷_, _++_, append-nil}
 use mathlib.Core.Logic.{inr}
@@ -9,12 +9,17 @@ use native.Mathlib.Decide.{ℕ-discrete, decLt}
 use borrow.Author.Tests.{lt-ltb, le-ltb, eq-eqb, ne-eqb}
 use lib.Dec.{eqb, ltb}
 use lib.IntN.{ℤ}
-use lib.ListN.{length, getD, set, length-set}
-use lib.Seq.{getD-set-same, getD-set-other}
+use lib.ListN.{length, getD, set, length-set, length-append}
+use lib.Seq.{sets, getD-set-same, getD-set-other}
+use Rattle.loops.specs.Lists.{each}
 use Rattle.loops.specs.Range.{collect}
+use Rattle.loops.specs.Sums.{total}
 use Rattle.loops.specs.Search.{countBelow}
 use Rattle.loops.specs.inner.Chain.{First, Stands}
 use Rattle.loops.proofs.BoolLaws.{and-left}
+use Rattle.loops.proofs.ListLaws.{each-append}
+use Rattle.loops.proofs.SumLaws.{total-append}
+use Rattle.loops.proofs.StoreLaws.{sets-append}
 use Rattle.loops.proofs.RangeLaws.{collect-step, collect-ext}
 use Rattle.loops.proofs.SearchLaws.{count-le}
 use Rattle.loops.proofs.Walks.{over, stands-end}
@@ -27,11 +32,60 @@ use Rattle.sheet.proofs.Lookups.{is-num, num-is, placed}
 use Rattle.model.specs.Sheet.{sheet}
 use Rattle.model.specs.Resource.{windows}
 use Rattle.model.proofs.Requiring.{count-less}
-use Rattle.window_rows.specs.inner.Laid.{Holder, Laid}
+use Rattle.window_rows.specs.inner.Laid.{Holder, calendarNumbers, Laid}
+use Rattle.window_rows.proofs.Laying.{numbers-length}
 use Rattle.pieces.proofs.Chains.{owned-kind}
 use Rattle.check6_joint_calendars.specs.declared.Gathered.{Gathered}
 use Rattle.check6_joint_calendars.specs.inner.Taken.{marked, OnResources}
-use Rattle.check6_joint_calendars.specs.inner.Laying.{laidOut, Tidy, Added, calendarAt, windowAbove, Resources}
+use Rattle.check6_joint_calendars.specs.inner.Laying.{laidOut, pairsFrom, Over, Tidy, Added, calendarAt, AddedAt, windowAbove, Resources}
+
+-- ---- what the buffers hold
+
+-- the numbers and the pairs of calendars, how many they are
+numbers-total : (l : List (Calendar ℤ)) → length (each calendarNumbers l) ≡ 3 * total length l
+unfolding each total
+numbers-total [] = refl
+numbers-total (c ∷ l) = omega (arith, length-append (calendarNumbers c) (each calendarNumbers l), numbers-length c, numbers-total l)
+
+pairs-total : (n : ℕ) (l : List (Calendar ℤ)) → length (pairsFrom n l) ≡ 2 * length l
+pairs-total n [] = refl
+pairs-total n (c ∷ l) = omega (arith, pairs-total (n + length c) l)
+
+-- with one calendar more
+numbers-more : (l : List (Calendar ℤ)) (x : Calendar ℤ) → each calendarNumbers (l ++ x ∷ []) ≡ each calendarNumbers l ++ calendarNumbers x
+numbers-more l x = each-append calendarNumbers l (x ∷ []) ∙ ap (λ y. each calendarNumbers l ++ y) (unfold each in append-nil (calendarNumbers x))
+
+total-more : (l : List (Calendar ℤ)) (x : Calendar ℤ) → total length (l ++ x ∷ []) ≡ total length l + length x
+unfolding total
+total-more l x = omega (arith, total-append length l (x ∷ []))
+
+pairs-more : (n m : ℕ) (l : List (Calendar ℤ)) (x : Calendar ℤ) → m ≡ n + total length l → pairsFrom n (l ++ x ∷ []) ≡ pairsFrom n l ++ (m ∷ (m + length x) ∷ [])
+unfolding total
+pairs-more n m [] x e = let q : m ≡ n = omega arith in rw q
+pairs-more n m (c ∷ l) x e = ap (λ y. n ∷ (n + length c) ∷ y) (pairs-more (n + length c) m l x (omega arith))
+
+pub over-none : (w cs : List ℕ) → Over [] w cs w cs (record { windows = 0; calendars = 0 })
+over-none w cs = record { numbers = unfold each in refl; pairs = refl; windows = unfold total in refl; calendars = refl }
+
+pub over-more : {l : List (Calendar ℤ)} {x : Calendar ℤ} {m : ℕ} {w₀ cs₀ w cs w′ cs′ : List ℕ} {g g′ : Gathered}
+    → Over l w₀ cs₀ w cs g → Added x m w cs g w′ cs′ g′ → Over (l ++ x ∷ []) w₀ cs₀ w′ cs′ g′
+over-more {l} {x} {w₀ = w₀} {cs₀} {g = g} o a = record {
+  numbers =
+      let q : 3 * g .windows ≡ 0 + length (each calendarNumbers l) = omega (arith, numbers-total l, o .windows) in
+      a .numbers
+      ∙ ap₂ (λ v i. sets v i (calendarNumbers x)) (o .numbers) q
+      ∙ sets-append w₀ 0 (each calendarNumbers l) (calendarNumbers x)
+      ∙ ap (sets w₀ 0) (sym (numbers-more l x));
+  pairs =
+      let q : 2 * g .calendars ≡ 0 + length (pairsFrom 0 l) = omega (arith, pairs-total 0 l, o .calendars) in
+      let e : g .windows ≡ 0 + total length l = omega (arith, o .windows) in
+      a .pair
+      ∙ ap₂ (λ v i. sets v i (g .windows ∷ (g .windows + length x) ∷ [])) (o .pairs) q
+      ∙ sets-append cs₀ 0 (pairsFrom 0 l) (g .windows ∷ (g .windows + length x) ∷ [])
+      ∙ ap (sets cs₀ 0) (sym (pairs-more 0 (g .windows) l x e));
+  windows = omega (arith, a .places, o .windows, total-more l x);
+  calendars = omega (arith, a .calendars, o .calendars, length-append l (x ∷ []));
+}
 
 -- ---- one calendar more
 
@@ -72,6 +126,9 @@ module _ (w cs w′ : List ℕ) (g : Gathered) (to : ℕ) (x : Calendar ℤ) (u 
   added m e q =
       rw q
       (record {
+        numbers = h .whole;
+        pair = let n : 2 * g .calendars + 1 ≡ suc (2 * g .calendars) = omega arith in rw (n, h .places) refl;
+        places = h .places;
         tidy = record {
           places = h .size;
           pairs = length-set (set cs (2 * g .calendars) (g .windows)) (2 * g .calendars + 1) to ∙ length-set cs (2 * g .calendars) (g .windows) ∙ u .pairs;
@@ -148,7 +205,7 @@ module _ (rows : List ℤ) where
 
 module _ (rows : List ℤ) (marks : List ℕ) where
   -- there is place for one calendar more
-  pub room : {r : ℕ} {w cs : List ℕ} {g : Gathered} → r < rowCount rows → rowCount rows ≤ 800 → Resources rows marks r w cs g
+  pub room : {r : ℕ} {w₀ cs₀ w cs : List ℕ} {g : Gathered} → r < rowCount rows → rowCount rows ≤ 800 → Resources rows marks r w₀ cs₀ w cs g
       → (g .windows + countBelow (ownedBy rows r 15) (rowCount rows) ≤ 800) × (g .calendars < 800)
   room {r} {g = g} l b h =
       let a = windows-more rows r (rowCount rows) in
@@ -156,11 +213,15 @@ module _ (rows : List ℤ) (marks : List ℕ) where
       let d = count-le (ofKind rows 11) r in
       (omega (arith, h .windows), omega (arith, h .calendars))
 
-  module _ {r : ℕ} {w cs : List ℕ} {g : Gathered} where
-    pub gather-more : {w′ cs′ : List ℕ} {g′ : Gathered} → marked marks r ≡ true → is rows r 0 11 ≡ true
+  module _ {r : ℕ} {w₀ cs₀ w cs : List ℕ} {g : Gathered} where
+    gather-more : {w′ cs′ : List ℕ} {g′ : Gathered} → marked marks r ≡ true → is rows r 0 11 ≡ true
         → Added (windows (sheet rows) 15 (num rows r 1)) (countBelow (ownedBy rows r 15) (rowCount rows)) w cs g w′ cs′ g′
-        → Resources rows marks r w cs g → Resources rows marks (suc r) w′ cs′ g′
-    gather-more {g′ = g′} e k a h = record {
+        → Resources rows marks r w₀ cs₀ w cs g → Resources rows marks (suc r) w₀ cs₀ w′ cs′ g′
+    gather-more {w′} {cs′} {g′} e k a h = record {
+      over =
+          let s : collect (calendarAt rows marks) r ++ windows (sheet rows) 15 (num rows r 1) ∷ [] ≡ collect (calendarAt rows marks) (suc r) =
+          unfold collect calendarAt in rw e in
+          subst (λ l. Over l w₀ cs₀ w′ cs′ g′) s (over-more (h .over) a);
       tidy = a .tidy;
       list =
           a .list
@@ -170,13 +231,25 @@ module _ (rows : List ℤ) (marks : List ℕ) where
       calendars = let q = resource-more rows r k in omega (arith, a .calendars, h .calendars);
     }
 
-    pub gather-none : marked marks r ≡ false → Resources rows marks r w cs g → Resources rows marks (suc r) w cs g
+    gather-none : marked marks r ≡ false → Resources rows marks r w₀ cs₀ w cs g → Resources rows marks (suc r) w₀ cs₀ w cs g
     gather-none e h = record {
+      over =
+          let s : collect (calendarAt rows marks) r ≡ collect (calendarAt rows marks) (suc r) = unfold collect calendarAt in rw e (sym (append-nil _)) in
+          subst (λ l. Over l w₀ cs₀ w cs g) s (h .over);
       tidy = h .tidy;
       list = h .list ∙ (unfold collect calendarAt in rw e (sym (append-nil _)));
       windows = let b = windows-more rows r (rowCount rows) in omega (arith, h .windows);
       calendars = let b = h .calendars in unfold countBelow in omega arith;
     }
+
+    -- row r is judged
+    pub gather-at : {w′ cs′ : List ℕ} {g′ : Gathered} → is rows r 0 11 ≡ true → AddedAt rows marks r w cs g w′ cs′ g′
+        → Resources rows marks r w₀ cs₀ w cs g → Resources rows marks (suc r) w₀ cs₀ w′ cs′ g′
+    gather-at {w′} {cs′} {g′} k a h = go (marked marks r) refl
+      where
+        go : (b : Bool) → marked marks r ≡ b → Resources rows marks (suc r) w₀ cs₀ w′ cs′ g′
+        go true e = gather-more e k (a .taken e) h
+        go false e = let p = a .passed e in rw (p .0, p .1, p .2) (gather-none e h)
 
   module _ (m : OnResources rows marks) where
     pub holder : {r : ℕ} → r < rowCount rows → marked marks r ≡ true → Holder rows r 15
@@ -189,20 +262,21 @@ module _ (rows : List ℤ) (marks : List ℕ) where
     unmarked r l e false q = q
 
     -- what is known of row i, where it is one or the end
-    abbrev At : List ℕ → List ℕ → Gathered → ℕ → Type 0
-    At w cs g i = i ≤ rowCount rows → Resources rows marks i w cs g
+    abbrev At : List ℕ → List ℕ → List ℕ → List ℕ → Gathered → ℕ → Type 0
+    At w₀ cs₀ w cs g i = i ≤ rowCount rows → Resources rows marks i w₀ cs₀ w cs g
 
-    still : (w cs : List ℕ) (g : Gathered) (r : ℕ) → ofKind rows 11 r ≡ false → At w cs g r → At w cs g (r + 1)
-    still w cs g r e h l =
+    still : (w₀ cs₀ w cs : List ℕ) (g : Gathered) (r : ℕ) → ofKind rows 11 r ≡ false → At w₀ cs₀ w cs g r → At w₀ cs₀ w cs g (r + 1)
+    still w₀ cs₀ w cs g r e h l =
         let q : r + 1 ≡ suc r = omega arith in
         rw q (gather-none (unmarked r (omega arith) e (marked marks r) refl) (h (omega arith)))
 
     pub gather-first : {i : ℕ} {w cs : List ℕ} → First (ofKind rows 11) 0 (rowCount rows) i → length w ≡ 2400 → length cs ≡ 1600
-        → Resources rows marks i w cs (record { windows = 0; calendars = 0 })
+        → Resources rows marks i w cs w cs (record { windows = 0; calendars = 0 })
     gather-first {i} {w} {cs} f a b =
-        over (At w cs (record { windows = 0; calendars = 0 })) (ofKind rows 11) 0 _ _ (still w cs (record { windows = 0; calendars = 0 })) f
+        over (At w cs w cs (record { windows = 0; calendars = 0 })) (ofKind rows 11) 0 _ _ (still w cs w cs (record { windows = 0; calendars = 0 })) f
         (λ z.
         record {
+          over = unfold collect in over-none w cs;
           tidy = record { places = a; pairs = b; ends = λ j l. absurd (omega arith) };
           list = unfold laidOut collect in refl;
           windows = omega arith;
@@ -210,17 +284,17 @@ module _ (rows : List ℤ) (marks : List ℕ) where
         })
         (f .high)
 
-    pub gather-next : {i j : ℕ} {w cs : List ℕ} {g : Gathered} → First (ofKind rows 11) (suc i) (rowCount rows) j
-        → Resources rows marks (suc i) w cs g → Resources rows marks j w cs g
-    gather-next {i} {j} {w} {cs} {g} f h = over (At w cs g) (ofKind rows 11) (suc i) _ _ (still w cs g) f (λ z. h) (f .high)
+    pub gather-next : {i j : ℕ} {w₀ cs₀ w cs : List ℕ} {g : Gathered} → First (ofKind rows 11) (suc i) (rowCount rows) j
+        → Resources rows marks (suc i) w₀ cs₀ w cs g → Resources rows marks j w₀ cs₀ w cs g
+    gather-next {i} {j} {w₀} {cs₀} {w} {cs} {g} f h = over (At w₀ cs₀ w cs g) (ofKind rows 11) (suc i) _ _ (still w₀ cs₀ w cs g) f (λ z. h) (f .high)
 
-  pub gather-end : {N i : ℕ} {w cs : List ℕ} {g : Gathered} → N ≤ i → N ≡ rowCount rows → Stands (ofKind rows 11) (rowCount rows) i
-      → Resources rows marks i w cs g → Resources rows marks (rowCount rows) w cs g
+  pub gather-end : {N i : ℕ} {w₀ cs₀ w cs : List ℕ} {g : Gathered} → N ≤ i → N ≡ rowCount rows → Stands (ofKind rows 11) (rowCount rows) i
+      → Resources rows marks i w₀ cs₀ w cs g → Resources rows marks (rowCount rows) w₀ cs₀ w cs g
   gather-end l z s h = rw (stands-end s l z) at h
 
   -- there is place for the calendar of the activity of row a, which booking k is of
-  pub last-room : {w cs : List ℕ} {g : Gathered} (a k : ℕ) → rowCount rows ≤ 800 → k < rowCount rows → is rows k 0 23 ≡ true
-      → Resources rows marks (rowCount rows) w cs g
+  pub last-room : {w₀ cs₀ w cs : List ℕ} {g : Gathered} (a k : ℕ) → rowCount rows ≤ 800 → k < rowCount rows → is rows k 0 23 ≡ true
+      → Resources rows marks (rowCount rows) w₀ cs₀ w cs g
       → (g .windows + countBelow (ownedBy rows a 16) (rowCount rows) ≤ 800) × (g .calendars < 800)
   last-room a k b l e h =
       let c = windows-all rows (rowCount rows) a (rowCount rows) in

@@ -1,7 +1,7 @@
 -- The rows of the resources of a piece are marked along the bookings of its activity. Assumes nothing.
 use Prim.Native.Nat.{ℕ, suc, _+_, _<_, _≤_}
 use mathlib.Core.Path.{_≡_, refl, ap, sym, _∙_}
-use mathlib.Core.Bool.{Bool, true, false, _&&_, _||_, or-true, or-false}
+use mathlib.Core.Bool.{Bool, true, false, cond, _&&_, _||_, or-true, or-false}
 use mathlib.Core.List.{List}
 use mathlib.Core.Option.{none, some}
 use native.Mathlib.Omega.{arith}
@@ -27,6 +27,9 @@ use Rattle.check6_joint_calendars.proofs.Once.{taken-place}
 pub own-is : (rows : List ℤ) (k a : ℕ) → is rows k 0 23 ≡ true → placeOf rows 2 (num rows k 1) ≡ some a → a ≡ ownPlace rows k
 own-is rows k a h q = sym (own-activity rows 23 k (unfold ownerKind in refl) h ∙ ap (orEnd rows) q ∙ (unfold orEnd in refl))
 
+abbrev mark : Bool → ℕ
+mark b = cond b 1 0
+
 module _ (rows : List ℤ) (k : ℕ) where
   -- one row more
   below-more : (j r : ℕ) → takenBelow rows k (suc j) r ≡ (takenBelow rows k j r || (inPiece rows k j && isOn rows j r))
@@ -37,16 +40,23 @@ module _ (rows : List ℤ) (k : ℕ) where
   pub mark-other : {j : ℕ} {marks : List ℕ} → inPiece rows k j ≡ false → Marked rows k j marks → Marked rows k (suc j) marks
   mark-other {j} e g = record {
     size = g .size;
-    at = λ r l. g .at r l ∙ sym (below-more j r ∙ rw e (or-false (takenBelow rows k j r)));
+    at = λ r l. g .at r l ∙ ap mark (same r);
+    past = g .past;
   }
+    where
+      same : (r : ℕ) → takenBelow rows k j r ≡ takenBelow rows k (suc j) r
+      same r = sym (below-more j r ∙ rw e (or-false (takenBelow rows k j r)))
 
   -- a booking on a resource that is not in the sheet
   pub mark-none : {j : ℕ} {marks : List ℕ} → none ≡ placeOf rows 11 (num rows j 3) → Marked rows k j marks → Marked rows k (suc j) marks
-  mark-none {j} e g = record { size = g .size; at = λ r m. g .at r m ∙ sym (below-more j r ∙ rw (← e) (go (inPiece rows k j) r)) }
+  mark-none {j} e g = record { size = g .size; at = λ r m. g .at r m ∙ ap mark (same r); past = g .past }
     where
       go : (b : Bool) (r : ℕ) → (takenBelow rows k j r || (b && false)) ≡ takenBelow rows k j r
       go true r = or-false _
       go false r = or-false _
+
+      same : (r : ℕ) → takenBelow rows k j r ≡ takenBelow rows k (suc j) r
+      same r = sym (below-more j r ∙ rw (← e) (go (inPiece rows k j) r))
 
   pub mark-more : {j s : ℕ} {marks marks′ : List ℕ} → inPiece rows k j ≡ true → some s ≡ placeOf rows 11 (num rows j 3) → rowCount rows ≤ 800
       → marks′ ≡ set marks s 1 → Marked rows k j marks → Marked rows k (suc j) marks′
@@ -55,16 +65,24 @@ module _ (rows : List ℤ) (k : ℕ) where
       (record {
         size = length-set marks s 1 ∙ g .size;
         at = λ r m. go r m (ℕ-discrete r s);
+        past = λ r m l. getD-set-other marks s r 1 0 (λ z. omega (arith, placed rows 11 _ s (sym e) .within)) ∙ g .past r m l;
       })
     where
-      go : (r : ℕ) → r < rowCount rows → Dec (r ≡ s) → marked (set marks s 1) r ≡ takenBelow rows k (suc j) r
+      here : (r : ℕ) → r ≡ s → true ≡ takenBelow rows k (suc j) r
+      here r d = sym (below-more j r ∙ rw (p, ← e, eq-eqb s r (sym d)) (or-true (takenBelow rows k j r)))
+
+      elsewhere : (r : ℕ) → (r ≡ s → ⊥) → takenBelow rows k j r ≡ takenBelow rows k (suc j) r
+      elsewhere r d = sym (below-more j r ∙ rw (p, ← e, ne-eqb s r (λ c. d (sym c))) (or-false (takenBelow rows k j r)))
+
+      go : (r : ℕ) → r < rowCount rows → Dec (r ≡ s) → getD (set marks s 1) r 0 ≡ mark (takenBelow rows k (suc j) r)
       go r m (yes d) =
-          ap (λ x. eqb x 1) (ap (λ i. getD (set marks s 1) i 0) d ∙ getD-set-same marks s 1 0 (omega (arith, g .size, placed rows 11 _ s (sym e) .within)))
-          ∙ sym (below-more j r ∙ rw (p, ← e, eq-eqb s r (sym d)) (or-true (takenBelow rows k j r)))
+          ap (λ i. getD (set marks s 1) i 0) d
+          ∙ getD-set-same marks s 1 0 (omega (arith, g .size, placed rows 11 _ s (sym e) .within))
+          ∙ ap mark (here r d)
       go r m (no d) =
-          ap (λ x. eqb x 1) (getD-set-other marks s r 1 0 d)
+          getD-set-other marks s r 1 0 d
           ∙ g .at r m
-          ∙ sym (below-more j r ∙ rw (p, ← e, ne-eqb s r (λ c. d (sym c))) (or-false (takenBelow rows k j r)))
+          ∙ ap mark (elsewhere r d)
 
   module _ (a : ℕ) (h : is rows k 0 23 ≡ true) (o : placeOf rows 2 (num rows k 1) ≡ some a) where
     still : (marks : List ℕ) (j : ℕ) → ownedBy rows a 23 j ≡ false → Marked rows k j marks → Marked rows k (j + 1) marks
@@ -77,7 +95,8 @@ module _ (rows : List ℤ) (k : ℕ) where
         over (λ j. Marked rows k j (replicate 800 0)) (ownedBy rows a 23) 0 _ _ (still (replicate 800 0)) f
         (record {
           size = length-replicate {A = ℕ} 800 0;
-          at = λ r l. ap (λ x. eqb x 1) (getD-replicate {A = ℕ} 800 r 0 0 (omega arith)) ∙ (unfold takenBelow anyBelow in refl);
+          at = λ r l. getD-replicate {A = ℕ} 800 r 0 0 (omega arith) ∙ (unfold takenBelow anyBelow in refl);
+          past = λ r m l. getD-replicate {A = ℕ} 800 r 0 0 l;
         })
 
     pub mark-next : {n i j : ℕ} {marks : List ℕ} → First (ownedBy rows a 23) (suc i) n j → Marked rows k (suc i) marks → Marked rows k j marks
@@ -86,9 +105,17 @@ module _ (rows : List ℤ) (k : ℕ) where
   pub mark-end : {p : ℕ → Bool} {N i : ℕ} {marks : List ℕ} → N ≤ i → N ≡ rowCount rows → Stands p (rowCount rows) i → Marked rows k i marks → Marked rows k (rowCount rows) marks
   mark-end l z s g = rw (stands-end s l z) at g
 
+  -- the mark tells
+  pub marked-is : {i : ℕ} {marks : List ℕ} → Marked rows k i marks → (r : ℕ) → r < rowCount rows → marked marks r ≡ takenBelow rows k i r
+  marked-is {i} g r l = ap (λ x. eqb x 1) (g .at r l) ∙ one (takenBelow rows k i r)
+    where
+      one : (b : Bool) → eqb (mark b) 1 ≡ b
+      one true = refl
+      one false = refl
+
   -- what is marked is a resource
   pub on-resources : {marks : List ℕ} → Marked rows k (rowCount rows) marks → OnResources rows marks
   on-resources g = record {
     size = g .size;
-    resource = λ r l e. taken-place rows k r (sym (g .at r l) ∙ e);
+    resource = λ r l e. taken-place rows k r (sym (marked-is g r l) ∙ e);
   }

@@ -1,6 +1,6 @@
 -- The calendars that are laid out work together when those of the definition do. Assumes nothing.
 use Prim.Native.Nat.{ℕ, _+_, _*_, _/_, _<_, _≤_}
-use mathlib.Core.Path.{_≡_, refl, ap, ap₂, sym, _∙_}
+use mathlib.Core.Path.{_≡_, refl, ap, ap₂, sym, subst, _∙_}
 use mathlib.Core.Bool.{Bool, true, false, not, _&&_, and-true, or-false}
 use mathlib.Core.List.{List, [], _∷_, _++_, map}
 use mathlib.Core.Logic.{inl}
@@ -30,8 +30,10 @@ use Rattle.definition.specs.CheckCalendars.{pieceCalendars}
 use Rattle.window_rows.specs.inner.Laid.{Holder}
 use Rattle.check6_joint_calendars.specs.declared.Gathered.{Gathered}
 use Rattle.check6_joint_calendars.specs.inner.Taken.{taken, Marked}
-use Rattle.check6_joint_calendars.specs.inner.Laying.{laidOut, Added, calendarAt, takenAt, Resources, laidCalendars, LaidOut}
+use Rattle.check6_joint_calendars.specs.inner.Laying.{laidOut, Over, Added, calendarAt, takenAt, Resources, laidCalendars, LaidOut}
 use Rattle.check6_joint_calendars.proofs.Joint.{all-any, joint-is}
+use Rattle.check6_joint_calendars.proofs.Gathering.{over-more}
+use Rattle.check6_joint_calendars.proofs.Marking.{marked-is}
 use Rattle.check6_joint_calendars.proofs.Once.{takenRests, once-each}
 
 -- the pairs of places that are lent are those of the first c calendars
@@ -81,18 +83,23 @@ module _ (rows : List ℤ) (acc : Accepted rows) (k : ℕ) (l : k < rowCount row
 
 marks-taken : (rows : List ℤ) (k : ℕ) {marks : List ℕ} → Marked rows k (rowCount rows) marks → collect (calendarAt rows marks) (rowCount rows) ≡ collect (takenAt rows k) (rowCount rows)
 unfolding calendarAt
-marks-taken rows k m = collect-ext _ _ (rowCount rows) (λ r b. ap (λ y. given y (windows (sheet rows) 15 (num rows r 1))) (m .at r b))
+marks-taken rows k m = collect-ext _ _ (rowCount rows) (λ r b. ap (λ y. given y (windows (sheet rows) 15 (num rows r 1))) (marked-is rows k m r b))
 
 -- what is promised of the calendars that are laid out
-pub whole : (rows : List ℤ) (k a : ℕ) {marks w cs w′ cs′ : List ℕ} {g g′ : Gathered}
-    → Marked rows k (rowCount rows) marks → Resources rows marks (rowCount rows) w cs g → g .calendars < 800
-    → Added (windows (sheet rows) 16 (num rows a 1)) (countBelow (ownedBy rows a 16) (rowCount rows)) w cs g w′ cs′ g′ → LaidOut rows k a w′ cs′ (g′ .calendars)
-whole rows k a {w′ = w′} {cs′ = cs′} {g′ = g′} p r b s = record {
-  count = omega (arith, s .calendars);
-  list =
-      lent w′ cs′ (g′ .calendars) (omega (arith, s .calendars, s .tidy .pairs))
-      ∙ s .list
-      ∙ ap (λ y. y ++ (windows (sheet rows) 16 (num rows a 1) ∷ [])) (r .list ∙ marks-taken rows k p);
-  places = s .tidy .places;
-  pairs = s .tidy .pairs;
-}
+pub whole : (rows : List ℤ) (k a : ℕ) {marks w₀ cs₀ w cs w′ cs′ : List ℕ} {g g′ : Gathered}
+    → Marked rows k (rowCount rows) marks → Resources rows marks (rowCount rows) w₀ cs₀ w cs g → g .calendars < 800
+    → Added (windows (sheet rows) 16 (num rows a 1)) (countBelow (ownedBy rows a 16) (rowCount rows)) w cs g w′ cs′ g′ → LaidOut rows k a w₀ cs₀ w′ cs′ (g′ .calendars)
+whole rows k a {w₀ = w₀} {cs₀ = cs₀} {w′ = w′} {cs′ = cs′} {g′ = g′} p r b s =
+    let o : Over (laidCalendars rows k a) w₀ cs₀ w′ cs′ g′ =
+    subst (λ l. Over (l ++ windows (sheet rows) 16 (num rows a 1) ∷ []) w₀ cs₀ w′ cs′ g′) (marks-taken rows k p) (over-more (r .over) s) in record {
+      answer = o .calendars;
+      numbers = o .numbers;
+      pairs = o .pairs;
+      few = omega (arith, s .calendars);
+      list =
+          lent w′ cs′ (g′ .calendars) (omega (arith, s .calendars, s .tidy .pairs))
+          ∙ s .list
+          ∙ ap (λ y. y ++ (windows (sheet rows) 16 (num rows a 1) ∷ [])) (r .list ∙ marks-taken rows k p);
+      windows-size = s .tidy .places;
+      pairs-size = s .tidy .pairs;
+    }

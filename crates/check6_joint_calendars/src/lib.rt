@@ -14,7 +14,7 @@ ghost use Rattle.model.specs.inner.Indexed.{Indexed};
 ghost use Rattle.model.specs.Resource.{windows};
 ghost use Rattle.window_rows.specs.inner.Laid.{Holder};
 ghost use Rattle.check6_joint_calendars.specs.inner.Taken.{Marked, OnResources};
-ghost use Rattle.check6_joint_calendars.specs.inner.Laying.{Tidy, Added, Resources, LaidOut};
+ghost use Rattle.check6_joint_calendars.specs.inner.Laying.{Tidy, Added, AddedAt, Resources, LaidOut};
 use sheet::Found;
 
 // ---- the resources of a piece
@@ -93,8 +93,8 @@ fn add_resource(
     cs: &mut [usize; 1600],
     g: Gathered,
 ) -> Gathered
-    requires { ⌜ Owned (now rows) (now owned) × OnResources (now rows) (now marks) × (r < rowCount (now rows)) × (is (now rows) r 0 11 ≡ true) × Resources (now rows) (now marks) r (now w) (now cs) g ⌝ }
-    ensures { λ s. ⌜ Resources (now (rows .entry)) (now (marks .entry)) (suc r) (now (w .exit)) (now (cs .exit)) s ⌝ }
+    requires { ⌜ Owned (now rows) (now owned) × OnResources (now rows) (now marks) × (r < rowCount (now rows)) × Tidy (now w) (now cs) g × (g .windows + countBelow (ownedBy (now rows) r 15) (rowCount (now rows)) ≤ 800) × (g .calendars < 800) ⌝ }
+    ensures { λ s. ⌜ AddedAt (now (rows .entry)) (now (marks .entry)) r (now (w .entry)) (now (cs .entry)) g (now (w .exit)) (now (cs .exit)) s ⌝ }
 {
     if marks[r] == 1 {
         return add_calendar(rows, owned, r, 15, w, cs, g);
@@ -112,7 +112,7 @@ fn gather_resources(
     cs: &mut [usize; 1600],
 ) -> Gathered
     requires { ⌜ Kinds (now rows) (now kinds) × Owned (now rows) (now owned) × OnResources (now rows) (now marks) × (length (now w) ≡ 2400) × (length (now cs) ≡ 1600) ⌝ }
-    ensures { λ r. ⌜ Resources (now (rows .entry)) (now (marks .entry)) (rowCount (now (rows .entry))) (now (w .exit)) (now (cs .exit)) r ⌝ }
+    ensures { λ r. ⌜ Resources (now (rows .entry)) (now (marks .entry)) (rowCount (now (rows .entry))) (now (w .entry)) (now (cs .entry)) (now (w .exit)) (now (cs .exit)) r ⌝ }
 {
     let n = rows::row_count(rows);
     let mut g = Gathered {
@@ -139,7 +139,7 @@ pub fn lay_calendars(
     cs: &mut [usize; 1600],
 ) -> usize
     requires { ⌜ Indexed (now rows) (now kinds) (now links) (now owned) × (k < rowCount (now rows)) × (is (now rows) k 0 23 ≡ true) × (placeOf (now rows) 2 (num (now rows) k 1) ≡ some a) × (length (now w) ≡ 2400) × (length (now cs) ≡ 1600) ⌝ }
-    ensures { λ r. ⌜ LaidOut (now (rows .entry)) k a (now (w .exit)) (now (cs .exit)) r ⌝ }
+    ensures { λ r. ⌜ LaidOut (now (rows .entry)) k a (now (w .entry)) (now (cs .entry)) (now (w .exit)) (now (cs .exit)) r ⌝ }
 {
     let marks = mark_resources(rows, links, owned, a, k);
     let g = gather_resources(rows, kinds, owned, &marks, w, cs);

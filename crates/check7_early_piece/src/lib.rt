@@ -17,7 +17,7 @@ ghost use Rattle.definition.specs.CheckPrecedence.{runsOnAll, piecesOf};
 ghost use Rattle.spans.specs.inner.Activities.{spanMeant};
 ghost use Rattle.check7_early_piece.specs.inner.Reached.{startsAt, unreachedAt};
 use sheet::Found;
-use spans::Span;
+use spans::ActivitySpan;
 
 // Whether row j is a booking of booking k's piece that starts before an instant.
 fn starts_at(rows: &[i64], k: usize, j: usize, bound: u64) -> bool
@@ -87,10 +87,10 @@ fn any_unreached(
 }
 
 // Whether a span starts before an instant.
-fn span_starts_before(x: Span, from: u64) -> bool
+fn span_starts_before(x: ActivitySpan, from: u64) -> bool
     ensures { λ r. ⌜ r ≡ option (spanMeant x) false (λ y. clock .before (y .start) (pos from)) ⌝ }
 {
-    let Span::Between(start, _) = x else {
+    let ActivitySpan::Between(start, _) = x else {
         return false;
     };
     start < from

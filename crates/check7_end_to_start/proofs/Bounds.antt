@@ -5,17 +5,16 @@ use mathlib.Core.Bool.{Bool, true, false, cond, _&&_}
 use mathlib.Core.List.{List}
 use mathlib.Core.Option.{Option, none, some}
 use lib.Dec.{leb}
-use lib.IntN.{ℤ, pos, negsuc, natAbs}
+use lib.IntN.{ℤ, pos, natAbs}
 use lib.Signed.{leZ, ltZ}
 use native.Mathlib.Omega.{arith}
 use borrow.Author.Tests.{leb-true, le-leb, eq-eqb}
 use Rattle.loops.specs.Range.{fold}
 use Rattle.loops.specs.inner.Chain.{onlyAt}
-use Rattle.loops.proofs.BoolLaws.{and-left, and-right, or-left, both}
+use Rattle.loops.proofs.BoolLaws.{and-left, and-right, both}
 use Rattle.calendar.specs.Clock.{clock}
 use Rattle.rows.specs.Cells.{rowCount, cell, num, is}
-use Rattle.rows.specs.Class.{g-c}
-use Rattle.rows.specs.Ranges.{between, inRange, inClass}
+use Rattle.rows.proofs.Signed.{signed-time}
 use Rattle.sheet.specs.Places.{ofKind, placeOf}
 use Rattle.sheet.specs.inner.Accepted.{Accepted}
 use Rattle.sheet.proofs.Lookups.{placed}
@@ -23,8 +22,8 @@ use Rattle.model.specs.Sheet.{sheet}
 use Rattle.model.proofs.Accepting.{at-most, in-class}
 use Rattle.definition.specs.ActivitySpan as page
 use Rattle.definition.specs.ActivitySpan.{activitySpan}
-use Rattle.spans.specs.declared.Span.{Span}
-use Rattle.spans.specs.declared.Span.the-variants.{Between}
+use Rattle.spans.specs.declared.ActivitySpan.{ActivitySpan}
+use Rattle.spans.specs.declared.ActivitySpan.the-variants.{Between}
 use Rattle.spans.specs.inner.Activities.{spanMeant, widened, widenIf}
 use Rattle.spans.proofs.Running.{runs-booked, runs-timed}
 
@@ -58,11 +57,6 @@ wider (some x) a e f g h =
     both (either (ltZ a (x .start)) a (x .start) f (and-left (early (x .start)) (early (x .end)) h))
     (either (ltZ (x .end) e) e (x .end) g (and-right (early (x .start)) (early (x .end)) h))
 
-in-g : (x : ℤ) → inClass g-c x ≡ true → natAbs x ≤ 8000000000000
-unfolding inClass inRange between
-in-g (pos n) e = let l : n ≤ 4000000000000 = leb-true n 4000000000000 (and-right true (leb n 4000000000000) (or-left (true && leb n 4000000000000) false e refl)) in omega arith
-in-g (negsuc n) e = let l : n ≤ 3999999999999 = leb-true n 3999999999999 (and-left (leb n 3999999999999) true (or-left (leb n 3999999999999 && true) false e refl)) in omega arith
-
 module _ (rows : List ℤ) (acc : Accepted rows) where
   instant-early : (k x c : ℕ) → num rows k c ≤ 4000000000000 → early (pos (num rows k c)) ≡ true
   unfolding early
@@ -91,9 +85,9 @@ module _ (rows : List ℤ) (acc : Accepted rows) where
           let h : is rows k 0 24 ≡ true = unfold is in eq-eqb (num rows k 0) 24 (placed rows 24 id k e .kind) in
           rw (← runs-timed rows id (sym e)) (pair-early _ _ (instant-early k 24 3 (at-most rows acc k 24 3 h)) (instant-early k 24 4 (at-most rows acc k 24 4 h)))
 
-  pub span-most : (id : ℕ) {x : Span} {a e : ℕ} → spanMeant x ≡ activitySpan clock (sheet rows) id → x ≡ Between a e → (a ≤ 4000000000000) × (e ≤ 4000000000000)
+  pub span-most : (id : ℕ) {x : ActivitySpan} {a e : ℕ} → spanMeant x ≡ activitySpan clock (sheet rows) id → x ≡ Between a e → (a ≤ 4000000000000) × (e ≤ 4000000000000)
   span-most id {x} {a} {e} q z = pair-of a e (rw (← q, z) at (span-early id))
 
   -- a delay in its class
   pub delay-most : (k : ℕ) → is rows k 0 17 ≡ true → natAbs (cell rows k 3) ≤ 8000000000000
-  delay-most k h = in-g (cell rows k 3) (in-class rows acc k 17 3 h)
+  delay-most k h = omega (arith, signed-time (cell rows k 3) (in-class rows acc k 17 3 h))

@@ -31,8 +31,8 @@ use Rattle.model.proofs.ConstraintLaws.{precedence-row, by-constraint}
 use Rattle.definition.specs.ActivitySpan as page
 use Rattle.definition.specs.ActivitySpan.{activitySpan}
 use Rattle.definition.specs.CheckPrecedence.{endToStart, checkPrecedenceConstraint}
-use Rattle.spans.specs.declared.Span.{Span}
-use Rattle.spans.specs.declared.Span.the-variants.{Between, Nowhere}
+use Rattle.spans.specs.declared.ActivitySpan.{ActivitySpan}
+use Rattle.spans.specs.declared.ActivitySpan.the-variants.{Between, Nowhere}
 use Rattle.spans.specs.inner.Activities.{spanMeant}
 use Rattle.pieces.proofs.Chains.{owned-kind}
 use Rattle.check7_end_to_start.specs.inner.Early.{startsEarly}
@@ -40,16 +40,16 @@ use Rattle.check7_end_to_start.specs.inner.Early.{startsEarly}
 -- ---- the test
 
 module _ (rows : List ℤ) (before after : ℕ) (delay : ℤ) where
-  pub no-first : {x : Span} → spanMeant x ≡ activitySpan clock (sheet rows) before → x ≡ Nowhere → false ≡ startsEarly rows before after delay
+  pub no-first : {x : ActivitySpan} → spanMeant x ≡ activitySpan clock (sheet rows) before → x ≡ Nowhere → false ≡ startsEarly rows before after delay
   unfolding startsEarly
   no-first q z = rw (← q, z)
 
-  pub no-second : {x y : Span} {a e : ℕ} → spanMeant x ≡ activitySpan clock (sheet rows) before → x ≡ Between a e
+  pub no-second : {x y : ActivitySpan} {a e : ℕ} → spanMeant x ≡ activitySpan clock (sheet rows) before → x ≡ Between a e
       → spanMeant y ≡ activitySpan clock (sheet rows) after → y ≡ Nowhere → false ≡ startsEarly rows before after delay
   unfolding startsEarly
   no-second q z r w = rw (← q, z, ← r, w)
 
-  pub both-run : {x y : Span} {a e b f : ℕ} {t : Bool} → spanMeant x ≡ activitySpan clock (sheet rows) before → x ≡ Between a e
+  pub both-run : {x y : ActivitySpan} {a e b f : ℕ} {t : Bool} → spanMeant x ≡ activitySpan clock (sheet rows) before → x ≡ Between a e
       → spanMeant y ≡ activitySpan clock (sheet rows) after → y ≡ Between b f → t ≡ clock .before (pos b) (clock .plus (pos e) delay) → t ≡ startsEarly rows before after delay
   unfolding startsEarly
   both-run q z r w h = rw (← q, z, ← r, w) h

@@ -17,7 +17,7 @@ ghost use Rattle.model.specs.Constraint.{constraintAt, constraints};
 ghost use Rattle.definition.specs.CheckPrecedence.{endToStart, checkPrecedenceConstraint};
 ghost use Rattle.check7_end_to_start.specs.inner.Early.{startsEarly};
 use findings::Violation;
-use spans::Span;
+use spans::ActivitySpan;
 
 // Whether an instant is before another and a signed delay.
 pub fn is_before(start: u64, end: u64, delay: i64) -> bool
@@ -33,11 +33,11 @@ fn starts_early(rows: &[i64], kinds: &[u16; 3680], before: u64, after: u64, dela
     ensures { λ r. ⌜ r ≡ startsEarly (now (rows .entry)) before after delay ⌝ }
 {
     let first = spans::activity_span(rows, kinds, before);
-    let Span::Between(_, end) = first else {
+    let ActivitySpan::Between(_, end) = first else {
         return false;
     };
     let second = spans::activity_span(rows, kinds, after);
-    let Span::Between(start, _) = second else {
+    let ActivitySpan::Between(start, _) = second else {
         return false;
     };
     is_before(start, end, delay)

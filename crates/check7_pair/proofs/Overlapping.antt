@@ -5,18 +5,16 @@ use mathlib.Core.Bool.{Bool, true, false, cond, _&&_}
 use mathlib.Core.List.{List}
 use mathlib.Core.Option.{none, some}
 use native.Mathlib.Omega.{arith}
-use lib.Dec.{T, eqb, leb, ltb}
+use lib.Dec.{T, eqb, ltb}
 use lib.IntN.{ℤ, pos, negsuc, natAbs, _+ℤ_}
-use borrow.Author.Tests.{leb-true}
 use Rattle.loops.specs.Lists.{given, head, option}
 use Rattle.loops.specs.Search.{firstPlace, someIf}
 use Rattle.loops.proofs.ListLaws.{head-collect}
-use Rattle.loops.proofs.BoolLaws.{and-left, and-right, or-left}
+use Rattle.loops.proofs.BoolLaws.{and-left}
 use Rattle.loops.proofs.PlaceLaws.{found-at}
 use Rattle.model.proofs.Finds.{first-same, first-placed}
 use Rattle.rows.specs.Cells.{rowCount, cell, num, is}
-use Rattle.rows.specs.Class.{g-c}
-use Rattle.rows.specs.Ranges.{between, inRange, inClass}
+use Rattle.rows.proofs.Signed.{signed-time}
 use Rattle.sheet.specs.Places.{placeOf}
 use Rattle.sheet.specs.inner.Index.{ownerKind, ownedBy}
 use Rattle.sheet.specs.inner.Accepted.{Accepted}
@@ -68,11 +66,6 @@ module _ (rows : List ℤ) (o id : ℕ) (q : placeOf rows 2 id ≡ some o) where
 
 -- ---- the numbers of an overlap
 
-in-g : (x : ℤ) → inClass g-c x ≡ true → natAbs x ≤ 4000000000000
-unfolding inClass inRange between
-in-g (pos n) e = leb-true n 4000000000000 (and-right true (leb n 4000000000000) (or-left (true && leb n 4000000000000) false e refl))
-in-g (negsuc n) e = let l : n ≤ 3999999999999 = leb-true n 3999999999999 (and-left (leb n 3999999999999) true (or-left (leb n 3999999999999 && true) false e refl)) in omega arith
-
 sum-abs : (a : ℕ) (z : ℤ) → natAbs (pos a +ℤ z) ≤ a + natAbs z
 sum-abs a (pos b) = omega arith
 sum-abs a (negsuc b) = go (ltb a (suc b))
@@ -87,7 +80,7 @@ module _ (rows : List ℤ) (acc : Accepted rows) (k : ℕ) (h : is rows k 0 3 �
 
   module _ (e : lag ≡ cell rows k 3) where
     pub lag-most : natAbs (v .«finish_after_ms») ≤ 4000000000000
-    lag-most = rw (o, e) (in-g (cell rows k 3) (in-class rows acc k 3 3 h))
+    lag-most = rw (o, e) (signed-time (cell rows k 3) (in-class rows acc k 3 3 h))
 
     pub end-most : (n : ℕ) {x : ℤ} → n ≤ 4000000000000 → x ≡ earliestEnd clock v (pos n) → natAbs x ≤ 8000000000000
     end-most n l f = rw f (let a = sum-abs n (v .«finish_after_ms») in let b = lag-most in omega arith)

@@ -22,8 +22,8 @@ use Rattle.model.specs.Schedule.{precedenceViolation}
 use Rattle.definition.specs.ActivitySpan as page
 use Rattle.definition.specs.ActivitySpan.{activitySpan}
 use Rattle.definition.specs.CheckPrecedence.{runsOnAll, piecesOf, checkPair}
-use Rattle.spans.specs.declared.Span.{Span}
-use Rattle.spans.specs.declared.Span.the-variants.{Between, Nowhere}
+use Rattle.spans.specs.declared.ActivitySpan.{ActivitySpan}
+use Rattle.spans.specs.declared.ActivitySpan.the-variants.{Between, Nowhere}
 use Rattle.spans.specs.inner.Activities.{spanMeant}
 use Rattle.check7_pair.specs.inner.Tests.{startsEarly, endsEarly}
 use Rattle.check7_pair.proofs.Moved.{moved-is}
@@ -31,11 +31,11 @@ use Rattle.check7_pair.proofs.Moved.{moved-is}
 -- ---- the end
 
 module _ (rows : List ℤ) (before after : ℕ) (earliest : ℤ) where
-  pub no-end : {x : Span} {id : ℕ} → spanMeant x ≡ activitySpan clock (sheet rows) id → id ≡ after → x ≡ Nowhere → false ≡ endsEarly rows before after earliest
+  pub no-end : {x : ActivitySpan} {id : ℕ} → spanMeant x ≡ activitySpan clock (sheet rows) id → id ≡ after → x ≡ Nowhere → false ≡ endsEarly rows before after earliest
   unfolding endsEarly
   no-end q i z = rw (← i, ← q, z)
 
-  pub end-is : {x : Span} {id a e m : ℕ} {t : Bool} → spanMeant x ≡ activitySpan clock (sheet rows) id → id ≡ after → x ≡ Between a e
+  pub end-is : {x : ActivitySpan} {id a e m : ℕ} {t : Bool} → spanMeant x ≡ activitySpan clock (sheet rows) id → id ≡ after → x ≡ Between a e
       → m ≡ transportBetween (sheet rows) (runsOnAll clock (sheet rows) before) (runsOnAll clock (sheet rows) after)
       → t ≡ ltZ (pos e) (pos m +ℤ earliest) → t ≡ endsEarly rows before after earliest
   unfolding endsEarly
@@ -70,8 +70,8 @@ both-told rows before after k a e {v} {bits} {from} {lag} {earliest} s {s₁} h 
     (p ∙ ap (λ z. emit s (given (startsEarly rows before after z) (precedenceViolation 7 after))) (f ∙ ap (λ o. earliestStart clock o (pos a) (pos e)) w))
     (q ∙ ap (λ z. emit s₁ (given (endsEarly rows before after z) (precedenceViolation 7 after))) (g ∙ ap (λ o. earliestEnd clock o (pos e)) w))
 
-module _ (rows : List ℤ) (before after : ℕ) (s : Sink) {x : Span} {id : ℕ} (q : spanMeant x ≡ activitySpan clock (sheet rows) id) (i : id ≡ num rows before 1) where
-  span-is : (y : Span) → x ≡ y → activitySpan clock (sheet rows) (num rows before 1) ≡ spanMeant y
+module _ (rows : List ℤ) (before after : ℕ) (s : Sink) {x : ActivitySpan} {id : ℕ} (q : spanMeant x ≡ activitySpan clock (sheet rows) id) (i : id ≡ num rows before 1) where
+  span-is : (y : ActivitySpan) → x ≡ y → activitySpan clock (sheet rows) (num rows before 1) ≡ spanMeant y
   span-is y z = ap (activitySpan clock (sheet rows)) (sym i) ∙ sym q ∙ ap spanMeant z
 
   pub no-previous : x ≡ Nowhere → s ≡ emit s (checkPair clock (sheet rows) (activityOf rows before) (activityOf rows after))

@@ -20,7 +20,7 @@ ghost use Rattle.check7_pair.specs.inner.Tests.{startsEarly, endsEarly};
 use findings::Violation;
 use overlap::Overlap;
 use sheet::Found;
-use spans::Span;
+use spans::ActivitySpan;
 
 // The one finding of a piece of the activity of row `after` that starts before the work, done at `from`, reaches it.
 fn report_early(
@@ -61,7 +61,7 @@ fn ends_early(
     ensures { λ r. ⌜ r ≡ endsEarly (now (rows .entry)) (num (now (rows .entry)) before 1) (num (now (rows .entry)) after 1) earliest ⌝ }
 {
     let x = spans::activity_span(rows, kinds, rows::num_at(rows, after, 1));
-    let Span::Between(_, end) = x else {
+    let ActivitySpan::Between(_, end) = x else {
         return false;
     };
     let moved = check7_transport::moved_between(rows, links, owned, before, after);
@@ -131,7 +131,7 @@ pub fn check_pair(
     ensures { λ r. ⌜ sink (now (out .exit)) r ≡ emit (sink (now (out .entry)) n) (checkPair clock (sheet (now (rows .entry))) (activityOf (now (rows .entry)) before) (activityOf (now (rows .entry)) after)) ⌝ }
 {
     let previous = spans::activity_span(rows, kinds, rows::num_at(rows, before, 1));
-    let Span::Between(start, end) = previous else {
+    let ActivitySpan::Between(start, end) = previous else {
         return n;
     };
     let Found::At(k) = sheet::find_owned(rows, owned, after, 3) else {

@@ -1,5 +1,5 @@
 -- Each two members' bookings: the list of bookings and its pairs, as loops over the members' rows. Assumes nothing.
-use Prim.Native.Nat.{ℕ, zero, suc, _<_, _≤_}
+use Prim.Native.Nat.{ℕ, zero, suc, _<_}
 use mathlib.Core.Path.{_≡_, refl, ap, ap₂, sym, _∙_}
 use mathlib.Core.Bool.{Bool, true, false, cond, _&&_, and-assoc}
 use mathlib.Core.List.{List, [], _∷_, _++_, append-nil}
@@ -8,7 +8,7 @@ use native.Mathlib.Omega.{arith}
 use native.Mathlib.Decide.{decLt}
 use lib.Dec.{eqb, ltb}
 use lib.IntN.{ℤ, pos}
-use lib.ListN.{length, getD}
+use lib.ListN.{length}
 use borrow.Author.Tests.{lt-ltb, le-ltb}
 use Rattle.loops.specs.Lists.{given, keep, head, each, option}
 use Rattle.loops.specs.Range.{collect}
@@ -18,13 +18,10 @@ use Rattle.loops.proofs.PartLaws.{collect-nothing}
 use Rattle.loops.proofs.ListLaws.{each-collect, keep-collect, head-collect}
 use Rattle.loops.proofs.RangeLaws.{collect-ext, collect-front}
 use Rattle.loops.proofs.PlaceLaws.{found-at}
-use Rattle.loops.proofs.StoreLaws.{Filled}
 use Rattle.calendar.specs.Clock.{clock}
 use Rattle.rows.specs.Cells.{rowCount, num, is}
 use Rattle.sheet.specs.Places.{ofKind, named}
-use Rattle.sheet.specs.inner.Index.{orEnd, storedPlace}
-use Rattle.sheet.proofs.Links.{stored}
-use Rattle.sheet.proofs.Tables.{below}
+use Rattle.sheet.specs.inner.Kept.{IsRow}
 use Rattle.findings.specs.declared.Violation.{Violation}
 use Rattle.model.specs.Sheet.{sheet, rowAt}
 use Rattle.model.specs.inner.Records.{numAt}
@@ -34,7 +31,7 @@ use Rattle.model.specs.Schedule.{Assignment, asPart, assignmentAt, assignmentsB
 use Rattle.model.proofs.RowLaws.{kind-is, assignment-row, assignment-none}
 use Rattle.model.proofs.ConstraintLaws.{overlap-row}
 use Rattle.definition.specs.CheckConstraints.{firstOn, overlapping, checkOverlaps, checkConstraint, checkConstraintAt}
-use Rattle.check9_constraints.specs.inner.Bookings.{bookedOn, memberBooking, Booked, overlapAt, pairAt, pairsAt}
+use Rattle.check9_constraints.specs.inner.Bookings.{bookedOn, memberBooking, overlapAt, pairAt, pairsAt}
 use Rattle.check9_constraints.proofs.ConstraintRows.{given-nil}
 
 ltb-suc : (a b : ℕ) → ltb (suc a) (suc b) ≡ ltb a b
@@ -267,21 +264,10 @@ booked-test rows a r n N k l z s e q =
 
 -- ---- places of bookings
 
-pub booking-within : (rows : List ℤ) (p r k i : ℕ) → memberBooking rows p r k ≡ some i → i < rowCount rows
+pub booking-row : (rows : List ℤ) (p r k : ℕ) → IsRow rows (memberBooking rows p r k)
 unfolding memberBooking
-booking-within rows p r k i = go (is rows k 0 22 && is rows k 1 p)
+booking-row rows p r k = record { within = λ i. go i (is rows k 0 22 && is rows k 1 p) }
   where
-    go : (b : Bool) → cond b (firstPlace (bookedOn rows (num rows k 2) r) (rowCount rows)) none ≡ some i → i < rowCount rows
-    go true e = found-at (bookedOn rows (num rows k 2) r) (rowCount rows) i e .0
-    go false e = let z : _≡_ {A = ℕ} 0 1 = cc in absurd (omega arith)
-
-pub booking-le : (rows : List ℤ) (p r k : ℕ) → orEnd rows (memberBooking rows p r k) ≤ rowCount rows
-booking-le rows p r k = below rows (memberBooking rows p r k) (booking-within rows p r k)
-
-pub booking-stored : (rows : List ℤ) (p r k : ℕ) {x : Option ℕ} (t : List ℕ) → Booked rows p r t → k < rowCount rows → x ≡ storedPlace rows (getD t k 0) → x ≡ memberBooking rows p r k
-booking-stored rows p r k t h l e = e ∙ stored rows (memberBooking rows p r k) (h .at k l) (booking-within rows p r k)
-
--- the table, filled
-pub booked-end : (rows : List ℤ) (p r k n : ℕ) (t : List ℕ) → n ≤ k → k ≤ n → n ≡ rowCount rows → rowCount rows ≤ 800
-    → Filled (λ j. orEnd rows (memberBooking rows p r j)) k t → Booked rows p r t
-booked-end rows p r k n t l u z s h = record { short = s; at = λ j m. h .at j (omega arith); past = λ j m. h .rest j (omega arith) }
+    go : (i : ℕ) (b : Bool) → cond b (firstPlace (bookedOn rows (num rows k 2) r) (rowCount rows)) none ≡ some i → i < rowCount rows
+    go i true e = found-at (bookedOn rows (num rows k 2) r) (rowCount rows) i e .0
+    go i false e = let z : _≡_ {A = ℕ} 0 1 = cc in absurd (omega arith)

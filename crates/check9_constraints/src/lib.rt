@@ -5,14 +5,15 @@ ghost use mathlib.Core.List.{List, []};
 ghost use Prim.Native.Nat.{ℕ, _+_, _<_, _≤_};
 ghost use lib.Dec.{eqb, ltb};
 ghost use lib.IntN.{ℤ, pos};
-ghost use lib.ListN.{length, getD, set};
+ghost use lib.ListN.{length};
 ghost use Rattle.calendar.specs.Clock.{clock};
 ghost use Rattle.loops.specs.Lists.{given};
 ghost use Rattle.loops.specs.Range.{fold, collect};
 ghost use Rattle.loops.specs.Search.{firstPlace};
 ghost use Rattle.loops.specs.inner.Chain.{onlyAt};
 ghost use Rattle.rows.specs.Cells.{rowCount, num, is};
-ghost use Rattle.sheet.specs.Places.{foundOf, ofKind};
+ghost use Rattle.sheet.specs.Places.{ofKind};
+ghost use Rattle.sheet.specs.inner.Found.{foundOf};
 ghost use Rattle.sheet.specs.inner.Index.{Kinds};
 ghost use Rattle.findings.specs.inner.Sink.{sink, emit};
 ghost use Rattle.model.specs.Sheet.{sheet};
@@ -26,7 +27,7 @@ ghost use Rattle.check9_constraints.specs.inner.Bookings.{bookedOn, memb
 ghost use Rattle.check9_constraints.specs.inner.Seen.{seen, empty, withStart, withMember, differs};
 use findings::Violation;
 use sheet::Found;
-use spans::Span;
+use spans::ActivitySpan;
 
 // ---- time windows
 
@@ -36,7 +37,7 @@ fn is_outside(rows: &[i64], kinds: &[u16; 3680], k: usize) -> bool
     ensures { λ r. ⌜ r ≡ outsideAt (now (rows .entry)) k ⌝ }
 {
     let span = spans::activity_span(rows, kinds, rows::num_at(rows, k, 1));
-    let Span::Between(start, end) = span else {
+    let ActivitySpan::Between(start, end) = span else {
         return false;
     };
     let from = rows::num_at(rows, k, 2);
@@ -95,13 +96,6 @@ fn member_booking(rows: &[i64], kinds: &[u16; 3680], place: u64, resource: u64, 
     Found::Nothing
 }
 
-fn set_booking(t: &mut [u16; 800], k: usize, at: usize)
-    requires { ⌜ (k < 800) × (at ≤ 800) ⌝ }
-    ensures { λ _. ⌜ now (t .exit) ≡ set (now (t .entry)) k at ⌝ }
-{
-    t[k] = at as u16;
-}
-
 // The members' bookings on the resource, by the members' rows.
 fn bookings_of(rows: &[i64], kinds: &[u16; 3680], place: u64, resource: u64) -> [u16; 800]
     requires { ⌜ Kinds (now rows) (now kinds) ⌝ }
@@ -112,7 +106,7 @@ fn bookings_of(rows: &[i64], kinds: &[u16; 3680], place: u64, resource: u64) -> 
     let mut k = 0;
     while k < n {
         let at = member_booking(rows, kinds, place, resource, k);
-        set_booking(&mut t, k, sheet::or_end(rows, at));
+        sheet::keep_place(rows, &mut t, k, at);
         k += 1;
     }
     t
@@ -122,7 +116,7 @@ fn booking_at(rows: &[i64], bookings: &[u16; 800], place: u64, resource: u64, k:
     requires { ⌜ Booked (now rows) place resource (now bookings) × (k < rowCount (now rows)) ⌝ }
     ensures { λ r. ⌜ foundOf r ≡ memberBooking (now (rows .entry)) place resource k ⌝ }
 {
-    sheet::found_at(rows, bookings[k] as usize)
+    sheet::kept_place(rows, bookings, k)
 }
 
 // Whether the bookings of rows a and b overlap.
@@ -252,7 +246,7 @@ fn check_overlaps(
 // ---- synchronized starts
 
 // What the starts of members are, as far as they were seen: one has no span, two neighbours differ, all are this one, or there are none.
-pub enum Starts {
+enum Starts {
     Missing,
     Differing,
     Alike(u64),
@@ -289,7 +283,7 @@ fn with_member(rows: &[i64], kinds: &[u16; 3680], s: Starts, place: u64, k: usiz
 {
     if rows::is_at(rows, k, 1, place) {
         let span = spans::activity_span(rows, kinds, rows::num_at(rows, k, 2));
-        let Span::Between(start, _) = span else {
+        let ActivitySpan::Between(start, _) = span else {
             return Starts::Missing;
         };
         return with_start(s, start);

@@ -7,7 +7,6 @@ use mathlib.Core.Option.{Option, none, some}
 use native.Mathlib.Omega.{arith}
 use mir.Syntax.{w64}
 use mir.Val.{Fits}
-use lib.ListN.{getD}
 use lib.IntN.{ℤ, pos}
 use lib.Signed.{ltZ}
 use lib.Ieee.{binary64, ofBits}
@@ -19,17 +18,16 @@ use Rattle.loops.proofs.PlaceLaws.{found-at, place-same}
 use Rattle.rows.specs.Cells.{rowCount, cell, num, is}
 use Rattle.rows.specs.Ranges.{isNone}
 use Rattle.sheet.specs.Places.{named, placeOf}
-use Rattle.sheet.specs.inner.Index.{ownerKind, orEnd, storedPlace, ownPlace, ownedBy}
+use Rattle.sheet.specs.inner.Index.{ownerKind, orEnd, ownPlace, ownedBy}
+use Rattle.sheet.specs.inner.Kept.{IsRow}
 use Rattle.sheet.specs.inner.Accepted.{Accepted}
 use Rattle.sheet.specs.Refusals.{lacks}
-use Rattle.sheet.proofs.Links.{stored}
-use Rattle.sheet.proofs.Tables.{below}
 use Rattle.sheet.proofs.Lookups.{placed, num-is}
 use Rattle.resource_timing.specs.declared.ActivityDuration.{ActivityDuration}
 use Rattle.resource_timing.specs.declared.ResourceTiming.the-variants.{Speed, Duration}
 use Rattle.resource_timing.specs.declared.Piece.the-variants.{Whole, InPart}
 use Rattle.resource_timing.specs.Durations.{partOf}
-use Rattle.resource_timing.specs.inner.Limits.{Amounts, PartAmounts, TimingAmounts}
+use Rattle.resource_timing.specs.inner.Limits.{TimingAmounts}
 use Rattle.model.specs.Sheet.{sheet, nothing}
 use Rattle.model.specs.Activity.{split, pieceOf}
 use Rattle.model.specs.inner.Records.{activityOf}
@@ -39,7 +37,7 @@ use Rattle.model.proofs.OwnedLaws.{of-activity, own-activity}
 use Rattle.pieces.specs.inner.Bookings.{names}
 use Rattle.pieces.proofs.Chains.{names-kind, place-never, unnamed}
 use Rattle.pieces.proofs.Companions.{both-parts}
-use Rattle.derived_times.specs.inner.Rows.{columnsOf, partAt, timedBy, timingOf, timingPlace, earlierOf, Timings}
+use Rattle.derived_times.specs.inner.Rows.{columnsOf, partAt, timedBy, timingOf, timingPlace, earlierOf}
 use Rattle.derived_times.specs.inner.Needs.{restAt, Times}
 use Rattle.derived_times.proofs.Finds.{splitOf, split-is, earlier-is}
 
@@ -94,6 +92,10 @@ module _ (rows : List ℤ) where
     split-at : (x : Option ℕ) → placeOf rows 4 (num rows k 1) ≡ x → split (sheet rows) (num rows o 1) ≡ option x none (λ i. some (splitOf rows i))
     split-at x f = ap (split (sheet rows)) (activity-id (num rows k 1) o e) ∙ split-is rows (num rows k 1) ∙ ap (λ y. option y none (λ i. some (splitOf rows i))) f
 
+    -- a part's times are amounts
+    pub part-amounts : Accepted rows → (num rows k 8 ≤ 4000000000000) × (num rows o 5 ≤ 4000000000000)
+    part-amounts acc = (at-most rows acc k 23 8 h, at-most rows acc o 2 5 (activity-kind (num rows k 1) o e))
+
     module _ (acc : Accepted rows) (l : k < rowCount rows) (f : isNone (cell rows k 7) ≡ false) where
       pub piece-unsplit : none ≡ firstPlace (ownedBy rows o 4) (rowCount rows) → Whole ≡ pieceOf (sheet rows) (activityOf rows o) (partAt rows k)
       unfolding pieceOf
@@ -107,29 +109,11 @@ module _ (rows : List ℤ) where
       unfolding pieceOf
       piece-part i q = rw (part-some acc k l h f, split-at (some i) (split-row i q))
 
-      pub part-amounts : (i : ℕ) → some i ≡ firstPlace (ownedBy rows o 4) (rowCount rows) → PartAmounts (partOf (cell rows k 7) (num rows k 8) (num rows o 5) (num rows i 4))
-      part-amounts i q = record {
-        work = at-most rows acc k 23 8 h;
-        whole = at-most rows acc o 2 5 (activity-kind (num rows k 1) o e);
-        overhead = over (ltZ (pos 0) (cell rows k 7));
-      }
-        where
-          over : (b : Bool) → cond b (num rows i 4) 0 ≤ 4000000000000
-          over true = at-most rows acc i 4 4 (num-is rows i 0 4 (placed rows 4 (num rows k 1) i (split-row i q) .kind))
-          over false = omega arith
-
   -- ---- amounts
 
   pub columns-are : (o : ℕ) {s p t : ℕ} → s ≡ num rows o 4 → p ≡ num rows o 5 → t ≡ num rows o 6
       → _≡_ {A = ActivityDuration} (record { «setup_ms» = s; «process_ms» = p; «teardown_ms» = t }) (columnsOf rows o 4)
   columns-are o e f g = rw (e, f, g)
-
-  pub base-amounts : Accepted rows → (x o : ℕ) → placeOf rows 2 x ≡ some o → Amounts (columnsOf rows o 4)
-  base-amounts acc x o e = record {
-    setup = at-most rows acc o 2 4 (activity-kind x o e);
-    process = at-most rows acc o 2 5 (activity-kind x o e);
-    teardown = at-most rows acc o 2 6 (activity-kind x o e);
-  }
 
   pub timing-amounts : Accepted rows → (a r i : ℕ) → timedBy rows a r i ≡ true → TimingAmounts (timingOf rows i)
   unfolding timingOf
@@ -137,10 +121,7 @@ module _ (rows : List ℤ) where
     where
       go : (b : Bool) → is rows i 0 9 ≡ b → TimingAmounts (cond b (Speed (ofBits binary64 (num rows i 3))) (Duration (columnsOf rows i 3)))
       go true h = tt
-      go false h = ten (names-kind rows 10 a r i (or-right (names rows 9 a r i) (names rows 10 a r i) (unfold timedBy in e) (unfold names in (rw h))))
-        where
-          ten : is rows i 0 10 ≡ true → Amounts (columnsOf rows i 3)
-          ten g = record { setup = at-most rows acc i 10 3 g; process = at-most rows acc i 10 4 g; teardown = at-most rows acc i 10 5 g }
+      go false h = at-most rows acc i 10 4 (names-kind rows 10 a r i (or-right (names rows 9 a r i) (names rows 10 a r i) (unfold timedBy in e) (unfold names in (rw h))))
 
   -- ---- a booking's timing
 
@@ -174,25 +155,13 @@ module _ (rows : List ℤ) where
 
   -- ---- the table of them
 
-  timing-within : (k i : ℕ) → timingPlace rows k ≡ some i → i < rowCount rows
+  pub timing-is-row : (k : ℕ) → IsRow rows (timingPlace rows k)
   unfolding timingPlace
-  timing-within k i = go (is rows k 0 23)
+  timing-is-row k = record { within = λ i. go i (is rows k 0 23) }
     where
-      go : (b : Bool) → cond b (firstPlace (timedBy rows (num rows k 1) (num rows k 3)) (rowCount rows)) none ≡ some i → i < rowCount rows
-      go true e = found-at _ (rowCount rows) i e .0
-      go false e = let z : _≡_ {A = ℕ} 0 1 = cc in absurd (omega arith)
-
-  pub timing-most : (k : ℕ) {i : ℕ} {x : Option ℕ} → i ≡ orEnd rows x → x ≡ timingPlace rows k → rowCount rows ≤ 800 → i ≤ 800
-  timing-most k {i} e f l = let w : i ≡ orEnd rows (timingPlace rows k) = e ∙ ap (orEnd rows) f in omega (arith, below rows (timingPlace rows k) (timing-within k))
-
-  pub timing-fits : (t : List ℕ) (j : ℕ) → Timings rows t → j < rowCount rows → Fits w64 (getD t j 0)
-  timing-fits t j h l = record { fits = omega (arith, h .at j l, h .short, below rows (timingPlace rows j) (timing-within j)) }
-
-  pub timing-stored : (t : List ℕ) (j : ℕ) {r : Option ℕ} → Timings rows t → j < rowCount rows → r ≡ storedPlace rows (getD t j 0) → r ≡ timingPlace rows j
-  timing-stored t j h l e = e ∙ stored rows (timingPlace rows j) (h .at j l) (timing-within j)
-
-  pub timings-end : (k n : ℕ) (t : List ℕ) → n ≤ k → k ≤ n → n ≡ rowCount rows → rowCount rows ≤ 800 → Filled (λ j. orEnd rows (timingPlace rows j)) k t → Timings rows t
-  timings-end k n t l u z s h = record { short = s; at = λ j m. h .at j (omega arith); past = λ j m. h .rest j (omega arith) }
+      go : (i : ℕ) (b : Bool) → cond b (firstPlace (timedBy rows (num rows k 1) (num rows k 3)) (rowCount rows)) none ≡ some i → i < rowCount rows
+      go i true e = found-at _ (rowCount rows) i e .0
+      go i false e = let z : _≡_ {A = ℕ} 0 1 = cc in absurd (omega arith)
 
   pub times-end : (k n : ℕ) (t : List ℕ) → n ≤ k → k ≤ n → n ≡ rowCount rows → rowCount rows ≤ 800 → Filled (restAt rows) k t → Times rows t
   times-end k n t l u z s h = record { short = s; at = λ j m. h .at j (omega arith); past = λ j m. h .rest j (omega arith) }

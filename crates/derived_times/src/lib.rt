@@ -7,7 +7,8 @@ ghost use lib.ListN.{set};
 ghost use Rattle.loops.specs.Lists.{anyOf};
 ghost use Rattle.loops.specs.Range.{fold};
 ghost use Rattle.rows.specs.Cells.{rowCount, num, is};
-ghost use Rattle.sheet.specs.Places.{foundOf, placeOf};
+ghost use Rattle.sheet.specs.Places.{placeOf};
+ghost use Rattle.sheet.specs.inner.Found.{foundOf};
 ghost use Rattle.sheet.specs.inner.Index.{ownPlace, Linked, Owned};
 ghost use Rattle.refusals.specs.Refusals.{verdictOf};
 ghost use Rattle.sheet.specs.inner.Accepted.{Accepted};
@@ -65,14 +66,7 @@ fn timing_row(rows: &[i64], links: &[u16; 1600], owned: &[u16; 8810], k: usize) 
     earlier(speed, fixed)
 }
 
-fn set_row(t: &mut [u16; 800], k: usize, i: usize)
-    requires { ⌜ (k < 800) × (i ≤ 800) ⌝ }
-    ensures { λ _. ⌜ now (t .exit) ≡ set (now (t .entry)) k i ⌝ }
-{
-    t[k] = i as u16;
-}
-
-// The row of booking k's timing at place k, the number of rows where there is none.
+// The row of booking k's timing, kept for row k.
 pub fn timings_of(rows: &[i64], links: &[u16; 1600], owned: &[u16; 8810]) -> [u16; 800]
     requires { ⌜ Accepted (now rows) × Linked (now rows) (now links) × Owned (now rows) (now owned) ⌝ }
     ensures { λ r. ⌜ Timings (now (rows .entry)) r ⌝ }
@@ -81,8 +75,7 @@ pub fn timings_of(rows: &[i64], links: &[u16; 1600], owned: &[u16; 8810]) -> [u1
     let mut t = [0u16; 800];
     let mut k = 0;
     while k < n {
-        let i = timing_row(rows, links, owned, k);
-        set_row(&mut t, k, sheet::or_end(rows, i));
+        sheet::keep_place(rows, &mut t, k, timing_row(rows, links, owned, k));
         k += 1;
     }
     t
@@ -93,7 +86,7 @@ fn timing_of(rows: &[i64], t: &[u16; 800], k: usize) -> Found
     requires { ⌜ Timings (now rows) (now t) × (k < rowCount (now rows)) ⌝ }
     ensures { λ r. ⌜ foundOf r ≡ timingPlace (now (rows .entry)) k ⌝ }
 {
-    sheet::found_at(rows, t[k] as usize)
+    sheet::kept_place(rows, t, k)
 }
 
 // A duration in three columns from c on.
@@ -215,7 +208,7 @@ pub fn duration_on(
         process_ms: process,
         teardown_ms: teardown,
     };
-    f.duration(piece.duration(base))
+    f.duration(piece, base)
 }
 
 // ---- what each booking needs

@@ -115,7 +115,7 @@ fn check_times(
     requires { ⌜ Indexed (now rows) (now kinds) (now links) (now owned) ⌝ }
     ensures { λ r. ⌜ Checked (now (rows .entry)) (now (out .entry)) r (now (out .exit)) ⌝ }
 {
-    let held = pieces::held_of(rows, links, owned);
+    let held = pieces::held_of(rows, kinds, links, owned);
     let need = derived_times::needs_of(rows, links, owned, &held);
     let verdict = derived_times::refused(rows, &need);
     match verdict {

@@ -12,7 +12,7 @@ use Rattle.refusals.specs.Refusals.{Refusal}
 use Rattle.work_end_inquiry.specs.Inquiry as inquiry
 use Rattle.feasibility.specs.Call.{Checked}
 use Rattle.hutchdecade.specs.declared.Outcome.{Outcome}
-use Rattle.hutchdecade.specs.declared.WorkEnd.{WorkEnd}
+use Rattle.hutchdecade.specs.declared.WorkEndOutcome.{WorkEndOutcome}
 
 abbrev pub ofAnswer : Answer → Outcome
 ofAnswer (Accepted n) = record { number = 0; place = n }
@@ -23,7 +23,7 @@ ofRefusal none = record { number = 0; place = 0 }
 ofRefusal (some x) = record { number = x .number; place = x .place }
 
 -- the inquiry's answer as four numbers: a refusal's number and place; or 0, 0, the outcome (0 an end, 1 pause, 2 never) and the instant of an end
-abbrev pub ofInquiry : inquiry.Outcome → WorkEnd
+abbrev pub ofInquiry : inquiry.InquiryOutcome → WorkEndOutcome
 ofInquiry (inquiry.refused x) = record { number = x .number; place = x .place; outcome = 0; instant = 0 }
 ofInquiry (inquiry.ends (endsAt e)) = record { number = 0; place = 0; outcome = 0; instant = toNat e }
 ofInquiry (inquiry.ends pauses) = record { number = 0; place = 0; outcome = 1; instant = 0 }

@@ -63,17 +63,17 @@ pub extern "C" fn sheet_validate(rows: &[i64]) -> Outcome
 
 // A refusal by number and place; or, with number 0, an outcome (0 an end, 1 pause, 2 never) and the instant of an end.
 #[repr(C)]
-pub struct WorkEnd {
+pub struct WorkEndOutcome {
     pub number: u64,
     pub place: u64,
     pub outcome: u64,
     pub instant: u64,
 }
 
-fn accepted(outcome: u64, instant: u64) -> WorkEnd
+fn accepted(outcome: u64, instant: u64) -> WorkEndOutcome
     ensures { λ r. ⌜ r ≡ record { number = 0; place = 0; outcome = outcome; instant = instant } ⌝ }
 {
-    WorkEnd {
+    WorkEndOutcome {
         number: 0,
         place: 0,
         outcome: outcome,
@@ -81,14 +81,14 @@ fn accepted(outcome: u64, instant: u64) -> WorkEnd
     }
 }
 
-fn of_inquiry(a: work_end_inquiry::Answer) -> WorkEnd
+fn of_inquiry(a: work_end_inquiry::InquiryAnswer) -> WorkEndOutcome
     ensures { λ r. ⌜ r ≡ ofInquiry (outcomeOf a) ⌝ }
 {
     match a {
-        work_end_inquiry::Answer::End(e) => accepted(0, e),
-        work_end_inquiry::Answer::Pause => accepted(1, 0),
-        work_end_inquiry::Answer::Never => accepted(2, 0),
-        work_end_inquiry::Answer::Refused(k, p) => WorkEnd {
+        work_end_inquiry::InquiryAnswer::End(e) => accepted(0, e),
+        work_end_inquiry::InquiryAnswer::Pause => accepted(1, 0),
+        work_end_inquiry::InquiryAnswer::Never => accepted(2, 0),
+        work_end_inquiry::InquiryAnswer::Refused(k, p) => WorkEndOutcome {
             number: k,
             place: p as u64,
             outcome: 0,
@@ -99,7 +99,12 @@ fn of_inquiry(a: work_end_inquiry::Answer) -> WorkEnd
 
 // The work-end inquiry.
 #[no_mangle]
-pub extern "C" fn sheet_work_end(rows: &[i64], resource: i64, start: i64, work: i64) -> WorkEnd
+pub extern "C" fn sheet_work_end(
+    rows: &[i64],
+    resource: i64,
+    start: i64,
+    work: i64,
+) -> WorkEndOutcome
     ensures { λ r. ⌜ r ≡ ofInquiry (inquiry (now (rows .entry)) resource start work) ⌝ }
 {
     of_inquiry(work_end_inquiry::work_end(rows, resource, start, work))

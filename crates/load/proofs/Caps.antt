@@ -19,7 +19,8 @@ use Rattle.loops.proofs.RangeLaws.{collect-ext}
 use Rattle.rows.specs.Cells.{rowCount, cell, num, is}
 use Rattle.sheet.specs.declared.Found.{Found}
 use Rattle.sheet.specs.declared.Found.the-variants.{At, Nothing}
-use Rattle.sheet.specs.Places.{foundOf, ofKind, placeOf}
+use Rattle.sheet.specs.Places.{ofKind, placeOf}
+use Rattle.sheet.specs.inner.Found.{foundOf}
 use Rattle.model.specs.Sheet.{sheet}
 use Rattle.model.specs.Constraint.{constraintAt, constraints}
 use Rattle.model.proofs.ConstraintLaws.{capacity-row, by-constraint}

@@ -87,10 +87,3 @@ links-next key m n t k i h e l = let q : key i ≡ k = eqb-true (key i) k e in r
 
 pub fits : (p : ℕ → Bool) (i n j : ℕ) → First p i n j → n ≤ 800 → Fits w64 j
 fits p i n j f l = record { fits = omega (arith, f .high) }
-
-pub below-turn : (f : ℕ → ℕ) (m k x : ℕ) → ((j : ℕ) → j < k → f j < m) → x ≡ f k → x < m → (j : ℕ) → j < k + 1 → f j < m
-below-turn f m k x h e l j z = go (ℕ-discrete j k)
-  where
-    go : Dec (j ≡ k) → f j < m
-    go (yes q) = rw (q, ← e) l
-    go (no q) = h j (omega arith)

@@ -9,6 +9,7 @@ pub mod PartLaws
 pub mod PlaceLaws
 pub mod RangeLaws
 pub mod SearchLaws
+pub mod SignLaws
 pub mod SortLaws
 pub mod StoreLaws
 pub mod SumLaws

@@ -65,9 +65,6 @@ module _ (p : ℕ → Bool) where
   place-hit i (suc m) h e q =
       ⊎-elim (λ z. rw (← z) (place-here i e q)) (λ l. place-kept m (place-hit i m l e q)) (eq-or-lt-of-le (le-of-suc-le-suc h))
 
-  pub place-done : (i n N : ℕ) → i ≤ n → n ≤ i → n ≡ N → firstPlace p i ≡ none → none ≡ firstPlace p N
-  place-done i n N h k q e = sym (ap (firstPlace p) (sym (le-antisymm h k ∙ q)) ∙ e)
-
   pub any-zero : anyBelow p 0 ≡ false
   unfolding anyBelow
   any-zero = refl
@@ -106,9 +103,6 @@ module _ (p : ℕ → Bool) where
   pub count-again : (i : ℕ) {x y : ℕ} → x ≡ countBelow p i → y ≡ x + cond (p i) 1 0 → y ≡ countBelow p (i + 1)
   unfolding countBelow
   count-again i a e = e ∙ rw (a, add-one)
-
-  pub count-done : (i n N : ℕ) {x : ℕ} → i ≤ n → n ≤ i → n ≡ N → x ≡ countBelow p i → x ≡ countBelow p N
-  count-done i n N h h′ q a = a ∙ ap (countBelow p) (le-antisymm h h′ ∙ q)
 
   pub count-le : (n : ℕ) → countBelow p n ≤ n
   unfolding countBelow

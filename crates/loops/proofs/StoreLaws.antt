@@ -1,12 +1,13 @@
 -- Stores one after the other: `sets l i vs` puts vs in l from place i on, as far as l goes; a table that a loop fills row by row. Assumes nothing.
 use Prim.Native.Nat.{ℕ, zero, suc, _+_, _≤_, _<_, min}
 use mathlib.Core.List.{List, [], _∷_, _++_}
-use mathlib.Core.Path.{_≡_, refl, sym, _∙_}
+use mathlib.Core.Path.{_≡_, refl, sym, ap, subst, _∙_}
 use native.Mathlib.Omega.{arith}
 use native.Mathlib.Nat.{add-zero}
 use native.Mathlib.Decide.{ℕ-discrete, decLt}
-use lib.ListN.{length, getD, set, replicate, length-set, length-replicate}
-use lib.Seq.{sets, set-out, getD-set-same, getD-set-other}
+use lib.ListN.{length, getD, set, replicate, length-set, length-replicate, length-append}
+use lib.Seq.{sets, set-out, length-sets, getD-set-same, getD-set-other}
+use Rattle.loops.specs.inner.Wrote.{Wrote}
 
 module _ {A : Type 0} where
   -- two runs of stores are one
@@ -26,6 +27,32 @@ module _ {A : Type 0} where
       go : Dec (i < length l) → sets l (min i (length l)) vs ≡ sets l i vs
       go (yes h) = let e : min i (length l) ≡ i = omega arith in rw e
       go (no h) = let e : min i (length l) ≡ length l = omega arith in rw e (sets-out l (length l) vs (omega arith) ∙ sym (sets-out l i vs (omega arith)))
+
+  -- ---- what is written to a buffer, one after the other
+  pub wrote-none : (l : List A) (at : ℕ) → at ≤ length l → Wrote l at l at []
+  wrote-none l at h = record { place = omega arith; buffer = refl }
+
+  pub wrote-past : (l : List A) (at : ℕ) (x : A) → at ≤ length l → length l ≤ at → Wrote l at l at (x ∷ [])
+  wrote-past l at x h k = record { place = omega arith; buffer = sym (set-out l at x k) }
+
+  pub wrote-long : {l m : List A} {i j : ℕ} {a : List A} → Wrote l i m j a → length m ≡ length l
+  wrote-long {l = l} {i = i} {a = a} v = ap length (v .buffer) ∙ length-sets l i a
+
+  pub wrote-within : {l m : List A} {i j : ℕ} (a : List A) → Wrote l i m j a → j ≤ length m
+  wrote-within a v = omega (arith, v .place, wrote-long v)
+
+  pub wrote-as : {l m : List A} {i j : ℕ} {a b : List A} → a ≡ b → Wrote l i m j a → Wrote l i m j b
+  wrote-as {l = l} {m = m} {i = i} {j = j} e v = subst (λ (x : List A). Wrote l i m j x) e v
+
+  pub wrote-then : {l m o : List A} {i j k : ℕ} (a b : List A) → Wrote l i m j a → Wrote m j o k b → Wrote l i o k (a ++ b)
+  wrote-then {l = l} {m = m} {i = i} a b v w =
+      let e = wrote-long v in
+      record {
+        place = simp length-append (omega (arith, v .place, w .place, e));
+        buffer =
+            w .buffer ∙ rw (v .place, v .buffer)
+            (ap (λ (k : ℕ). sets (sets l i a) (min (i + length a) k) b) (sym (length-sets l i a)) ∙ sets-min (sets l i a) (i + length a) b ∙ sets-append l i a b);
+      }
 
 -- ---- a table with a number for each row
 

@@ -1,10 +1,10 @@
 -- What stands at a place after three numbers were put there, and at the others. Assumes nothing.
-use Prim.Native.Nat.{ℕ, _+_, _*_, _<_, _≤_}
-use mathlib.Core.Path.{_≡_, _∙_}
-use mathlib.Core.List.{List}
+use Prim.Native.Nat.{ℕ, suc, _+_, _*_, _<_, _≤_}
+use mathlib.Core.Path.{_≡_, refl, _∙_}
+use mathlib.Core.List.{List, [], _∷_}
 use native.Mathlib.Omega.{arith}
 use lib.ListN.{length, getD, set, length-set}
-use lib.Seq.{getD-set-same, getD-set-other}
+use lib.Seq.{sets, getD-set-same, getD-set-other}
 use Rattle.loops.specs.inner.Threes.{setThree}
 
 module _ (t : List ℕ) (i x y z : ℕ) where
@@ -16,6 +16,13 @@ module _ (t : List ℕ) (i x y z : ℕ) where
 
   pub three-length : length (setThree t i x y z) ≡ length t
   three-length = length-set t₂ (3 * i + 2) z ∙ length-set t₁ (3 * i + 1) y ∙ length-set t (3 * i) x
+
+  -- as one run of stores
+  pub three-sets : setThree t i x y z ≡ sets t (3 * i) (x ∷ y ∷ z ∷ [])
+  three-sets =
+      let a : 3 * i + 1 ≡ suc (3 * i) = omega arith in
+      let b : 3 * i + 2 ≡ suc (suc (3 * i)) = omega arith in
+      rw (a, b) refl
 
   module _ (n : ℕ) (s : length t ≡ n) (l : 3 * i + 2 < n) where
     pub first-is : getD (setThree t i x y z) (3 * i) 0 ≡ x

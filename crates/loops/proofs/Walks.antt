@@ -12,7 +12,7 @@ use Rattle.loops.specs.Range.{fold, collect}
 use Rattle.loops.specs.Search.{first, firstPlace, anyBelow}
 use Rattle.loops.specs.inner.Chain.{First, Stands, Quiet, Silent, Blind, onlyAt, only}
 use Rattle.loops.proofs.RangeLaws.{fold-zero, fold-again, collect-zero, collect-step}
-use Rattle.loops.proofs.SearchLaws.{first-zero, first-miss, place-zero, place-miss, place-hit, any-zero, any-miss}
+use Rattle.loops.proofs.SearchLaws.{place-zero, place-miss, place-hit, any-zero, any-miss}
 
 -- what a place where p fails hands on to the next place is handed on to the next place where p holds
 pub over : (R : ℕ → Type 0) (p : ℕ → Bool) (i n j : ℕ) → ((k : ℕ) → p k ≡ false → R k → R (k + 1)) → First p i n j → R i → R j
@@ -89,12 +89,6 @@ module _ (q : ℕ → Bool) where
 
 module _ {A : Type 0} (f : ℕ → Option A) where
   -- what a search for more than a place knows: f gives nothing where p fails
-  pub first-first : {p : ℕ → Bool} {n i : ℕ} → First p 0 n i → ((k : ℕ) → p k ≡ false → f k ≡ none) → first f i ≡ none
-  first-first s h = over (λ k. first f k ≡ none) _ 0 _ _ (λ k z r. first-miss f k r (h k z)) s (first-zero f)
-
-  pub first-next : {p : ℕ → Bool} {n j i : ℕ} → First p (suc i) n j → ((k : ℕ) → p k ≡ false → f k ≡ none) → first f i ≡ none → f i ≡ none → first f j ≡ none
-  first-next {p} {n} {j} {i} s h r t = over (λ k. first f k ≡ none) _ (suc i) _ _ (λ k z r. first-miss f k r (h k z)) s (rw add-one at (first-miss f i r t))
-
   pub first-end : {p : ℕ → Bool} (n N i : ℕ) → N ≤ i → N ≡ n → Stands p n i → first f i ≡ none → none ≡ first f n
   first-end n N i l z a r = sym (ap (first f) (sym (stands-end a l z)) ∙ r)
 

@@ -1,10 +1,9 @@
 -- What a lookup by id finds, by the place of the row that it finds. Assumes nothing.
-use Prim.Native.Nat.{ℕ, zero, suc, _<_, _≤_}
-use mathlib.Core.Path.{_≡_, refl, ap, ap₂, sym, _∙_}
+use Prim.Native.Nat.{ℕ, zero, suc}
+use mathlib.Core.Path.{_≡_, refl, ap, ap₂, _∙_}
 use mathlib.Core.Bool.{Bool, true, false, _&&_}
 use mathlib.Core.List.{List, [], _∷_, _++_}
 use mathlib.Core.Option.{Option, none, some}
-use native.Mathlib.Omega.{arith}
 use lib.Dec.{eqb}
 use lib.IntN.{ℤ}
 use Rattle.loops.specs.Lists.{given, keep, head, option}
@@ -13,8 +12,7 @@ use Rattle.loops.specs.Search.{orElse, someIf, first, firstPlace}
 use Rattle.loops.proofs.ListLaws.{keep-collect, head-collect}
 use Rattle.rows.specs.Cells.{rowCount, num, is}
 use Rattle.sheet.specs.Places.{named, placeOf}
-use Rattle.sheet.specs.inner.Index.{ownerKind, ownerOf, ownerPlace, orEnd, ownPlace}
-use Rattle.sheet.proofs.Lookups.{placed, is-num}
+use Rattle.sheet.proofs.Lookups.{placed}
 use Rattle.model.specs.Sheet.{sheet}
 use Rattle.model.specs.Task.{taskAt, tasks, findTask}
 use Rattle.model.specs.Activity.{activityAt, activities, findActivity}
@@ -81,31 +79,6 @@ module _ (rows : List ℤ) (id : ℕ) where
   find-resource =
       found rows 11 (resourceAt (sheet rows)) (resourceOf rows) (λ a. a .id) (resource-row rows) (resource-none rows) (λ k. refl) id (rowCount rows)
 
--- ---- a link to a row that was looked for
-
-module _ (rows : List ℤ) (x id : ℕ) {a : ℕ} (e : a ≡ orEnd rows (placeOf rows x id)) where
-  pub linked-none : rowCount rows ≤ a → placeOf rows x id ≡ none
-  linked-none l = go (placeOf rows x id) refl
-    where
-      go : (p : Option ℕ) → placeOf rows x id ≡ p → placeOf rows x id ≡ none
-      go none q = q
-      go (some k) q =
-          let f = placed rows x id k q .within in
-          let z : a ≡ k = e ∙ (unfold orEnd in ap (orEnd rows) q) in
-          absurd (omega arith)
-
-  pub linked-some : a < rowCount rows → placeOf rows x id ≡ some a
-  linked-some l = go (placeOf rows x id) refl
-    where
-      go : (p : Option ℕ) → placeOf rows x id ≡ p → placeOf rows x id ≡ some a
-      go none q = let z : a ≡ rowCount rows = e ∙ (unfold orEnd in ap (orEnd rows) q) in absurd (omega arith)
-      go (some k) q = let z : a ≡ k = e ∙ (unfold orEnd in ap (orEnd rows) q) in q ∙ ap some (sym z)
-
 -- a row that was found is found by its own id
 pub found-self : (rows : List ℤ) (x id a : ℕ) → placeOf rows x id ≡ some a → placeOf rows x (num rows a 1) ≡ some a
 found-self rows x id a q = ap (placeOf rows x) (placed rows x id a q .id-is) ∙ q
-
--- the owner of an activity: what the lookup of its task finds
-pub own-task : (rows : List ℤ) (k : ℕ) → is rows k 0 2 ≡ true → ownPlace rows k ≡ orEnd rows (placeOf rows 1 (num rows k 2))
-unfolding ownPlace ownerPlace ownerKind ownerOf
-own-task rows k e = rw (is-num rows k 0 2 e)

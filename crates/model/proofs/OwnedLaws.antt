@@ -11,7 +11,7 @@ use lib.Dec.{eqb}
 use lib.IntN.{ℤ}
 use Rattle.rows.specs.Cells.{rowCount, num, is}
 use Rattle.sheet.specs.Places.{placeOf}
-use Rattle.sheet.specs.inner.Index.{ownerKind, ownerOf, ownerPlace, orEnd, ownPlace, ownedBy, resPlace}
+use Rattle.sheet.specs.inner.Index.{ownerKind, ownerOf, ownerPlace, orEnd, ownPlace, ownedBy}
 use Rattle.sheet.proofs.Lookups.{is-num, Named, placed}
 
 module _ (rows : List ℤ) where
@@ -63,11 +63,7 @@ module _ (rows : List ℤ) where
   unfolding ownerOf
   of-task x a id o q k = owned-by x 1 2 (λ j e. owns-at x 1 j o e) a id q k
 
-  -- the owner of a booking or span, and the resource of a booking: what the lookup by id finds
+  -- the owner of a booking or span: what the lookup by id finds
   pub own-activity : (x k : ℕ) → ownerKind x ≡ 2 → is rows k 0 x ≡ true → ownPlace rows k ≡ orEnd rows (placeOf rows 2 (num rows k 1))
   unfolding ownerOf
   own-activity x k o e = owns-at x 2 k o e
-
-  pub own-resource : (k : ℕ) → is rows k 0 23 ≡ true → resPlace rows k ≡ orEnd rows (placeOf rows 11 (num rows k 3))
-  unfolding resPlace
-  own-resource k e = rw e

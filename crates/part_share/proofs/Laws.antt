@@ -1,10 +1,16 @@
 -- (2 * ms * work + d) / (2 * d) by long division with two digits of work. Assumes nothing.
-use mathlib.Core.Path.{_≡_, sym, ap, _∙_}
+use mathlib.Core.Path.{_≡_, refl, sym, ap, _∙_}
 use Prim.Native.Nat.{ℕ, _+_, _*_, _/_, _%_, _≤_, _<_}
 use native.Mathlib.Nat.{mul-comm, mul-assoc, mul-left-comm, mul-add, mul-le-mul, add-div-right, div-div-eq-div-mul, div-lt-iff-lt-mul, div-le-self, mod-lt, div-add-mod', add-mul-div-right, mul-right-comm}
 use native.Mathlib.Omega.{arith}
-use borrow.Author.Tests.{eq-eqb, ne-eqb}
+use borrow.Author.Tests.{eq-eqb, ne-eqb, le-leb, lt-leb}
+use mathlib.Core.Bool.{Bool, true, false, cond, _&&_}
+use mathlib.Core.Option.{none, some}
+use lib.Dec.{leb}
+use Rattle.rounding.specs.declared.Time.the-variants.{TooLarge}
+use Rattle.rounding.specs.inner.Limited.{limited}
 use Rattle.part_share.specs.Share.{shareOf}
+use Rattle.part_share.specs.inner.Within.{shareWithin}
 
 pub of-none : (ms work d : ℕ) → d ≡ 0 → shareOf ms work d ≡ ms
 unfolding shareOf
@@ -76,3 +82,36 @@ parts ms work d M W D =
       bit = last-bit (low % d) d (mod-lt low D) .1;
       sum = digits ms work d D;
     }
+
+-- ---- any times
+
+-- none is worked out where a test fails
+refused : (a b c : Bool) (n : ℕ) → (a && (b && c)) ≡ false → TooLarge ≡ limited (cond (a && (b && c)) (some n) none)
+unfolding limited
+refused a b c n e = rw e
+
+last-false : (a b : Bool) → (a && (b && false)) ≡ false
+last-false true true = refl
+last-false true false = refl
+last-false false b = refl
+
+middle-false : (a c : Bool) → (a && (false && c)) ≡ false
+middle-false true c = refl
+middle-false false c = refl
+
+module _ (ms work whole : ℕ) where
+  pub beyond-ms : 4000000000000 < ms → TooLarge ≡ limited (shareWithin ms work whole)
+  unfolding shareWithin
+  beyond-ms l = refused (leb ms 4000000000000) (leb work 4000000000000) (leb whole 4000000000000) (shareOf ms work whole) (rw (lt-leb ms 4000000000000 l))
+
+  pub beyond-work : 4000000000000 < work → TooLarge ≡ limited (shareWithin ms work whole)
+  unfolding shareWithin
+  beyond-work l = refused (leb ms 4000000000000) (leb work 4000000000000) (leb whole 4000000000000) (shareOf ms work whole) (rw (lt-leb work 4000000000000 l) (middle-false (leb ms 4000000000000) (leb whole 4000000000000)))
+
+  pub beyond-whole : 4000000000000 < whole → TooLarge ≡ limited (shareWithin ms work whole)
+  unfolding shareWithin
+  beyond-whole l = refused (leb ms 4000000000000) (leb work 4000000000000) (leb whole 4000000000000) (shareOf ms work whole) (rw (lt-leb whole 4000000000000 l) (last-false (leb ms 4000000000000) (leb work 4000000000000)))
+
+  pub shared : ms ≤ 4000000000000 → work ≤ 4000000000000 → whole ≤ 4000000000000 → some (shareOf ms work whole) ≡ shareWithin ms work whole
+  unfolding shareWithin
+  shared a b c = rw (le-leb ms 4000000000000 a, le-leb work 4000000000000 b, le-leb whole 4000000000000 c)

@@ -1,2 +1,3 @@
 -- Definitions that the contracts of `part_share` cite.
 pub mod Share
+pub mod inner

@@ -14,7 +14,7 @@ use Rattle.loops.proofs.BoolLaws.{and-left, and-right}
 use Rattle.loops.proofs.SearchLaws.{any-none, any-hit, place-hit}
 use Rattle.loops.proofs.PlaceLaws.{found-at, place-none, none-before, any-less}
 use Rattle.rows.specs.Cells.{rowCount, num, is}
-use Rattle.sheet.specs.Places.{placeOf, activityPlace, resourcePlace}
+use Rattle.sheet.specs.Places.{named, placeOf, activityPlace, resourcePlace}
 use Rattle.sheet.specs.Refusals.{isAbsent, lacks}
 use Rattle.sheet.specs.inner.Accepted.{Accepted}
 use Rattle.sheet.specs.inner.Index.{ownerKind, ownerOf, ownerPlace, orEnd, ownPlace, ownedBy}
@@ -82,6 +82,10 @@ module _ (rows : List ℤ) where
     pub piece-activity : num rows j 1 ≡ num rows k 1
     piece-activity = is-num rows j 1 (num rows k 1) (and-left (is rows j 1 (num rows k 1)) (eqb (keyAt rows j) (keyAt rows k)) piece-rest)
 
+    pub piece-named : {a : ℕ} → a ≡ num rows k 1 → named rows 23 a j ≡ true
+    unfolding named
+    piece-named e = rw (piece-kind, e) (and-left (is rows j 1 (num rows k 1)) (eqb (keyAt rows j) (keyAt rows k)) piece-rest)
+
     pub piece-key : eqb (keyAt rows j) (keyAt rows k) ≡ true
     piece-key = and-right (is rows j 1 (num rows k 1)) (eqb (keyAt rows j) (keyAt rows k)) piece-rest
 
@@ -127,15 +131,6 @@ module _ (q : ℕ → Bool) where
 
   pub none-found : (n : ℕ) → none ≡ firstPlace q n → false ≡ anyBelow q n
   none-found n e = sym (none-below n (place-none q n (sym e)))
-
--- ---- the place of a search as a number
-
-pub no-place : (rows : List ℤ) (q : ℕ → Bool) (o : ℕ) → o ≡ orEnd rows (firstPlace q (rowCount rows)) → rowCount rows ≤ o → firstPlace q (rowCount rows) ≡ none
-no-place rows q o e l = go (firstPlace q (rowCount rows)) refl e
-  where
-    go : (x : Option ℕ) → firstPlace q (rowCount rows) ≡ x → o ≡ orEnd rows x → x ≡ none
-    go none f e = refl
-    go (some i) f e = unfold orEnd in absurd (let g = found-at q (rowCount rows) i f in omega (arith, g .0))
 
 -- ---- rows that name an owner which is not in the sheet: there are none
 
@@ -232,11 +227,11 @@ module _ (rows : List ℤ) where
               sym (any-hit (firstHolds k) i (rowCount rows) (rowCount rows) (g .0) refl (ap₂ _&&_ (leads j i (rowCount rows) q) (holds-too k j i (g .1) (f .1))))
               ∙ any-hit (holdsFor rows k) j (rowCount rows) (rowCount rows) (f .0) refl (f .1)
 
-  pub first-blind : (k o : ℕ) → is rows k 0 23 ≡ true → o ≡ ownPlace rows k → Blind (ownedBy rows o 23) (firstHolds k)
-  first-blind k o h p = blind-if _ _ λ j f. piece-owned rows k o h p j (holds-piece k j (and-right (firstOn rows j) (holdsFor rows k j) f))
+  pub first-blind : (k : ℕ) {a : ℕ} → a ≡ num rows k 1 → Blind (named rows 23 a) (firstHolds k)
+  first-blind k e = blind-if _ _ λ j f. piece-named rows k j (holds-piece k j (and-right (firstOn rows j) (holdsFor rows k j) f)) e
 
-  pub same-blind : (k o : ℕ) → is rows k 0 23 ≡ true → o ≡ ownPlace rows k → Blind (ownedBy rows o 23) (sameBooking rows k)
-  same-blind k o h p = blind-if _ _ λ j f. piece-owned rows k o h p j (same-in-piece k j f)
+  pub same-blind : (k : ℕ) {a : ℕ} → a ≡ num rows k 1 → Blind (named rows 23 a) (sameBooking rows k)
+  same-blind k e = blind-if _ _ λ j f. piece-named rows k j (same-in-piece k j f) e
 
   -- ---- what the code's loop over the bookings before k says
   pub not-first : (k j : ℕ) → j < k → sameBooking rows k j ≡ true → false ≡ not (anyBelow (sameBooking rows k) k)
@@ -244,3 +239,36 @@ module _ (rows : List ℤ) where
 
   pub is-first : (k j : ℕ) → k ≤ j → anyBelow (sameBooking rows k) j ≡ false → true ≡ not (anyBelow (sameBooking rows k) k)
   is-first k j l e = sym (ap not (any-less (sameBooking rows k) j k e l))
+
+-- a first booking is a booking
+pub first-kind : (rows : List ℤ) (j : ℕ) → firstOn rows j ≡ true → is rows j 0 23 ≡ true
+unfolding firstOn
+first-kind rows j h = and-left (is rows j 0 23) (not (anyBelow (sameBooking rows j) j)) h
+
+-- ---- the three tests of `holdsFor`, as they are made: the resource is another, it has the companion, the piece is the same
+
+first-fails : (a b : Bool) → false ≡ (a && (false && b))
+first-fails true b = refl
+first-fails false b = refl
+
+second-fails : (a : Bool) → false ≡ (a && (true && false))
+second-fails true = refl
+second-fails false = refl
+
+both-hold : (a : Bool) → a ≡ (a && (true && true))
+both-hold true = refl
+both-hold false = refl
+
+module _ (rows : List ℤ) (k j : ℕ) {r : ℕ} {b : Bool} (n : r ≡ num rows k 3) (e : b ≡ is rows j 3 r) where
+  pub holds-itself : b ≡ true → false ≡ holdsFor rows k j
+  unfolding holdsFor
+  holds-itself t = rw (← n, ← e, t) (first-fails (inPiece rows k j) (anyBelow (names rows 13 (num rows j 3) r) (rowCount rows)))
+
+  module _ {c : Bool} (f : b ≡ false) (g : c ≡ anyBelow (names rows 13 (num rows j 3) r) (rowCount rows)) where
+    pub holds-no-companion : c ≡ false → false ≡ holdsFor rows k j
+    unfolding holdsFor
+    holds-no-companion t = rw (← n, ← e, f, ← g, t) (second-fails (inPiece rows k j))
+
+    pub holds-companion : {d : Bool} → c ≡ true → d ≡ inPiece rows k j → d ≡ holdsFor rows k j
+    unfolding holdsFor
+    holds-companion t q = q ∙ rw (← n, ← e, f, ← g, t) (both-hold (inPiece rows k j))

@@ -15,8 +15,9 @@ use borrow.Author.Tests.{ltb-true, ltb-false, leb-true, lt-ltb, le-ltb, eq-eqb, 
 use Rattle.loops.specs.Numbers.{toNat}
 use Rattle.loops.proofs.BoolLaws.{and-left, and-right, or-left}
 use Rattle.rows.specs.Cells.{is}
-use Rattle.rows.specs.Class.{n?-c}
+use Rattle.rows.specs.Class.{n-c, n?-c}
 use Rattle.rows.specs.Ranges.{between, isNone, inRange, inClass}
+use Rattle.rows.proofs.Signed.{number-low, number-high}
 use Rattle.model.specs.Sheet.{number, nothing}
 use Rattle.model.specs.Schedule.{Part, asPart}
 use Rattle.definition.specs.Pieces.{indexOf, beforeIndex, sameIndex}
@@ -92,13 +93,17 @@ agree a b c d f g = go (decLt a b)
     go (yes l) = rw (lt-ltb a b l, lt-ltb c d (f l))
     go (no l) = rw (le-ltb a b (omega arith), le-ltb c d (g (omega arith)))
 
-key-neg : (a : ℕ) → a ≤ 999999 → indexKey (negsuc a) ≡ 1000000 - a
+pub key-neg : (a : ℕ) → a ≤ 999999 → indexKey (negsuc a) ≡ 1000000 - a
 unfolding indexKey
 key-neg a h = rw (sub-up 1000001 (suc a) (omega arith)) (omega arith)
 
-key-pos : (a : ℕ) → indexKey (pos a) ≡ a + 1000001
+pub key-pos : (a : ℕ) → indexKey (pos a) ≡ a + 1000001
 unfolding indexKey
 key-pos a = refl
+
+pub key-most : (x : ℤ) → inClass n-c x ≡ true → indexKey x ≤ 2000001
+key-most (pos n) e = rw (key-pos n) (omega (arith, number-high n e))
+key-most (negsuc n) e = rw (key-neg n (number-low n e)) (omega arith)
 
 -- an index in its range
 abbrev Ranged : ℤ → Type 0

@@ -7,8 +7,8 @@ ghost use lib.ListN.{set};
 ghost use Rattle.loops.specs.inner.Chain.{First, Blind};
 ghost use Rattle.loops.specs.Search.{anyBelow, firstPlace};
 ghost use Rattle.rows.specs.Cells.{rowCount, num, is};
-ghost use Rattle.sheet.specs.Places.{foundOf};
-ghost use Rattle.sheet.specs.inner.Index.{ownedBy, Linked, Owned};
+ghost use Rattle.sheet.specs.inner.Found.{foundOf};
+ghost use Rattle.sheet.specs.inner.Index.{ownedBy, Kinds, Linked, Owned};
 ghost use Rattle.sheet.specs.inner.Accepted.{Accepted};
 ghost use Rattle.pieces.specs.inner.Bookings.{indexKey, keyAt, inPiece, sameBooking, firstOn, Firsts, names, holdsFor};
 ghost use Rattle.pieces.specs.inner.Held.{heldAt, Held};
@@ -88,27 +88,27 @@ fn is_same(rows: &[i64], k: usize, j: usize) -> bool
 }
 
 // Whether no booking before booking k is of its piece and on its resource.
-fn is_first(rows: &[i64], links: &[u16; 1600], owned: &[u16; 8810], k: usize) -> bool
-    requires { ⌜ Linked (now rows) (now links) × Owned (now rows) (now owned) × (k < rowCount (now rows)) × (is (now rows) k 0 23 ≡ true) ⌝ }
+fn is_first(rows: &[i64], kinds: &[u16; 3680], k: usize) -> bool
+    requires { ⌜ Kinds (now rows) (now kinds) × (k < rowCount (now rows)) ⌝ }
     ensures { λ r. ⌜ r ≡ not (anyBelow (sameBooking (now (rows .entry)) k) k) ⌝ }
 {
-    let o = sheet::owner_of(rows, links, k);
-    let mut j = sheet::first_owned(rows, owned, o, 23);
+    let activity = rows::num_at(rows, k, 1);
+    let mut j = sheet::first_named(rows, kinds, 23, activity);
     while j < k {
         if is_same(rows, k, j) {
             return false;
         }
-        j = sheet::next_owned(rows, owned, o, 23, j);
+        j = sheet::next_named(rows, kinds, 23, activity, j);
     }
     true
 }
 
-fn first_at(rows: &[i64], links: &[u16; 1600], owned: &[u16; 8810], k: usize) -> bool
-    requires { ⌜ Linked (now rows) (now links) × Owned (now rows) (now owned) × (k < rowCount (now rows)) ⌝ }
+fn first_at(rows: &[i64], kinds: &[u16; 3680], k: usize) -> bool
+    requires { ⌜ Kinds (now rows) (now kinds) × (k < rowCount (now rows)) ⌝ }
     ensures { λ r. ⌜ r ≡ firstOn (now (rows .entry)) k ⌝ }
 {
     if rows::is_at(rows, k, 0, 23) {
-        return is_first(rows, links, owned, k);
+        return is_first(rows, kinds, k);
     }
     false
 }
@@ -126,15 +126,15 @@ pub fn mark(marks: &mut [u8; 800], k: usize, yes: bool)
 }
 
 // 1 at each booking that is the first of its piece on its resource.
-fn firsts_of(rows: &[i64], links: &[u16; 1600], owned: &[u16; 8810]) -> [u8; 800]
-    requires { ⌜ Linked (now rows) (now links) × Owned (now rows) (now owned) ⌝ }
+fn firsts_of(rows: &[i64], kinds: &[u16; 3680]) -> [u8; 800]
+    requires { ⌜ Kinds (now rows) (now kinds) ⌝ }
     ensures { λ r. ⌜ Firsts (now (rows .entry)) r ⌝ }
 {
     let n = rows::row_count(rows);
     let mut firsts = [0u8; 800];
     let mut k = 0;
     while k < n {
-        mark(&mut firsts, k, first_at(rows, links, owned, k));
+        mark(&mut firsts, k, first_at(rows, kinds, k));
         k += 1;
     }
     firsts
@@ -158,15 +158,15 @@ fn is_companion(rows: &[i64], links: &[u16; 1600], owned: &[u16; 8810], j: usize
 
 // Whether booking j is of booking k's piece, on a resource that k's resource is a companion of.
 fn holds_for(rows: &[i64], links: &[u16; 1600], owned: &[u16; 8810], k: usize, j: usize) -> bool
-    requires { ⌜ Accepted (now rows) × Linked (now rows) (now links) × Owned (now rows) (now owned) × (j < rowCount (now rows)) ⌝ }
+    requires { ⌜ Accepted (now rows) × Linked (now rows) (now links) × Owned (now rows) (now owned) × (j < rowCount (now rows)) × (is (now rows) j 0 23 ≡ true) ⌝ }
     ensures { λ r. ⌜ r ≡ holdsFor (now (rows .entry)) k j ⌝ }
 {
-    if in_piece(rows, k, j) {
-        let r = rows::num_at(rows, k, 3);
-        if rows::is_at(rows, j, 3, r) {
-            return false;
-        }
-        return is_companion(rows, links, owned, j, r);
+    let r = rows::num_at(rows, k, 3);
+    if rows::is_at(rows, j, 3, r) {
+        return false;
+    }
+    if is_companion(rows, links, owned, j, r) {
+        return in_piece(rows, k, j);
     }
     false
 }
@@ -192,22 +192,23 @@ fn first_holds(
 // Whether a booking of booking k's piece holds k's resource as a companion.
 fn is_held(
     rows: &[i64],
+    kinds: &[u16; 3680],
     links: &[u16; 1600],
     owned: &[u16; 8810],
     firsts: &[u8; 800],
     k: usize,
 ) -> bool
-    requires { ⌜ Accepted (now rows) × Linked (now rows) (now links) × Owned (now rows) (now owned) × Firsts (now rows) (now firsts) × (k < rowCount (now rows)) × (is (now rows) k 0 23 ≡ true) ⌝ }
+    requires { ⌜ Accepted (now rows) × Kinds (now rows) (now kinds) × Linked (now rows) (now links) × Owned (now rows) (now owned) × Firsts (now rows) (now firsts) ⌝ }
     ensures { λ r. ⌜ r ≡ anyBelow (holdsFor (now (rows .entry)) k) (rowCount (now (rows .entry))) ⌝ }
 {
     let n = rows::row_count(rows);
-    let o = sheet::owner_of(rows, links, k);
-    let mut j = sheet::first_owned(rows, owned, o, 23);
+    let activity = rows::num_at(rows, k, 1);
+    let mut j = sheet::first_named(rows, kinds, 23, activity);
     while j < n {
         if first_holds(rows, links, owned, firsts, k, j) {
             return true;
         }
-        j = sheet::next_owned(rows, owned, o, 23, j);
+        j = sheet::next_named(rows, kinds, 23, activity, j);
     }
     false
 }
@@ -215,31 +216,37 @@ fn is_held(
 // Whether row k is a booking that is held.
 fn held_at(
     rows: &[i64],
+    kinds: &[u16; 3680],
     links: &[u16; 1600],
     owned: &[u16; 8810],
     firsts: &[u8; 800],
     k: usize,
 ) -> bool
-    requires { ⌜ Accepted (now rows) × Linked (now rows) (now links) × Owned (now rows) (now owned) × Firsts (now rows) (now firsts) × (k < rowCount (now rows)) ⌝ }
+    requires { ⌜ Accepted (now rows) × Kinds (now rows) (now kinds) × Linked (now rows) (now links) × Owned (now rows) (now owned) × Firsts (now rows) (now firsts) × (k < rowCount (now rows)) ⌝ }
     ensures { λ r. ⌜ r ≡ heldAt (now (rows .entry)) k ⌝ }
 {
     if rows::is_at(rows, k, 0, 23) {
-        return is_held(rows, links, owned, firsts, k);
+        return is_held(rows, kinds, links, owned, firsts, k);
     }
     false
 }
 
 // 1 at each booking that is held.
-pub fn held_of(rows: &[i64], links: &[u16; 1600], owned: &[u16; 8810]) -> [u8; 800]
-    requires { ⌜ Accepted (now rows) × Linked (now rows) (now links) × Owned (now rows) (now owned) ⌝ }
+pub fn held_of(
+    rows: &[i64],
+    kinds: &[u16; 3680],
+    links: &[u16; 1600],
+    owned: &[u16; 8810],
+) -> [u8; 800]
+    requires { ⌜ Accepted (now rows) × Kinds (now rows) (now kinds) × Linked (now rows) (now links) × Owned (now rows) (now owned) ⌝ }
     ensures { λ r. ⌜ Held (now (rows .entry)) r ⌝ }
 {
     let n = rows::row_count(rows);
-    let firsts = firsts_of(rows, links, owned);
+    let firsts = firsts_of(rows, kinds);
     let mut held = [0u8; 800];
     let mut k = 0;
     while k < n {
-        mark(&mut held, k, held_at(rows, links, owned, &firsts, k));
+        mark(&mut held, k, held_at(rows, kinds, links, owned, &firsts, k));
         k += 1;
     }
     held

@@ -10,8 +10,9 @@ use lib.ListN.{length, take, drop, length-drop}
 use lib.Seq.{drop-drop, take-all}
 use Rattle.loops.specs.Range.{collect}
 use Rattle.printing.specs.NumberLines.{numberLine, lineAt, numberLines}
-use Rattle.printing.specs.inner.Wrote.{Wrote}
-use Rattle.printing.proofs.PutLaws.{wrote-none, wrote-line, wrote-as}
+use Rattle.loops.specs.inner.Wrote.{Wrote}
+use Rattle.loops.proofs.StoreLaws.{wrote-none, wrote-as}
+use Rattle.printing.proofs.PutLaws.{wrote-line}
 
 -- k lines are written, and so many numbers are left
 pub record Printing (out₀ : List ℕ) (from : ℕ) (numbers : List ℤ) (w : ℕ) (out : List ℕ) (at : ℕ) (rest : List ℤ) (k : ℕ) : Type 0 where

@@ -1,4 +1,3 @@
 pub mod Decimal
 pub mod NumberLines
 pub mod Printed
-pub mod inner

@@ -6,10 +6,10 @@ ghost use Prim.Native.Nat.{_+_, _<_, _≤_, min};
 ghost use lib.IntN.{natAbs};
 ghost use lib.ListN.{length, take};
 ghost use lib.Seq.{sets};
+ghost use Rattle.loops.specs.inner.Wrote.{Wrote};
 ghost use Rattle.printing.specs.Decimal.{decimal, spelling};
 ghost use Rattle.printing.specs.NumberLines.{field, numberLine, numberLines};
 ghost use Rattle.printing.specs.Printed.{printedRefused, printedAccepted, printed};
-ghost use Rattle.printing.specs.inner.Wrote.{Wrote};
 use refusals::Answer;
 
 fn put(out: &mut [u8], at: usize, x: u8) -> usize

@@ -1,7 +1,7 @@
 // Replays the stored questions about calendar time. Each case that differs is named, and at the end is printed how many there were and how many
 // came out as expected. The numbers that a case gathers are windows, three to a window. The list is made by tools/cases/calendar_cases.py, which has
 // no calendar arithmetic in common with the library.
-use calendar::Answer;
+use calendar::WorkEnd;
 use stored_cases::Gathered;
 use stored_cases::Run;
 
@@ -61,12 +61,12 @@ fn is_bool(found: bool, yes: i64) -> bool {
 }
 
 // An end is 0 and the instant; a pause, never and beyond 64 bits are 1, 2 and 3.
-fn is_end(found: Answer, outcome: i64, end: i64) -> bool {
+fn is_end(found: WorkEnd, outcome: i64, end: i64) -> bool {
     match found {
-        Answer::End(e) => outcome == 0 && e == instant(end),
-        Answer::Pause => outcome == 1,
-        Answer::Never => outcome == 2,
-        Answer::Beyond => outcome == 3,
+        WorkEnd::End(e) => outcome == 0 && e == instant(end),
+        WorkEnd::Pause => outcome == 1,
+        WorkEnd::Never => outcome == 2,
+        WorkEnd::Beyond => outcome == 3,
     }
 }
 

@@ -146,7 +146,7 @@ fn times_pass(rows: &[i64], expected: &[i64], m: usize, number: u64, place: u64)
         return false;
     };
     let mut found = stored_cases::sevens();
-    let held = pieces::held_of(rows, &links, &owned);
+    let held = pieces::held_of(rows, &kinds, &links, &owned);
     derived_all(rows, &links, &owned, &held, &mut found);
     let need = derived_times::needs_of(rows, &links, &owned, &held);
     is_verdict(derived_times::refused(rows, &need), number, place)
@@ -207,29 +207,16 @@ fn product_case(given: &[i64; 16], rows: &[i64], n: usize) -> bool {
         process_ms: ms,
         teardown_ms: 0,
     };
-    let d = product_of(rows, n).duration(base);
+    let d = product_of(rows, n).duration(Piece::Whole, base);
     ms <= 4000000000000 && is_time(total_of(d), given[1])
 }
 
 // A line `SMS,WORK,WHOLE,TIME`.
 fn share_case(given: &[i64; 16]) -> bool {
-    share_is(
-        natural(given[0]),
-        natural(given[1]),
-        natural(given[2]),
-        given[3],
-    )
-}
-
-fn share_is(ms: u64, work: u64, whole: u64, time: i64) -> bool {
-    if ms <= 4000000000000 {
-        if work <= 4000000000000 {
-            if whole <= 4000000000000 {
-                return is_time(part_share::share(ms, work, whole), time);
-            }
-        }
-    }
-    false
+    let ms = natural(given[0]);
+    let work = natural(given[1]);
+    let whole = natural(given[2]);
+    is_time(part_share::share(ms, work, whole), given[3])
 }
 
 // ---- an overlap

@@ -1,5 +1,5 @@
 -- What is known of durations whose total may be 2^53 or more. Assumes nothing.
-use mathlib.Core.Path.{_≡_, refl, ap}
+use mathlib.Core.Path.{_≡_, refl, ap, sym, _∙_}
 use Prim.Native.Nat.{ℕ, _^_, _≤_, _<_}
 use native.Mathlib.Omega.{arith}
 use native.Mathlib.Decide.{decLt}
@@ -14,20 +14,20 @@ use Rattle.rounding.specs.Rounding.{dividedBy}
 use Rattle.rounding.specs.inner.Limited.{limited}
 use Rattle.rounding.specs.declared.Time.the-variants as time
 use Rattle.rounding.proofs.Laws.{limited-ms, limited-large}
+use Rattle.part_share.specs.inner.Within.{shareWithin}
+use Rattle.part_share.proofs.Laws.{shared}
 use Rattle.resource_timing.specs.declared.ResourceTiming.{ResourceTiming}
 use Rattle.resource_timing.specs.declared.ResourceTiming.the-variants.{Speed, Duration}
 use Rattle.resource_timing.specs.declared.Piece.{Piece}
+use Rattle.resource_timing.specs.declared.Piece.the-variants.{Whole, InPart}
+use Rattle.resource_timing.specs.declared.PartTimes.{PartTimes}
 use Rattle.resource_timing.specs.declared.ActivityDuration.{ActivityDuration}
 use Rattle.resource_timing.specs.declared.Derived.the-variants.{Within, TooLarge}
 use Rattle.resource_timing.specs.declared.Fixed.the-variants.{Standing}
-use Rattle.resource_timing.specs.Durations.{TimedSoFar, totalMs, longest, pieceFixed, pieceTiming, timedOn, atSpeed, timed, speed1}
-use Rattle.resource_timing.specs.inner.Limits.{within, standing, timedOf, timeOf, longerBy, longerOf, fixedWith, timedWith, fixedOr, derivedOf}
+use Rattle.resource_timing.specs.Durations.{TimedSoFar, totalMs, longest, inPart, pieceFixed, pieceTiming, timedOn, atSpeed, timed, speed1}
+use Rattle.resource_timing.specs.inner.Limits.{within, standing, timedOf, timeOf, longerBy, longerOf, fixedIn, fixedWith, timedWith, fixedOr, derivedOf, Amount, PieceAmounts, TimingAmounts}
 
 -- ---- `within` goes by the total
-
-pub within-below : (d : ActivityDuration) → totalMs d < 2 ^ 53 → Within d ≡ within (some d)
-unfolding within
-within-below d h = rw (lt-ltb (totalMs d) (2 ^ 53) h)
 
 pub within-beyond : (d : ActivityDuration) → 2 ^ 53 ≤ totalMs d → TooLarge ≡ within (some d)
 unfolding within
@@ -87,13 +87,21 @@ module _ (f d : ActivityDuration) where
 
 -- ---- what is known so far, with one resource more, and at the end
 
+-- of amounts of a sheet the share is worked out
+fixed-in : (piece : Piece) (d : ActivityDuration) → PieceAmounts piece → Amount (d .«process_ms») → fixedIn piece d ≡ some (pieceFixed piece d)
+fixed-in Whole d a b = refl
+fixed-in (InPart p) d a b = ap (λ o. option o none (λ n. some (inPart d n p))) (sym (shared (d .«process_ms») (p .«work_ms») (p .«whole_ms») b (a .0) (a .1)))
+
 fixed-known : (o : Option ActivityDuration) (e : ActivityDuration) → fixedWith (standing o) (within (some e)) ≡ standing (some (longest o e))
 fixed-known none e = refl
 fixed-known (some f) e = ap Standing (longer-known f e)
 
-pub timed-known : (f : TimedSoFar) (piece : Piece) (timing : ResourceTiming) → timedWith (timedOf f) piece timing ≡ timedOf (timedOn f (pieceTiming piece timing))
-timed-known f piece (Speed s) = refl
-timed-known f piece (Duration d) = ap (λ x. record { speed = f .speed; fixed = x }) (fixed-known (f .fixed) (pieceFixed piece d))
+pub timed-known : (f : TimedSoFar) (piece : Piece) (timing : ResourceTiming) → PieceAmounts piece → TimingAmounts timing
+    → timedWith (timedOf f) piece timing ≡ timedOf (timedOn f (pieceTiming piece timing))
+timed-known f piece (Speed s) a b = refl
+timed-known f piece (Duration d) a b =
+    ap (λ x. record { speed = f .speed; fixed = x })
+    (ap (λ o. fixedWith (standing (f .fixed)) (within o)) (fixed-in piece d a b) ∙ fixed-known (f .fixed) (pieceFixed piece d))
 
 pub derived-known : (f : TimedSoFar) (base : ActivityDuration) → derivedOf (timedOf f) base ≡ within (timed base f)
 derived-known f base = go (f .fixed)
@@ -120,3 +128,29 @@ at-large base s e h = rw e (go (dividedBy (base .«process_ms») s) h)
         → TooLarge ≡ within (option o none λ n. some (record { «setup_ms» = base .«setup_ms»; «process_ms» = n; «teardown_ms» = base .«teardown_ms» }))
     go none k = unfold within in refl
     go (some n) k = let l = limited-large n k in within-beyond _ (omega arith)
+
+-- a teardown of 2^53 or more
+pub at-beyond : (base : ActivityDuration) (s : Float) → 2 ^ 53 ≤ base .«teardown_ms» → TooLarge ≡ within (atSpeed base s)
+unfolding atSpeed
+at-beyond base s h = go (eq s speed1) (dividedBy (base .«process_ms») s)
+  where
+    go : (b : Bool) (o : Option ℕ)
+        → TooLarge ≡ within (cond b (some base) (option o none λ n. some (record { «setup_ms» = base .«setup_ms»; «process_ms» = n; «teardown_ms» = base .«teardown_ms» })))
+    go true o = within-beyond base (omega arith)
+    go false none = unfold within in refl
+    go false (some n) = within-beyond _ (omega arith)
+
+-- ---- a resource's own duration in a part
+module _ (d : ActivityDuration) (p : PartTimes) where
+  abbrev share : Option ℕ
+  share = shareWithin (d .«process_ms») (p .«work_ms») (p .«whole_ms»)
+
+  pub fixed-ms : (n : ℕ) → time.Ms n ≡ limited share → within (some (inPart d n p)) ≡ within (fixedIn (InPart p) d)
+  fixed-ms n e = ap (λ o. within (option o none (λ n. some (inPart d n p)))) (sym (limited-ms share n e))
+
+  pub fixed-large : time.TooLarge ≡ limited share → TooLarge ≡ within (fixedIn (InPart p) d)
+  fixed-large = go share
+    where
+      go : (o : Option ℕ) → time.TooLarge ≡ limited o → TooLarge ≡ within (option o none (λ n. some (inPart d n p)))
+      go none k = unfold within in refl
+      go (some n) k = let l = limited-large n k in within-beyond _ (omega arith)

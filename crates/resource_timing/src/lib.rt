@@ -1,10 +1,10 @@
 // The time of a piece, an activity or one of its parts, on the resources that it runs on.
 ghost use mathlib.Core.Path.{_≡_};
-ghost use mathlib.Core.Option.{Option, some};
-ghost use lib.IntN.{ℤ};
+ghost use mathlib.Core.Option.{some};
+ghost use Prim.Native.Nat.{_+_};
 ghost use Rattle.rounding.specs.inner.Limited.{limited};
-ghost use Rattle.resource_timing.specs.Durations.{totalMs, partOf, inPart, pieceDuration, pieceFixed, start, atSpeed};
-ghost use Rattle.resource_timing.specs.inner.Limits.{within, timedOf, timeOf, longerOf, fixedWith, timedWith, derivedOf, Amounts, PartAmounts, PieceAmounts, TimingAmounts};
+ghost use Rattle.resource_timing.specs.Durations.{totalMs, partOf, inPart, pieceDuration, start, atSpeed};
+ghost use Rattle.resource_timing.specs.inner.Limits.{within, timedOf, timeOf, longerOf, fixedIn, fixedWith, timedWith, derivedOf};
 use rounding::Time;
 
 // Time components of an activity.
@@ -40,15 +40,15 @@ pub enum Derived {
 }
 
 // The fixed duration of greatest total so far, if there is any.
-pub enum Fixed {
+enum Fixed {
     Nothing,
     Standing(Derived),
 }
 
 // What the resources of a piece have made of its time so far: the product of their speeds, and the fixed duration that stands.
 pub struct Timed {
-    pub speed: f64,
-    pub fixed: Fixed,
+    speed: f64,
+    fixed: Fixed,
 }
 
 impl ActivityDuration {
@@ -150,46 +150,63 @@ pub fn part_of(index: i64, work: u64, whole: u64, overhead: u64) -> PartTimes
     }
 }
 
-// A duration with another processing time, and with the part's overhead in its teardown.
-fn in_part(d: ActivityDuration, process: u64, p: PartTimes) -> ActivityDuration
-    requires { ⌜ Amounts d × PartAmounts p ⌝ }
-    ensures { λ r. ⌜ r ≡ inPart d process p ⌝ }
+// A teardown with a part's overhead.
+fn with_overhead(teardown: u64, overhead: u64) -> Time
+    ensures { λ r. ⌜ r ≡ limited (some (teardown + overhead)) ⌝ }
 {
-    ActivityDuration {
-        setup_ms: d.setup_ms,
-        process_ms: process,
-        teardown_ms: d.teardown_ms + p.overhead_ms,
+    if 9007199254740992 <= teardown {
+        return Time::TooLarge;
+    }
+    if 9007199254740992 <= overhead {
+        return Time::TooLarge;
+    }
+    rounding::limit(teardown + overhead)
+}
+
+// A duration with another processing time, and with the part's overhead in its teardown, at a product of speeds.
+fn in_part(d: ActivityDuration, process: u64, p: PartTimes, speed: f64) -> Derived
+    ensures { λ r. ⌜ r ≡ within (atSpeed (inPart d process p) speed) ⌝ }
+{
+    let setup = d.setup_ms;
+    let teardown = with_overhead(d.teardown_ms, p.overhead_ms);
+    match teardown {
+        Time::Ms(n) => {
+            let x = ActivityDuration {
+                setup_ms: setup,
+                process_ms: process,
+                teardown_ms: n,
+            };
+            x.at_speed(speed)
+        }
+        Time::TooLarge => Derived::TooLarge,
     }
 }
 
 // A resource's own duration for the activity, as the part has it.
 fn fixed_in_part(d: ActivityDuration, p: PartTimes) -> Derived
-    requires { ⌜ Amounts d × PartAmounts p ⌝ }
-    ensures { λ r. ⌜ r ≡ within (some (pieceFixed (Piece.InPart p) d)) ⌝ }
+    ensures { λ r. ⌜ r ≡ within (fixedIn (Piece.InPart p) d) ⌝ }
 {
     let process = part_share::share(d.process_ms, p.work_ms, p.whole_ms);
     match process {
-        Time::Ms(n) => in_part(d, n, p).derived(),
+        Time::Ms(n) => in_part(d, n, p, 1.0),
         Time::TooLarge => Derived::TooLarge,
     }
 }
 
 impl Piece {
-    // The activity's duration, as the piece has it.
-    pub fn duration(self, base: ActivityDuration) -> ActivityDuration
-        requires { ⌜ PieceAmounts self × Amounts base ⌝ }
-        ensures { λ r. ⌜ r ≡ pieceDuration self base ⌝ }
+    // The activity's duration, as the piece has it, at a product of speeds.
+    fn at_speed(self, base: ActivityDuration, speed: f64) -> Derived
+        ensures { λ r. ⌜ r ≡ within (atSpeed (pieceDuration self base) speed) ⌝ }
     {
         match self {
-            Piece::Whole => base,
-            Piece::InPart(p) => in_part(base, p.work_ms, p),
+            Piece::Whole => base.at_speed(speed),
+            Piece::InPart(p) => in_part(base, p.work_ms, p, speed),
         }
     }
 
     // A resource's own duration for the activity, as the piece has it.
     fn fixed(self, d: ActivityDuration) -> Derived
-        requires { ⌜ PieceAmounts self × Amounts d ⌝ }
-        ensures { λ r. ⌜ r ≡ within (some (pieceFixed self d)) ⌝ }
+        ensures { λ r. ⌜ r ≡ within (fixedIn self d) ⌝ }
     {
         match self {
             Piece::Whole => d.derived(),
@@ -223,7 +240,6 @@ impl Timed {
 
     // One resource more that the piece runs on, by the activity's timing there.
     pub fn on(self, piece: Piece, timing: ResourceTiming) -> Timed
-        requires { ⌜ PieceAmounts piece × TimingAmounts timing ⌝ }
         ensures { λ r. ⌜ r ≡ timedWith self piece timing ⌝ }
     {
         let speed = self.speed;
@@ -240,14 +256,14 @@ impl Timed {
         }
     }
 
-    // The derived duration, once every resource has been seen. `base` is the activity's duration as the piece has it.
-    pub fn duration(self, base: ActivityDuration) -> Derived
-        ensures { λ r. ⌜ r ≡ derivedOf self base ⌝ }
+    // The derived duration of the piece, once every resource has been seen. `base` is the activity's duration.
+    pub fn duration(self, piece: Piece, base: ActivityDuration) -> Derived
+        ensures { λ r. ⌜ r ≡ derivedOf self (pieceDuration piece base) ⌝ }
     {
         let speed = self.speed;
         let fixed = self.fixed;
         match fixed {
-            Fixed::Nothing => base.at_speed(speed),
+            Fixed::Nothing => piece.at_speed(base, speed),
             Fixed::Standing(d) => d,
         }
     }

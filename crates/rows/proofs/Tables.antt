@@ -9,8 +9,9 @@ use lib.IntN.{ℤ, pos}
 use lib.Dec.{T, eqb, leb, ltb, ltb→lt, leb→le}
 use native.Mathlib.Decide.{decLt}
 use lib.Signed.{mag}
-use mathlib.Core.Bool.{Bool, true, false, cond, _&&_}
+use mathlib.Core.Bool.{Bool, true, false, cond, not, _&&_}
 use borrow.Author.Needs.{sfits-of}
+use borrow.Author.Tests.{eq-eqb, ne-eqb}
 use mir.Syntax.{w64}
 use mir.Val.{SFits, toZ, ofZ}
 use mir.Facts.{toZ-ofZ}
@@ -132,23 +133,39 @@ blank-past [] j t e = omega arith
 blank-past (x ∷ l) zero t e = absurd (omega (arith, ltb→lt 0 (codeOf x) (and-left (ltb 0 (codeOf x)) (allOf (λ cl. ltb 0 (codeOf cl)) l) t)))
 blank-past (x ∷ l) (suc j) t e = omega (arith, blank-past l j (and-right (ltb 0 (codeOf x)) (allOf (λ cl. ltb 0 (codeOf cl)) l) t) e)
 
-pub width-here : (kind c : ℕ) {n : ℕ} → 1 ≤ c → n ≡ codeOf (classOf kind c) → n ≡ 0 → width kind ≤ c - 1
+width-here : (kind c : ℕ) → codeOf (classOf kind c) ≡ 0 → suc (width kind) ≤ c
 unfolding width
-width-here kind zero l e z = absurd (omega arith)
-width-here kind (suc c) l e z =
-    rw (suc-sub-one c)
-    (blank-past (getD columns kind []) c
-    (and-left (allOf (λ cl. ltb 0 (codeOf cl)) (getD columns kind [])) (leb (length (getD columns kind [])) 9) (full-at kind)) (sym e ∙ z))
+width-here kind zero e = absurd (omega arith)
+width-here kind (suc c) e =
+    let h = blank-past (getD columns kind []) c (and-left (allOf (λ cl. ltb 0 (codeOf cl)) (getD columns kind [])) (leb (length (getD columns kind [])) 9) (full-at kind)) e in
+    omega arith
 
-pub width-more : (kind c : ℕ) {n : ℕ} → 1 ≤ c → n ≡ codeOf (classOf kind c) → (n ≡ 0 → ⊥) → c ≤ width kind
+width-more : (kind c : ℕ) → (codeOf (classOf kind c) ≡ 0 → ⊥) → c ≤ width kind
 unfolding width
-width-more kind zero l e z = absurd (omega arith)
-width-more kind (suc c) l e z = go (decLt c (length (getD columns kind [])))
+width-more kind zero z = omega arith
+width-more kind (suc c) z = go (decLt c (length (getD columns kind [])))
   where
     go : Dec (c < length (getD columns kind [])) → suc c ≤ length (getD columns kind [])
     go (yes h) = h
-    go (no h) =
-        absurd (z (e ∙ ap codeOf (List·getD-eq-default (getD columns kind []) blank-c (omega arith))))
+    go (no h) = absurd (z (ap codeOf (List·getD-eq-default (getD columns kind []) blank-c (omega arith))))
+
+-- n numbers are too few where column n is not blank; else the column before it decides
+pub width-longer : (kind n : ℕ) {a : ℕ} → a ≡ codeOf (classOf kind n) → (a ≡ 0 → ⊥) → false ≡ eqb n (suc (width kind))
+width-longer kind n e z =
+    let h = width-more kind n (λ q. z (e ∙ q)) in sym (ne-eqb n (suc (width kind)) (λ q. omega arith))
+
+pub width-last : (kind n : ℕ) {a b : ℕ} → a ≡ codeOf (classOf kind n) → a ≡ 0 → b ≡ codeOf (classOf kind (n - 1)) → not (eqb b 0) ≡ eqb n (suc (width kind))
+width-last kind n {b = b} e z q = go b q (width-here kind n (sym e ∙ z))
+  where
+    go : (b : ℕ) → b ≡ codeOf (classOf kind (n - 1)) → suc (width kind) ≤ n → not (eqb b 0) ≡ eqb n (suc (width kind))
+    go zero q h = let l = width-here kind (n - 1) (sym q) in sym (ne-eqb n (suc (width kind)) (λ i. omega arith))
+    go (suc b) q h =
+        let l = width-more kind (n - 1) (λ i. omega arith) in
+        rw (ne-eqb (suc b) 0 (λ i. omega arith)) (sym (eq-eqb n (suc (width kind)) (omega arith)))
+
+-- where column n is blank, n is no column 0
+pub width-some : (kind n : ℕ) {a : ℕ} → a ≡ codeOf (classOf kind n) → a ≡ 0 → 1 ≤ n
+width-some kind n e z = omega (arith, width-here kind n (sym e ∙ z))
 
 pub width-most : (kind : ℕ) → width kind ≤ 9
 unfolding width

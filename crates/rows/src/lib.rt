@@ -2,7 +2,7 @@
 // validation of rows and the text reader read.
 ghost use mathlib.Core.Path.{_≡_};
 ghost use mathlib.Core.Bool.{Bool, _&&_};
-ghost use Prim.Native.Nat.{ℕ, _+_, _<_, _≤_};
+ghost use Prim.Native.Nat.{ℕ, suc, _+_, _<_, _≤_};
 ghost use lib.IntN.{ℤ, pos, negsuc};
 ghost use lib.Dec.{eqb};
 ghost use lib.ListN.{getD};
@@ -103,19 +103,15 @@ pub fn class_of(table: &[[u8; 9]; 25], kind: u64, c: usize) -> u8
     X
 }
 
-// How many columns a kind has.
-pub fn width_of(table: &[[u8; 9]; 25], kind: u64) -> usize
+// Whether a row of a kind has n numbers, the kind's own among them: the last stands in one of its columns, and the next column is blank.
+pub fn has_width(table: &[[u8; 9]; 25], kind: u64, n: usize) -> bool
     requires { ⌜ now table ≡ classTable ⌝ }
-    ensures { λ r. ⌜ r ≡ width kind ⌝ }
+    ensures { λ r. ⌜ r ≡ eqb n (suc (width kind)) ⌝ }
 {
-    let mut c = 1;
-    while c < 10 {
-        if class_of(table, kind, c) == X {
-            return c - 1;
-        }
-        c += 1;
+    if class_of(table, kind, n) != X {
+        return false;
     }
-    9
+    class_of(table, kind, n - 1) != X
 }
 
 // Whether x lies between low and high, both included.

@@ -1,5 +1,6 @@
 pub mod Absent
 pub mod Groups
+pub mod Keeping
 pub mod Links
 pub mod Lookups
 pub mod Naming

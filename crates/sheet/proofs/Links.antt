@@ -36,6 +36,10 @@ module _ (rows : List ℤ) where
       go (yes l) = rw (lt-ltb o (rowCount rows) l) (first-found f l refl)
       go (no l) = rw (le-ltb o (rowCount rows) (omega arith)) (first-absent f (omega arith) refl)
 
+  pub own-task : (k : ℕ) {o : ℕ} → is rows k 0 2 ≡ true → o ≡ ownPlace rows k → o ≡ orEnd rows (placeOf rows 1 (num rows k 2))
+  unfolding ownPlace ownerPlace ownerKind ownerOf
+  own-task k h e = rw (is-num rows k 0 2 h) at e
+
   pub own-activity : (k : ℕ) {o : ℕ} → ownerKind (num rows k 0) ≡ 2 → o ≡ ownPlace rows k → o ≡ orEnd rows (placeOf rows 2 (num rows k 1))
   unfolding ownPlace ownerPlace ownerOf
   own-activity k h e = rw h at e

@@ -9,11 +9,11 @@ use lib.Dec.{eqb}
 use lib.IntN.{ℤ}
 use borrow.Author.Tests.{eqb-true, eq-eqb, ne-eqb}
 use Rattle.loops.specs.Search.{orElse, someIf, firstPlace, countBelow}
-use Rattle.loops.specs.inner.Chain.{Stands, Blind}
+use Rattle.loops.specs.inner.Chain.{Blind}
 use Rattle.loops.proofs.BoolLaws.{and-left, and-right}
 use Rattle.loops.proofs.PlaceLaws.{found-at}
 use Rattle.rows.specs.Cells.{rowCount, num, is}
-use Rattle.sheet.specs.Places.{ofKind, named, placeOf, isNth, nthPlace}
+use Rattle.sheet.specs.Places.{named, placeOf, isNth, nthPlace}
 
 pub is-num : (rows : List ℤ) (k c v : ℕ) → is rows k c v ≡ true → num rows k c ≡ v
 unfolding is
@@ -24,15 +24,6 @@ unfolding is
 num-is rows k c v e = eq-eqb (num rows k c) v e
 
 -- ---- by kind and id
-
-pub named-blind : (rows : List ℤ) (x id : ℕ) → Blind (ofKind rows x) (named rows x id)
-unfolding ofKind named
-named-blind rows x id = record { still = λ k e. rw e }
-
--- the chain made the test of the kind
-pub named-test : (rows : List ℤ) (x id n N i : ℕ) {r b : Bool} → i < N → N ≡ n → Stands (ofKind rows x) n i → r ≡ is rows i 1 id → r ≡ b → named rows x id i ≡ b
-unfolding ofKind named
-named-test rows x id n N i l z a e f = rw (a .here (omega arith), ← e) f
 
 -- what a row that was found has
 pub record Named (rows : List ℤ) (x id k : ℕ) : Type 0 where

@@ -12,6 +12,7 @@ use Rattle.loops.proofs.BoolLaws.{and-left, and-right}
 use Rattle.loops.proofs.TableLaws.{part-start, part-again, part-head, part-next, part-else-below, part-else-above, stores-size}
 use Rattle.rows.specs.Cells.{rowCount, num, is}
 use Rattle.sheet.specs.Places.{ofKind, named}
+use Rattle.sheet.specs.inner.Groups.{namedPair}
 use Rattle.sheet.specs.inner.Index.{kindKey, nameHash, nameKey, Shaped, Kinds}
 use Rattle.sheet.proofs.Lookups.{is-num}
 
@@ -103,3 +104,11 @@ module _ (rows : List ℤ) (x id : ℕ) where
 
   pub name-stands : (i : ℕ) → Stands (named rows x id) (rowCount rows) i → Stands (same (nameKey rows) (nameHash x id)) (rowCount rows) i
   name-stands i s = record { high = s .high; here = λ l. named-keyed i (s .here l) }
+
+  pub pair-blind : (other : ℕ) → Blind (same (nameKey rows) (nameHash x id)) (namedPair rows x id other)
+  unfolding namedPair
+  pair-blind other = record { still = λ k e. rw (name-blind .still k e) }
+
+-- what an answer and the branch that it takes say of the test
+pub told : {r b v : Bool} → r ≡ b → r ≡ v → b ≡ v
+told e f = sym e ∙ f

@@ -1,20 +1,13 @@
 -- Where a row stands that is looked for: by kind and id, by its number among the requirements of an activity, or among the constraints.
 -- Assumes nothing.
 use Prim.Native.Nat.{ℕ}
-use mathlib.Core.Bool.{Bool, true, false, _&&_}
+use mathlib.Core.Bool.{Bool, _&&_}
 use mathlib.Core.List.{List}
-use mathlib.Core.Option.{Option, none, some}
+use mathlib.Core.Option.{Option}
 use lib.IntN.{ℤ}
 use lib.Dec.{eqb, leb}
 use Rattle.loops.specs.Search.{firstPlace, countBelow}
 use Rattle.rows.specs.Cells.{rowCount, num, is}
-use Rattle.sheet.specs.declared.Found.{Found}
-use Rattle.sheet.specs.declared.Found.the-variants.{At, Nothing}
-
--- the place that a lookup answers
-abbrev pub foundOf : Found → Option ℕ
-foundOf (At k) = some k
-foundOf Nothing = none
 
 -- row k is of that kind
 unfoldable pub ofKind : List ℤ → ℕ → ℕ → Bool

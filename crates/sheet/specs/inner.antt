@@ -1,3 +1,5 @@
 pub mod Accepted
+pub mod Found
 pub mod Groups
 pub mod Index
+pub mod Kept

@@ -8,7 +8,10 @@ ghost use lib.Dec.{eqb};
 ghost use Rattle.loops.specs.Search.{firstPlace, countBelow, anyBelow};
 ghost use Rattle.loops.specs.inner.Chain.{First, Stands, same};
 ghost use Rattle.rows.specs.Cells.{rowCount, num, is};
-ghost use Rattle.sheet.specs.Places.{foundOf, ofKind, named, placeOf, taskPlace, activityPlace, resourcePlace, requirementPlace, isConstraint, constraintPlace};
+ghost use Rattle.sheet.specs.Places.{ofKind, named, placeOf, taskPlace, activityPlace, resourcePlace, requirementPlace, isConstraint, constraintPlace};
+ghost use Rattle.sheet.specs.inner.Found.{foundOf};
+ghost use Rattle.sheet.specs.inner.Groups.{namedPair};
+ghost use Rattle.sheet.specs.inner.Kept.{IsRow};
 ghost use Rattle.sheet.specs.inner.Index.{nameHash, nameKey, ownerKind, orEnd, storedPlace, ownPlace, resPlace, ownedBy, ownedKey, Shaped, Kinds, Numbered, Linked, Owned};
 
 // What a lookup answers.
@@ -105,6 +108,22 @@ fn is_named(rows: &[i64], x: usize, id: u64, i: usize) -> bool
     rows::is_at(rows, i, 0, x as u64)
 }
 
+// The first row of the chain of a kind and a number in column 1.
+fn first_hashed(rows: &[i64], kinds: &[u16; 3680], x: usize, id: u64) -> usize
+    requires { ⌜ Kinds (now rows) (now kinds) × (x < 32) ⌝ }
+    ensures { λ r. ⌜ First (same (nameKey (now (rows .entry))) (nameHash x id)) 0 (rowCount (now (rows .entry))) r ⌝ }
+{
+    kinds[832 + (800 + name_key(x, id))] as usize
+}
+
+// The next row of that chain after row i of it.
+fn next_hashed(rows: &[i64], kinds: &[u16; 3680], x: usize, id: u64, i: usize) -> usize
+    requires { ⌜ Kinds (now rows) (now kinds) × Stands (same (nameKey (now rows)) (nameHash x id)) (rowCount (now rows)) i × (i < rowCount (now rows)) ⌝ }
+    ensures { λ r. ⌜ First (same (nameKey (now (rows .entry))) (nameHash x id)) (suc i) (rowCount (now (rows .entry))) r ⌝ }
+{
+    kinds[832 + i] as usize
+}
+
 // The first row of kind x with that number in column 1 from row j on, along their chain.
 fn skip_named(rows: &[i64], kinds: &[u16; 3680], x: usize, id: u64, j: usize) -> usize
     requires { ⌜ Kinds (now rows) (now kinds) × Stands (same (nameKey (now rows)) (nameHash x id)) (rowCount (now rows)) j ⌝ }
@@ -116,7 +135,7 @@ fn skip_named(rows: &[i64], kinds: &[u16; 3680], x: usize, id: u64, j: usize) ->
         if is_named(rows, x, id, i) {
             return i;
         }
-        i = kinds[832 + i] as usize;
+        i = next_hashed(rows, kinds, x, id, i);
     }
     i
 }
@@ -126,8 +145,7 @@ pub fn first_named(rows: &[i64], kinds: &[u16; 3680], x: usize, id: u64) -> usiz
     requires { ⌜ Kinds (now rows) (now kinds) × (x < 32) ⌝ }
     ensures { λ r. ⌜ First (named (now (rows .entry)) x id) 0 (rowCount (now (rows .entry))) r ⌝ }
 {
-    let j = kinds[832 + (800 + name_key(x, id))] as usize;
-    skip_named(rows, kinds, x, id, j)
+    skip_named(rows, kinds, x, id, first_hashed(rows, kinds, x, id))
 }
 
 // The next such row after row i, which is one.
@@ -135,8 +153,39 @@ pub fn next_named(rows: &[i64], kinds: &[u16; 3680], x: usize, id: u64, i: usize
     requires { ⌜ Kinds (now rows) (now kinds) × Stands (named (now rows) x id) (rowCount (now rows)) i × (i < rowCount (now rows)) ⌝ }
     ensures { λ r. ⌜ First (named (now (rows .entry)) x id) (suc i) (rowCount (now (rows .entry))) r ⌝ }
 {
-    let j = kinds[832 + i] as usize;
-    skip_named(rows, kinds, x, id, j)
+    skip_named(rows, kinds, x, id, next_hashed(rows, kinds, x, id, i))
+}
+
+// Column 2 first: of the rows of one name only that number tells them apart.
+fn is_pair(rows: &[i64], x: usize, id: u64, other: u64, i: usize) -> bool
+    ensures { λ r. ⌜ r ≡ namedPair (now (rows .entry)) x id other i ⌝ }
+{
+    if !rows::is_at(rows, i, 2, other) {
+        return false;
+    }
+    is_named(rows, x, id, i)
+}
+
+// An earlier row than k is of kind x with that id and that number in column 2.
+pub fn has_earlier_pair(
+    rows: &[i64],
+    kinds: &[u16; 3680],
+    x: usize,
+    id: u64,
+    other: u64,
+    k: usize,
+) -> bool
+    requires { ⌜ Kinds (now rows) (now kinds) × (x < 32) × (k ≤ rowCount (now rows)) ⌝ }
+    ensures { λ r. ⌜ r ≡ anyBelow (namedPair (now (rows .entry)) x id other) k ⌝ }
+{
+    let mut i = first_hashed(rows, kinds, x, id);
+    while i < k {
+        if is_pair(rows, x, id, other, i) {
+            return true;
+        }
+        i = next_hashed(rows, kinds, x, id, i);
+    }
+    false
 }
 
 // The first row of kind x with that id.
@@ -282,8 +331,8 @@ pub fn owner_kind(kind: u64) -> u8
     0
 }
 
-// A place as a number, the number of rows for none.
-pub fn or_end(rows: &[i64], f: Found) -> usize
+// A place as a number, the number of rows for none: the tables hold places so, and no one else reads them.
+fn or_end(rows: &[i64], f: Found) -> usize
     ensures { λ r. ⌜ r ≡ orEnd (now (rows .entry)) (foundOf f) ⌝ }
 {
     match f {
@@ -293,7 +342,7 @@ pub fn or_end(rows: &[i64], f: Found) -> usize
 }
 
 // The row that a stored place names.
-pub fn found_at(rows: &[i64], i: usize) -> Found
+fn found_at(rows: &[i64], i: usize) -> Found
     ensures { λ r. ⌜ foundOf r ≡ storedPlace (now (rows .entry)) i ⌝ }
 {
     if i < rows::row_count(rows) {
@@ -371,7 +420,7 @@ pub fn owner_of(rows: &[i64], links: &[u16; 1600], k: usize) -> usize
 }
 
 // The row of booking k's resource, or the number of rows.
-pub fn resource_of(rows: &[i64], links: &[u16; 1600], k: usize) -> usize
+fn resource_of(rows: &[i64], links: &[u16; 1600], k: usize) -> usize
     requires { ⌜ Linked (now rows) (now links) × (k < rowCount (now rows)) ⌝ }
     ensures { λ r. ⌜ r ≡ resPlace (now (rows .entry)) k ⌝ }
 {
@@ -386,12 +435,51 @@ pub fn activity_of(rows: &[i64], links: &[u16; 1600], k: usize) -> Found
     found_at(rows, owner_of(rows, links, k))
 }
 
+// The row of the task that activity k is of.
+pub fn task_of(rows: &[i64], links: &[u16; 1600], k: usize) -> Found
+    requires { ⌜ Linked (now rows) (now links) × (k < rowCount (now rows)) × (is (now rows) k 0 2 ≡ true) ⌝ }
+    ensures { λ r. ⌜ foundOf r ≡ taskPlace (now (rows .entry)) (num (now (rows .entry)) k 2) ⌝ }
+{
+    found_at(rows, owner_of(rows, links, k))
+}
+
 // The row of the resource that booking k names.
 pub fn booked_resource(rows: &[i64], links: &[u16; 1600], k: usize) -> Found
     requires { ⌜ Linked (now rows) (now links) × (k < rowCount (now rows)) × (is (now rows) k 0 23 ≡ true) ⌝ }
     ensures { λ r. ⌜ foundOf r ≡ resourcePlace (now (rows .entry)) (num (now (rows .entry)) k 3) ⌝ }
 {
     found_at(rows, resource_of(rows, links, k))
+}
+
+// ---- places that a caller keeps, one for each row
+
+fn set_place(t: &mut [u16; 800], k: usize, i: usize)
+    requires { ⌜ (k < 800) × (i ≤ 800) ⌝ }
+    ensures { λ _. ⌜ now (t .exit) ≡ set (now (t .entry)) k i ⌝ }
+{
+    t[k] = i as u16;
+}
+
+// Keeps what was found for row k.
+pub fn keep_place(rows: &[i64], t: &mut [u16; 800], k: usize, f: Found)
+    requires { ⌜ (rowCount (now rows) ≤ 800) × (k < 800) × IsRow (now rows) (foundOf f) ⌝ }
+    ensures { λ _. ⌜ now (t .exit) ≡ set (now (t .entry)) k (orEnd (now (rows .entry)) (foundOf f)) ⌝ }
+{
+    set_place(t, k, or_end(rows, f));
+}
+
+fn wide(x: u16) -> usize
+    ensures { λ r. ⌜ r ≡ x ⌝ }
+{
+    x as usize
+}
+
+// What was kept for row k.
+pub fn kept_place(rows: &[i64], t: &[u16; 800], k: usize) -> Found
+    requires { ⌜ k < 800 ⌝ }
+    ensures { λ r. ⌜ foundOf r ≡ storedPlace (now (rows .entry)) (getD (now (t .entry)) k 0) ⌝ }
+{
+    found_at(rows, wide(t[k]))
 }
 
 // ---- the rows that belong to a row

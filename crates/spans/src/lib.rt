@@ -92,7 +92,7 @@ pub fn task_completion_time(rows: &[i64], kinds: &[u16; 3680], task: u64) -> Ins
 // ---- when an activity runs
 
 // From a start to an end, or none.
-pub enum Span {
+pub enum ActivitySpan {
     Between(u64, u64),
     Nowhere,
 }
@@ -117,22 +117,22 @@ fn most(a: u64, x: u64) -> u64
 }
 
 // What there is, widened to hold the time from start to end.
-fn widen(x: Span, start: u64, end: u64) -> Span
+fn widen(x: ActivitySpan, start: u64, end: u64) -> ActivitySpan
     ensures { λ r. ⌜ spanMeant r ≡ widened (spanMeant x) (pos start) (pos end) ⌝ }
 {
-    let Span::Between(a, e) = x else {
-        return Span::Between(start, end);
+    let ActivitySpan::Between(a, e) = x else {
+        return ActivitySpan::Between(start, end);
     };
-    Span::Between(least(a, start), most(e, end))
+    ActivitySpan::Between(least(a, start), most(e, end))
 }
 
 // From the earliest start to the latest end of an activity's bookings.
-fn booked_span(rows: &[i64], kinds: &[u16; 3680], id: u64) -> Span
+fn booked_span(rows: &[i64], kinds: &[u16; 3680], id: u64) -> ActivitySpan
     requires { ⌜ Kinds (now rows) (now kinds) ⌝ }
     ensures { λ r. ⌜ spanMeant r ≡ fold (onlyAt (ofKind (now (rows .entry)) 23) (widenIf (now (rows .entry)) id)) none (rowCount (now (rows .entry))) ⌝ }
 {
     let n = rows::row_count(rows);
-    let mut x = Span::Nowhere;
+    let mut x = ActivitySpan::Nowhere;
     let mut i = sheet::first_named(rows, kinds, 23, id);
     while i < n {
         let start = rows::num_at(rows, i, 4);
@@ -144,7 +144,7 @@ fn booked_span(rows: &[i64], kinds: &[u16; 3680], id: u64) -> Span
 }
 
 // The first time-only span of an activity, or else from the earliest start to the latest end of its bookings.
-pub fn activity_span(rows: &[i64], kinds: &[u16; 3680], id: u64) -> Span
+pub fn activity_span(rows: &[i64], kinds: &[u16; 3680], id: u64) -> ActivitySpan
     requires { ⌜ Kinds (now rows) (now kinds) ⌝ }
     ensures { λ r. ⌜ spanMeant r ≡ activitySpan clock (sheet (now (rows .entry))) id ⌝ }
 {
@@ -152,5 +152,5 @@ pub fn activity_span(rows: &[i64], kinds: &[u16; 3680], id: u64) -> Span
     let Found::At(k) = timed else {
         return booked_span(rows, kinds, id);
     };
-    Span::Between(rows::num_at(rows, k, 3), rows::num_at(rows, k, 4))
+    ActivitySpan::Between(rows::num_at(rows, k, 3), rows::num_at(rows, k, 4))
 }

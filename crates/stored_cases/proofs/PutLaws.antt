@@ -10,44 +10,17 @@ use lib.IntN.{ℤ, pos}
 use mir.Syntax.{w64}
 use mir.Val.{SFits, toZ, ofZ}
 use mir.Facts.{toZ-ofZ}
-use lib.ListN.{length, getD, set, drop, replicate, length-append, length-map, drop-of-length-le}
-use lib.Seq.{sets, set-out, length-sets, drop-cons}
-use Rattle.loops.proofs.StoreLaws.{sets-append, sets-min, sets-out}
+use lib.ListN.{length, getD, drop, replicate, length-append, length-map, drop-of-length-le}
+use lib.Seq.{sets, length-sets, drop-cons}
+use Rattle.loops.proofs.StoreLaws.{sets-append, sets-min, sets-out, wrote-long, wrote-within, wrote-as, wrote-then}
 use Rattle.text.specs.Line.{fieldsOf, valueOf, rowOf}
 use Rattle.stored_cases.specs.inner.Line.{times, meant, numbersIn}
 use Rattle.stored_cases.specs.inner.Case.{gathered}
 use Rattle.stored_cases.specs.declared.Gathered.{Gathered}
-use Rattle.stored_cases.specs.inner.Wrote.{Wrote, Yet}
+use Rattle.loops.specs.inner.Wrote.{Wrote}
+use Rattle.stored_cases.specs.inner.Yet.{Yet}
 
 module _ {A : Type 0} where
-  pub wrote-none : (l : List A) (at : ℕ) → at ≤ length l → Wrote l at l at []
-  wrote-none l at h = record { place = omega arith; buffer = refl }
-
-  pub wrote-one : (l : List A) (at : ℕ) (x : A) → at < length l → Wrote l at (set l at x) (at + 1) (x ∷ [])
-  wrote-one l at x h = record { place = omega arith; buffer = refl }
-
-  pub wrote-past : (l : List A) (at : ℕ) (x : A) → at ≤ length l → length l ≤ at → Wrote l at l at (x ∷ [])
-  wrote-past l at x h k = record { place = omega arith; buffer = sym (set-out l at x k) }
-
-  pub wrote-long : {l m : List A} {i j : ℕ} {a : List A} → Wrote l i m j a → length m ≡ length l
-  wrote-long {l = l} {i = i} {a = a} v = ap length (v .buffer) ∙ length-sets l i a
-
-  pub wrote-within : {l m : List A} {i j : ℕ} (a : List A) → Wrote l i m j a → j ≤ length m
-  wrote-within {l = l} {i = i} a v = omega (arith, v .place, ap length (v .buffer), length-sets l i a)
-
-  pub wrote-as : {l m : List A} {i j : ℕ} {a b : List A} → a ≡ b → Wrote l i m j a → Wrote l i m j b
-  wrote-as {l = l} {m = m} {i = i} {j = j} e v = subst (λ (x : List A). Wrote l i m j x) e v
-
-  pub wrote-then : {l m o : List A} {i j k : ℕ} (a b : List A) → Wrote l i m j a → Wrote m j o k b → Wrote l i o k (a ++ b)
-  wrote-then {l = l} {m = m} {i = i} a b v w =
-      let e = wrote-long v in
-      record {
-        place = simp length-append (omega (arith, v .place, w .place, e));
-        buffer =
-            w .buffer ∙ rw (v .place, v .buffer)
-            (ap (λ (k : ℕ). sets (sets l i a) (min (i + length a) k) b) (sym (length-sets l i a)) ∙ sets-min (sets l i a) (i + length a) b ∙ sets-append l i a b);
-      }
-
   -- where the buffer is full, nothing more is written
   pub wrote-full : {l m : List A} {i j : ℕ} (a b : List A) → length l ≤ i + length a → Wrote l i m j a → Wrote l i m j (a ++ b)
   wrote-full {l = l} {i = i} a b h v =

@@ -1,4 +1,4 @@
 pub mod Line
 pub mod Case
-pub mod Wrote
+pub mod Yet
 pub mod Gives

@@ -14,7 +14,7 @@ ghost use Rattle.text.specs.Parts.{parts};
 ghost use Rattle.text.specs.Line.{fieldsOf, valueOf, spelled, rowOf};
 ghost use Rattle.stored_cases.specs.inner.Line.{letter, body, count, piece, numbersIn, numbersOf, expectedOf, bytesOf, meant, times, isJudging, hasCount, hasNumbers, hasRow, isFormed};
 ghost use Rattle.stored_cases.specs.inner.Case.{gathered, judgingAt, CaseAt, more};
-ghost use Rattle.stored_cases.specs.inner.Wrote.{Wrote};
+ghost use Rattle.loops.specs.inner.Wrote.{Wrote};
 ghost use Rattle.stored_cases.specs.inner.Gives.{pieceAs, lineGives};
 ghost use Rattle.io.specs.Counts.{Counts};
 use libc::STDOUT_FILENO;

@@ -13,7 +13,7 @@ use lib.IntN.{ℤ, pos}
 use mir.Syntax.{w64}
 use mir.Val.{SFits, toZ, ofZ}
 use mir.Facts.{toZ-ofZ}
-use borrow.Author.Tests.{eq-eqb, ne-eqb, lt-ltb, le-ltb}
+use borrow.Author.Tests.{lt-ltb, le-ltb}
 use Rattle.loops.specs.Numbers.{toNat}
 use Rattle.rows.specs.Table.{width}
 use Rattle.text.specs.Line.{byKind, byFields, fieldsOf, spelled, held, valueOf, lineOf, rowOf}
@@ -23,39 +23,40 @@ use Rattle.text.specs.declared.Number.{Number}
 use Rattle.text.proofs.PartLaws.{parts-first}
 use Rattle.text.specs.declared.Line.the-variants.{Row, Wrong}
 
--- a line that is misspelt, or whose kind is empty; else its kind decides
-pub fields-bad : (good : Bool) (kind : List ℕ) (n : ℕ) → not good ≡ true → byFields good kind n ≡ Wrong 9
+-- a line that is misspelt, or whose kind is empty
+pub fields-bad : (good : Bool) (kind : List ℕ) (n : ℕ) → not good ≡ true → Wrong 9 ≡ byFields good kind n
 fields-bad true kind n e = absurd (false≢true e)
 fields-bad false kind n e = refl
 
-pub fields-empty : (good : Bool) (kind : List ℕ) (n : ℕ) → length kind ≡ 0 → byFields good kind n ≡ Wrong 9
+pub fields-empty : (good : Bool) (kind : List ℕ) (n : ℕ) → length kind ≡ 0 → Wrong 9 ≡ byFields good kind n
 fields-empty good [] n e = rw (and-false good)
 fields-empty good (x ∷ kind) n e = absurd (omega arith)
 
-pub fields-kind : (good : Bool) (kind : List ℕ) (n k : ℕ) → not good ≡ false → (length kind ≡ 0 → ⊥) → k ≡ toNat (valueOf kind) → byFields good kind n ≡ byKind k n
-fields-kind true [] n k e h q = absurd (h refl)
-fields-kind true (x ∷ kind) n k e h q = rw q
-fields-kind false kind n k e h q = absurd (false≢true (sym e))
+fields-kind : (good : Bool) (kind : List ℕ) (n : ℕ) → not good ≡ false → (length kind ≡ 0 → ⊥) → byKind (toNat (valueOf kind)) n ≡ byFields good kind n
+fields-kind true [] n e h = absurd (h refl)
+fields-kind true (x ∷ kind) n e h = refl
+fields-kind false kind n e h = absurd (false≢true (sym e))
 
--- the kind as the code reads it
-pub kind-read : {k : ℕ} {v : ℤ} {m : Number} (kind : List ℕ) → SFits w64 v → k ≡ toNat (toZ w64 (ofZ w64 v)) → v ≡ held m → m ≡ numberOf kind → k ≡ toNat (valueOf kind)
-kind-read kind f e q r = (rw (toZ-ofZ f) at e) ∙ ap toNat (q ∙ ap held r)
+-- else its kind decides, which the code reads as k
+module _ (good : Bool) (kind : List ℕ) (n : ℕ) {k : ℕ} {v : ℤ} {m : Number} (g : not good ≡ false) (h : length kind ≡ 0 → ⊥)
+    (f : SFits w64 v) (e : k ≡ toNat (toZ w64 (ofZ w64 v))) (q : v ≡ held m) (r : m ≡ numberOf kind) where
+  by-kind : byKind k n ≡ byFields good kind n
+  by-kind = ap (λ (k : ℕ). byKind k n) ((rw (toZ-ofZ f) at e) ∙ ap toNat (q ∙ ap held r)) ∙ fields-kind good kind n g h
 
--- the kind as the code tests it
-pub kind-low : (k n : ℕ) → k < 1 → byKind k n ≡ Wrong 2
-kind-low k n h = rw (le-ltb 0 k (omega arith))
+  pub kind-low : k < 1 → Wrong 2 ≡ byFields good kind n
+  kind-low l = sym (rw (le-ltb 0 k (omega arith))) ∙ by-kind
 
-pub kind-high : (k n : ℕ) → 24 < k → byKind k n ≡ Wrong 2
-kind-high k n h = rw (le-ltb k 25 (omega arith), and-false (ltb 0 k))
+  pub kind-high : 24 < k → Wrong 2 ≡ byFields good kind n
+  kind-high l = sym (rw (le-ltb k 25 (omega arith), and-false (ltb 0 k))) ∙ by-kind
 
-kind-known : (k n : ℕ) → 1 ≤ k → k ≤ 24 → byKind k n ≡ cond (eqb n (suc (width k))) Row (Wrong 9)
-kind-known k n h l = rw (lt-ltb 0 k (omega arith), lt-ltb k 25 (omega arith))
+  counted : 1 ≤ k → k ≤ 24 → cond (eqb n (suc (width k))) Row (Wrong 9) ≡ byFields good kind n
+  counted a b = sym (rw (lt-ltb 0 k (omega arith), lt-ltb k 25 (omega arith))) ∙ by-kind
 
-pub kind-row : (k n w : ℕ) → 1 ≤ k → k ≤ 24 → w ≡ width k → n ≡ w + 1 → byKind k n ≡ Row
-kind-row k n w h l e q = kind-known k n h l ∙ rw (eq-eqb n (suc (width k)) (omega arith))
+  pub kind-row : 1 ≤ k → k ≤ 24 → {w : Bool} → w ≡ eqb n (suc (width k)) → w ≡ true → Row ≡ byFields good kind n
+  kind-row a b u t = rw (← u, t) at counted a b
 
-pub kind-count : (k n w : ℕ) → 1 ≤ k → k ≤ 24 → w ≡ width k → (n ≡ w + 1 → ⊥) → byKind k n ≡ Wrong 9
-kind-count k n w h l e q = kind-known k n h l ∙ rw (ne-eqb n (suc (width k)) (λ (i : n ≡ suc (width k)). q (omega arith)))
+  pub kind-count : 1 ≤ k → k ≤ 24 → {w : Bool} → w ≡ eqb n (suc (width k)) → w ≡ false → Wrong 9 ≡ byFields good kind n
+  kind-count a b u t = rw (← u, t) at counted a b
 
 -- zeros, stored one after the other
 pub zero-more : (rows : List ℤ) (i to : ℕ) → i < to → sets (set rows i (pos 0)) (i + 1) (replicate (to - (i + 1)) (pos 0)) ≡ sets rows i (replicate (to - i) (pos 0))

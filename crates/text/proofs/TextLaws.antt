@@ -2,7 +2,7 @@
 use Prim.Native.Nat.{ℕ, suc, _+_, _*_, _-_, _/_, _≤_, _<_}
 use mathlib.Core.Bool.{Bool, true, false, cond, _&&_, not}
 use mathlib.Core.List.{List, [], _∷_, _++_, append-nil}
-use mathlib.Core.Path.{_≡_, refl, ap, _∙_}
+use mathlib.Core.Path.{_≡_, refl, sym, ap, _∙_}
 use native.Mathlib.Omega.{arith}
 use native.Mathlib.Numerals.{add-one}
 use lib.Dec.{ltb, eqb}
@@ -16,7 +16,7 @@ use Rattle.rows.specs.Table.{width}
 use Rattle.text.specs.Parts.{untilByte, parts}
 use Rattle.text.specs.Line.{byKind, fieldsOf, spelled, valueOf, lineOf, rowOf}
 use Rattle.text.specs.inner.Stored.{rowsRead, onRow}
-use Rattle.text.specs.Text.{answerFrom, rowsOf, afterLine, answerOf}
+use Rattle.text.specs.Text.{answerFrom, rowsOf, rowsAfter, afterLine, answerOf}
 use Rattle.text.specs.declared.Line.{Line}
 use Rattle.text.specs.declared.Line.the-variants.{Row, Wrong}
 use Rattle.refusals.specs.declared.Answer.{Answer}
@@ -57,10 +57,6 @@ pub record LinesRead (text : List ℕ) (lent : ℕ) (rows₀ rows : List ℤ) (r
   pub within : place + length rest ≤ length text
   pub long : length rows ≡ length rows₀
 
--- what the loop gives at its end
-abbrev pub Ends : List ℕ → ℕ → List ℤ → List ℤ → Answer → Type 0
-Ends text lent rows₀ rows a = (a ≡ answerFrom lent 0 (parts 10 text)) × (rows ≡ sets rows₀ 0 (rowsRead lent 0 (parts 10 text)))
-
 pub lines-none : (text : List ℕ) (lent : ℕ) (rows : List ℤ) → LinesRead text lent rows rows text 0
 lines-none text lent rows = record { answer = refl; stores = refl; within = omega arith; long = refl }
 
@@ -77,19 +73,28 @@ no-accept e = let z : _≡_ {A = ℕ} 0 1 = cc in omega arith
 
 module _ (text : List ℕ) (lent : ℕ) (rows₀ rows : List ℤ) (rest : List ℕ) (place : ℕ) (w : LinesRead text lent rows₀ rows rest place) where
   -- nothing is left
-  pub lines-end : length rest ≤ 0 → Ends text lent rows₀ rows (Accepted place)
-  unfolding answerFrom rowsRead parts
-  lines-end h = let n = nil-of rest h in (rw n at (w .answer), rw n at (w .stores))
+  pub end-answer : length rest ≤ 0 → Accepted place ≡ answerFrom lent 0 (parts 10 text)
+  unfolding answerFrom parts
+  end-answer h = rw (nil-of rest h) at (w .answer)
+
+  pub end-rows : length rest ≤ 0 → rows ≡ sets rows₀ 0 (rowsRead lent 0 (parts 10 text))
+  unfolding rowsRead parts
+  end-rows h = rw (nil-of rest h) at (w .stores)
 
   module _ (l : List ℕ) (e : l ≡ untilByte 10 rest) where
     -- no line feed
-    pub lines-open : 0 < length rest → length rest ≤ length l → Ends text lent rows₀ rows (Refused 9 place)
-    unfolding answerFrom rowsRead
-    lines-open h k =
-        let p : parts 10 rest ≡ l ∷ [] = rw e (parts-last 10 rest (omega (arith, up-within 10 rest, ap length e))) in
-        (rw (p, some-bytes l (omega arith)) at (w .answer), rw p at (w .stores))
+    open-parts : length rest ≤ length l → parts 10 rest ≡ l ∷ []
+    open-parts k = rw e (parts-last 10 rest (omega (arith, up-within 10 rest, ap length e)))
 
-    module _ (h : length l < length rest) (rows′ : List ℤ) (s : rows′ ≡ sets rows (place * 10) (rowOf l)) where
+    pub open-answer : 0 < length rest → length rest ≤ length l → Refused 9 place ≡ answerFrom lent 0 (parts 10 text)
+    unfolding answerFrom
+    open-answer h k = rw (open-parts k, some-bytes l (omega arith)) at (w .answer)
+
+    pub open-rows : length rest ≤ length l → rows ≡ sets rows₀ 0 (rowsRead lent 0 (parts 10 text))
+    unfolding rowsRead
+    open-rows k = rw (open-parts k) at (w .stores)
+
+    module _ (h : length l < length rest) where
       -- the line and those after it
       opened : (ps : List (List ℕ)) × (parts 10 rest ≡ l ∷ untilByte 10 (drop (length l + 1) rest) ∷ ps) × (parts 10 (drop (length l + 1) rest) ≡ untilByte 10 (drop (length l + 1) rest) ∷ ps)
       opened =
@@ -97,30 +102,39 @@ module _ (text : List ℕ) (lent : ℕ) (rows₀ rows : List ℤ) (rest : List �
           let p = parts-first 10 (drop (length l + 1) rest) in
           (p .0, o ∙ ap (λ (ps : List (List ℕ)). l ∷ ps) (p .1), p .1)
 
-      pub lines-wrong : (k : ℕ) → lineOf l ≡ Wrong k → Ends text lent rows₀ rows′ (Refused k place)
-      unfolding answerFrom rowsRead
-      lines-wrong k q = (rw (opened .1, q) at (w .answer), s ∙ (rw (opened .1, q, append-nil (rowOf l)) at (w .stores)))
+      module _ {x : Line} (j : x ≡ lineOf l) where
+        pub wrong-answer : (k : ℕ) → x ≡ Wrong k → Refused k place ≡ answerFrom lent 0 (parts 10 text)
+        unfolding answerFrom
+        wrong-answer k q = rw (opened .1, sym j ∙ q) at (w .answer)
 
-      pub lines-full : lineOf l ≡ Row → lent ≤ place → Ends text lent rows₀ rows′ (Refused 10 place)
-      unfolding answerFrom rowsRead
-      lines-full q k =
-          (rw (opened .1, q, le-ltb place lent k) at (w .answer), s ∙ (rw (opened .1, q, le-ltb place lent k, append-nil (rowOf l)) at (w .stores)))
+        pub full-answer : x ≡ Row → lent ≤ place → Refused 10 place ≡ answerFrom lent 0 (parts 10 text)
+        unfolding answerFrom
+        full-answer q k = rw (opened .1, sym j ∙ q, le-ltb place lent k) at (w .answer)
 
-      pub lines-more : lineOf l ≡ Row → place < lent → LinesRead text lent rows₀ rows′ (take (length rest - (length l + 1)) (drop (length l + 1) rest)) (place + 1)
-      unfolding answerFrom rowsRead
-      lines-more q k =
-          let r = rowOf l in
-          let i : (place + 1) * 10 ≡ place * 10 + length r = omega (arith, row-long l q) in
-          rw (tail-is (length l + 1) rest)
-          (record {
-            answer = rw (add-one place, opened .2) (rw (opened .1, q, lt-ltb place lent k) at (w .answer));
-            stores =
-                rw (s, i, add-one place, opened .2)
-                (sets-append rows (place * 10) r (rowsRead lent (suc place) (untilByte 10 (drop (length l + 1) rest) ∷ opened .0))
-                ∙ (rw (opened .1, q, lt-ltb place lent k) at (w .stores)));
-            within = simp length-drop (omega (arith, w .within));
-            long = ap length s ∙ length-sets rows (place * 10) r ∙ w .long;
-          })
+        module _ {rows′ : List ℤ} (s : rows′ ≡ sets rows (place * 10) (rowOf l)) where
+          pub wrong-rows : (k : ℕ) → x ≡ Wrong k → rows′ ≡ sets rows₀ 0 (rowsRead lent 0 (parts 10 text))
+          unfolding rowsRead
+          wrong-rows k q = s ∙ (rw (opened .1, sym j ∙ q, append-nil (rowOf l)) at (w .stores))
+
+          pub full-rows : x ≡ Row → lent ≤ place → rows′ ≡ sets rows₀ 0 (rowsRead lent 0 (parts 10 text))
+          unfolding rowsRead
+          full-rows q k = s ∙ (rw (opened .1, sym j ∙ q, le-ltb place lent k, append-nil (rowOf l)) at (w .stores))
+
+          pub lines-more : x ≡ Row → place < lent → LinesRead text lent rows₀ rows′ (take (length rest - (length l + 1)) (drop (length l + 1) rest)) (place + 1)
+          unfolding answerFrom rowsRead
+          lines-more q k =
+              let r = rowOf l in
+              let i : (place + 1) * 10 ≡ place * 10 + length r = omega (arith, row-long l (sym j ∙ q)) in
+              rw (tail-is (length l + 1) rest)
+              (record {
+                answer = rw (add-one place, opened .2) (rw (opened .1, sym j ∙ q, lt-ltb place lent k) at (w .answer));
+                stores =
+                    rw (s, i, add-one place, opened .2)
+                    (sets-append rows (place * 10) r (rowsRead lent (suc place) (untilByte 10 (drop (length l + 1) rest) ∷ opened .0))
+                    ∙ (rw (opened .1, sym j ∙ q, lt-ltb place lent k) at (w .stores)));
+                within = simp length-drop (omega (arith, w .within));
+                long = ap length s ∙ length-sets rows (place * 10) r ∙ w .long;
+              })
 
 -- ---- an accepted text
 
@@ -146,21 +160,38 @@ accepted-rows lent p (l ∷ m ∷ ls) n h e = go (lineOf l) refl (ltb p lent) re
     go Row q false t e k = absurd (no-accept e)
     go (Wrong i) q t u e k = absurd (no-accept e)
 
-pub accepted-stored : (rows : List ℤ) (ps : List (List ℕ)) (n : ℕ) → answerFrom (length rows / 10) 0 ps ≡ Accepted n
+accepted-stored : (rows : List ℤ) (ps : List (List ℕ)) (n : ℕ) → answerFrom (length rows / 10) 0 ps ≡ Accepted n
     → sets rows 0 (rowsRead (length rows / 10) 0 ps) ≡ rowsOf ps ++ drop (10 * n) rows
 accepted-stored rows ps n e =
     let w = accepted-rows (length rows / 10) 0 ps n (omega arith) e in
     let i : 0 + length (rowsOf ps) ≡ 10 * n = omega (arith, w .0) in
     rw (w .2) (sets-eq (rowsOf ps) rows 0 (omega (arith, w .0, w .1)) ∙ ap (λ (k : ℕ). rowsOf ps ++ drop k rows) i)
 
-pub long-text : (text : List ℕ) (lent : ℕ) → 65536 < length text → answerOf text lent ≡ Refused 8 0
+-- ---- the two readings
+
+pub long-text : (text : List ℕ) (lent : ℕ) → 65536 < length text → Refused 8 0 ≡ answerOf text lent
 unfolding answerOf
 long-text text lent h = rw (lt-ltb 65536 (length text))
 
-pub short-text : (text : List ℕ) (lent : ℕ) → length text ≤ 65536 → answerOf text lent ≡ answerFrom lent 0 (parts 10 text)
-unfolding answerOf
-short-text text lent h = rw (le-ltb 65536 (length text))
+pub long-rows : (text : List ℕ) (lent : ℕ) (rows : List ℤ) → 65536 < length text → rows ≡ rowsAfter (answerOf text lent) text rows
+long-rows text lent rows h = ap (λ (a : Answer). rowsAfter a text rows) (long-text text lent h)
 
-pub none-lent : (xs ys : List ℤ) → length xs ≡ 0 → xs ++ ys ≡ ys
+none-lent : (xs ys : List ℤ) → length xs ≡ 0 → xs ++ ys ≡ ys
 none-lent [] ys e = refl
 none-lent (x ∷ xs) ys e = absurd (omega arith)
+
+module _ (text : List ℕ) (rows : List ℤ) (h : length text ≤ 65536) {a : Answer} (e : a ≡ answerFrom (length rows / 10) 0 (parts 10 text)) where
+  pub short-answer : a ≡ answerOf text (length rows / 10)
+  unfolding answerOf
+  short-answer = rw (le-ltb 65536 (length text)) e
+
+  -- the first reading is lent none of the rows, and so leaves them as they were
+  module _ (none : List ℤ) (n : length none ≡ 0) where
+    pub refused-rows : (k p : ℕ) → a ≡ Refused k p → none ++ rows ≡ rowsAfter (answerOf text (length rows / 10)) text rows
+    refused-rows k p r = none-lent none rows n ∙ ap (λ (a : Answer). rowsAfter a text rows) (sym r ∙ short-answer)
+
+    pub read-rows : (m : ℕ) → a ≡ Accepted m → {rows′ : List ℤ} → rows′ ≡ sets (none ++ rows) 0 (rowsRead (length rows / 10) 0 (parts 10 text))
+        → rows′ ≡ rowsAfter (answerOf text (length rows / 10)) text rows
+    read-rows m r s =
+        s ∙ ap (λ (l : List ℤ). sets l 0 (rowsRead (length rows / 10) 0 (parts 10 text))) (none-lent none rows n)
+        ∙ accepted-stored rows (parts 10 text) m (sym e ∙ r) ∙ ap (λ (a : Answer). rowsAfter a text rows) (sym r ∙ short-answer)

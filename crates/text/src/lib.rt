@@ -16,7 +16,7 @@ ghost use Rattle.text.specs.declared.Digits.the-variants.{Is};
 use refusals::Answer;
 
 // Digits without a sign: their value, or that they are none.
-pub enum Digits {
+enum Digits {
     Is(u64),
     Not,
 }
@@ -28,13 +28,13 @@ pub enum Number {
 }
 
 // The fields of a line: whether all are spelled right, and how many there are.
-pub struct Fields {
+struct Fields {
     pub good: bool,
     pub count: usize,
 }
 
 // A line: a row, or the number of its refusal.
-pub enum Line {
+enum Line {
     Row,
     Wrong(u64),
 }
@@ -204,7 +204,7 @@ fn judge_line(kind: &[u8], good: bool, n: usize, classes: &[[u8; 9]; 25]) -> Lin
     if 24 < k {
         return Line::Wrong(refusals::UNKNOWN_KIND);
     }
-    if n == rows::width_of(classes, k) + 1 {
+    if rows::has_width(classes, k, n) {
         Line::Row
     } else {
         Line::Wrong(refusals::MISSPELT)
@@ -235,12 +235,11 @@ fn read_line(line: &[u8], rows: &mut [i64], base: usize, classes: &[[u8; 9]; 25]
 }
 
 // Reads a text's lines, where `lent` rows are lent. The rows' numbers go to `rows`, as far as they lie within it.
-fn read_lines(text: &[u8], rows: &mut [i64], lent: usize) -> Answer
-    requires { ⌜ length (now text) < 65537 ⌝ }
+fn read_lines(text: &[u8], rows: &mut [i64], lent: usize, classes: &[[u8; 9]; 25]) -> Answer
+    requires { ⌜ (length (now text) < 65537) × (now classes ≡ classTable) ⌝ }
     ensures { λ r. ⌜ r ≡ answerFrom lent 0 (parts 10 (now (text .entry))) ⌝ }
     ensures { λ _. ⌜ now (rows .exit) ≡ sets (now (rows .entry)) 0 (rowsRead lent 0 (parts 10 (now (text .entry)))) ⌝ }
 {
-    let classes = rows::class_table();
     let mut rest = text;
     let mut place: usize = 0;
     while 0 < rest.len() {
@@ -249,7 +248,7 @@ fn read_lines(text: &[u8], rows: &mut [i64], lent: usize) -> Answer
         if rest.len() <= n {
             return Answer::Refused(refusals::MISSPELT, place);
         }
-        if let Line::Wrong(k) = read_line(line, rows, place * 10, &classes) {
+        if let Line::Wrong(k) = read_line(line, rows, place * 10, classes) {
             return Answer::Refused(k, place);
         }
         if lent <= place {
@@ -270,9 +269,10 @@ pub fn read_text(text: &[u8], rows: &mut [i64]) -> Answer
         return Answer::Refused(refusals::OVERLONG, 0);
     }
     let lent = rows.len() / 10;
-    let found = read_lines(text, &mut rows[..0], lent);
+    let classes = rows::class_table();
+    let found = read_lines(text, &mut rows[..0], lent, &classes);
     if let Answer::Accepted(_) = found {
-        read_lines(text, rows, lent);
+        read_lines(text, rows, lent, &classes);
     }
     found
 }

@@ -1,14 +1,12 @@
--- A pair of numbers along a kind's chain, and the code's way to refusal 5. Assumes nothing.
-use Prim.Native.Nat.{ℕ, _<_, _≤_}
+-- The code's way to refusal 5. Assumes nothing.
+use Prim.Native.Nat.{ℕ}
 use mathlib.Core.Path.{_≡_, sym, _∙_}
 use mathlib.Core.Bool.{Bool, true, false}
 use mathlib.Core.List.{List}
-use native.Mathlib.Omega.{arith}
 use borrow.Author.Tests.{ne-eqb}
 use lib.IntN.{ℤ}
 use Rattle.loops.specs.Search.{anyBelow}
-use Rattle.loops.specs.inner.Chain.{Stands, Blind}
-use Rattle.rows.specs.Cells.{num, is}
+use Rattle.rows.specs.Cells.{num}
 use Rattle.sheet.specs.Places.{named}
 use Rattle.sheet.specs.inner.Groups.{group, namedPair, repeatedIn, repeatedBy}
 
@@ -34,14 +32,3 @@ module _ (rows : List ℤ) (k g id other : ℕ) (q : g ≡ group (num rows k 0))
 pub may-repeat : (rows : List ℤ) (k g : ℕ) → g ≡ group (num rows k 0) → g ≡ 0 → false ≡ repeatedBy rows k
 unfolding repeatedIn
 may-repeat rows k g q z = rw (← q, z)
-
--- ---- along a kind's chain
-
-pub pair-blind : (rows : List ℤ) (x id other : ℕ) → Blind (named rows x id) (namedPair rows x id other)
-unfolding namedPair
-pair-blind rows x id other = record { still = λ k e. rw e }
-
-pub pair-test : (rows : List ℤ) (x id other n i k : ℕ) {r b : Bool} → i < k → k ≤ n → Stands (named rows x id) n i → r ≡ is rows i 2 other → r ≡ b
-    → namedPair rows x id other i ≡ b
-unfolding namedPair
-pair-test rows x id other n i k l z a e f = rw (a .here (omega arith)) (sym e ∙ f)

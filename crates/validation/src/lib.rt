@@ -12,7 +12,7 @@ ghost use Rattle.sheet.specs.Places.{named};
 ghost use Rattle.sheet.specs.inner.Index.{Kinds, Linked};
 ghost use Rattle.refusals.specs.Refusals.{verdictOf};
 ghost use Rattle.sheet.specs.Refusals.{misshapen, knownKind, badCell, halfPart, outOfRange, hasMembers, unowned, columnFault, ownerFault, repeatFault, refusalOf};
-ghost use Rattle.sheet.specs.inner.Groups.{group, namedPair, repeatedBy};
+ghost use Rattle.sheet.specs.inner.Groups.{group, repeatedBy};
 ghost use Rattle.validation.specs.inner.Answer.{shapeRefusal, linkRefusal, Indexing};
 use refusals::Verdict;
 
@@ -221,28 +221,6 @@ fn has_earlier(rows: &[i64], kinds: &[u16; 3680], x: usize, id: u64, k: usize) -
     sheet::first_named(rows, kinds, x, id) < k
 }
 
-// An earlier row than k is of kind x with that id and that number in column 2.
-fn has_earlier_pair(
-    rows: &[i64],
-    kinds: &[u16; 3680],
-    x: usize,
-    id: u64,
-    other: u64,
-    k: usize,
-) -> bool
-    requires { ⌜ Kinds (now rows) (now kinds) × (x < 32) × (k ≤ rowCount (now rows)) ⌝ }
-    ensures { λ r. ⌜ r ≡ anyBelow (namedPair (now (rows .entry)) x id other) k ⌝ }
-{
-    let mut j = sheet::first_named(rows, kinds, x, id);
-    while j < k {
-        if rows::is_at(rows, j, 2, other) {
-            return true;
-        }
-        j = sheet::next_named(rows, kinds, x, id, j);
-    }
-    false
-}
-
 // Row k repeats an earlier row.
 fn is_repeat(rows: &[i64], kinds: &[u16; 3680], k: usize) -> bool
     requires { ⌜ Kinds (now rows) (now kinds) × (k ≤ rowCount (now rows)) ⌝ }
@@ -255,13 +233,13 @@ fn is_repeat(rows: &[i64], kinds: &[u16; 3680], k: usize) -> bool
     let id = rows::num_at(rows, k, 1);
     let other = rows::num_at(rows, k, 2);
     if group == 14 {
-        return has_earlier_pair(rows, kinds, 14, id, other, k);
+        return sheet::has_earlier_pair(rows, kinds, 14, id, other, k);
     }
     if group == 9 {
-        if has_earlier_pair(rows, kinds, 9, id, other, k) {
+        if sheet::has_earlier_pair(rows, kinds, 9, id, other, k) {
             return true;
         }
-        return has_earlier_pair(rows, kinds, 10, id, other, k);
+        return sheet::has_earlier_pair(rows, kinds, 10, id, other, k);
     }
     has_earlier(rows, kinds, group as usize, id, k)
 }

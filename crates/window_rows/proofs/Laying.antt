@@ -9,17 +9,20 @@ use native.Mathlib.Omega.{arith}
 use borrow.Author.Tests.{le-leb, lt-leb}
 use lib.Dec.{leb}
 use lib.IntN.{ℤ, pos}
-use lib.ListN.{length}
-use Rattle.loops.specs.Lists.{given}
+use lib.ListN.{length, length-append}
+use lib.Seq.{sets}
+use Rattle.loops.specs.Lists.{given, each}
+use Rattle.loops.specs.Numbers.{toNat}
 use Rattle.loops.specs.Range.{collect}
 use Rattle.loops.specs.Search.{countBelow}
 use Rattle.loops.specs.inner.Chain.{First, Stands}
-use Rattle.loops.proofs.ListLaws.{map-append}
+use Rattle.loops.proofs.ListLaws.{map-append, each-append}
 use Rattle.loops.proofs.RangeLaws.{collect-step, collect-ext}
 use Rattle.loops.proofs.Walks.{over, stands-end}
 use Rattle.loops.specs.inner.Threes.{setThree}
-use Rattle.loops.proofs.ThreeLaws.{three-length, first-is, second-is, third-is, below-kept}
-use Rattle.calendar.specs.Calendar.{Window}
+use Rattle.loops.proofs.StoreLaws.{sets-append}
+use Rattle.loops.proofs.ThreeLaws.{three-length, three-sets, first-is, second-is, third-is, below-kept}
+use Rattle.calendar.specs.Calendar.{Window, Calendar}
 use Rattle.calendar.specs.Layout.{windowsIn, windowAt, windowOf, windowsOf, calendarOf}
 use Rattle.rows.specs.Cells.{rowCount, num, is}
 use Rattle.sheet.specs.Places.{placeOf}
@@ -28,7 +31,7 @@ use Rattle.model.specs.Sheet.{sheet}
 use Rattle.model.specs.Resource.{windows}
 use Rattle.model.proofs.OwnedLaws.{of-activity, of-resource}
 use Rattle.model.proofs.Requiring.{count-less}
-use Rattle.window_rows.specs.inner.Laid.{Holder, Laid}
+use Rattle.window_rows.specs.inner.Laid.{Holder, windowNumbers, calendarNumbers, Laid}
 use Rattle.window_rows.proofs.WindowRows.{windowRow, windowNaming, resource-windows, activity-windows}
 
 -- ---- one window more
@@ -88,6 +91,27 @@ nothing-yet w at = ap (map windowOf) (none-below w at (min at (windowsIn w)) (om
 pub same-three : (w : List ℕ) (i : ℕ) {w′ : List ℕ} {a b c a′ b′ c′ : ℕ} → a ≡ a′ → b ≡ b′ → c ≡ c′ → w′ ≡ setThree w i a b c → w′ ≡ setThree w i a′ b′ c′
 same-three w i p q r h = rw (← p, ← q, ← r) h
 
+-- ---- the numbers of a calendar
+
+pub numbers-length : (c : Calendar ℤ) → length (calendarNumbers c) ≡ 3 * length c
+unfolding calendarNumbers each
+numbers-length [] = refl
+numbers-length (x ∷ c) = omega (arith, numbers-length c)
+
+numbers-more : (c : Calendar ℤ) (x : Window ℤ) → calendarNumbers (c ++ x ∷ []) ≡ calendarNumbers c ++ windowNumbers x
+unfolding calendarNumbers each
+numbers-more c x = each-append windowNumbers c (x ∷ [])
+
+-- a window behind a calendar that is laid out
+stored-more : (w₀ : List ℕ) (at : ℕ) (c : Calendar ℤ) (x : Window ℤ) {w : List ℕ} {to : ℕ} → w ≡ sets w₀ (3 * at) (calendarNumbers c) → to ≡ at + length c
+    → setThree w to (x .closed) (toNat (x .start)) (toNat (x .end)) ≡ sets w₀ (3 * at) (calendarNumbers (c ++ x ∷ []))
+stored-more w₀ at c x {w} {to} e p =
+    let q : 3 * to ≡ 3 * at + length (calendarNumbers c) = omega (arith, numbers-length c) in
+    three-sets w to (x .closed) (toNat (x .start)) (toNat (x .end))
+    ∙ ap₂ (λ v i. sets v i (windowNumbers x)) e q
+    ∙ sets-append w₀ (3 * at) (calendarNumbers c) (windowNumbers x)
+    ∙ ap (sets w₀ (3 * at)) (sym (numbers-more c x))
+
 -- ---- row by row
 
 module _ (rows : List ℤ) (o x : ℕ) where
@@ -97,6 +121,8 @@ module _ (rows : List ℤ) (o x : ℕ) where
 
   -- what the loop knows at row k
   pub record Laying (w₀ w : List ℕ) (at to k : ℕ) : Type 0 where
+    pub whole : w ≡ sets w₀ (3 * at) (calendarNumbers (collect windowBy k))
+    pub places : to ≡ at + length (collect windowBy k)
     pub size : length w ≡ 2400
     pub count : to ≡ at + countBelow (ownedBy rows o x) k
     pub list : calendarOf w at to ≡ collect windowBy k
@@ -105,11 +131,14 @@ module _ (rows : List ℤ) (o x : ℕ) where
   still : (w₀ w : List ℕ) (at to k : ℕ) → ownedBy rows o x k ≡ false → Laying w₀ w at to k → Laying w₀ w at to (k + 1)
   still w₀ w at to k e g =
       let q : k + 1 ≡ suc k = omega arith in
+      let s : collect windowBy k ≡ collect windowBy (suc k) = unfold collect windowBy in rw e (sym (append-nil _)) in
       rw q
       (record {
+        whole = g .whole ∙ ap (λ l. sets w₀ (3 * at) (calendarNumbers l)) s;
+        places = g .places ∙ ap (λ l. at + length l) s;
         size = g .size;
         count = g .count ∙ (unfold countBelow in rw e (omega arith));
-        list = g .list ∙ (unfold collect windowBy in rw e (sym (append-nil _)));
+        list = g .list ∙ s;
         kept = g .kept;
       })
 
@@ -117,6 +146,8 @@ module _ (rows : List ℤ) (o x : ℕ) where
   laying-first w at f z =
       over (λ k. Laying w w at at k) (ownedBy rows o x) 0 _ _ (still w w at at) f
       (record {
+        whole = unfold collect calendarNumbers each in refl;
+        places = unfold collect in omega arith;
         size = z;
         count = unfold countBelow in omega arith;
         list = unfold collect in nothing-yet w at;
@@ -127,14 +158,19 @@ module _ (rows : List ℤ) (o x : ℕ) where
       → Laying w₀ w at to k → Laying w₀ w′ at (to + 1) (suc k)
   laying-turn {w₀} {w} {w′} {at} {to} {k} h l e g =
       let m : at ≤ to = omega (arith, g .count) in
+      let s : collect windowBy k ++ windowRow rows k ∷ [] ≡ collect windowBy (suc k) = unfold collect windowBy in rw h in
       rw e
       (record {
+        whole =
+            stored-more w₀ at (collect windowBy k) (windowRow rows k) (g .whole) (g .places)
+            ∙ ap (λ l. sets w₀ (3 * at) (calendarNumbers l)) s;
+        places = omega (arith, g .places, length-append (collect windowBy k) (windowRow rows k ∷ []), ap length s);
         size = three-length w to (num rows k 2) (num rows k 3) (num rows k 4) ∙ g .size;
         count = unfold countBelow in rw h (omega (arith, g .count));
         list =
             one-more w to (num rows k 2) (num rows k 3) (num rows k 4) (g .size) l at m
             ∙ ap (λ y. y ++ windowRow rows k ∷ []) (g .list)
-            ∙ (unfold collect windowBy in rw h);
+            ∙ s;
         kept = λ from j q. before-kept w to (num rows k 2) (num rows k 3) (num rows k 4) from j (omega arith) ∙ g .kept from j q;
       })
 
@@ -166,11 +202,14 @@ module _ (rows : List ℤ) (o x : ℕ) where
 
   pub laid : {N i : ℕ} {w₀ w : List ℕ} {at to : ℕ} → Holder rows o x → N ≤ i → N ≡ rowCount rows → Stands (ownedBy rows o x) (rowCount rows) i
       → Laying w₀ w at to i → Laid w₀ w at to (windows (sheet rows) x (num rows o 1)) × (to ≡ at + countBelow (ownedBy rows o x) (rowCount rows))
-  laid {i = i} {at = at} h l z s g =
-      let e : i ≡ rowCount rows = stands-end s l z in (
+  laid {i = i} {w₀ = w₀} {at = at} h l z s g =
+      let e : i ≡ rowCount rows = stands-end s l z in
+      let f : collect windowBy i ≡ windows (sheet rows) x (num rows o 1) = ap (collect windowBy) e ∙ windows-are h in (
         record {
+          whole = g .whole ∙ ap (λ c. sets w₀ (3 * at) (calendarNumbers c)) f;
+          places = g .places ∙ ap (λ c. at + length c) f;
           size = g .size;
-          calendar = g .list ∙ ap (collect windowBy) e ∙ windows-are h;
+          calendar = g .list ∙ f;
           kept = g .kept;
         },
         g .count ∙ ap (λ k. at + countBelow (ownedBy rows o x) k) e,

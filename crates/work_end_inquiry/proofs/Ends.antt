@@ -1,6 +1,6 @@
 -- Work that is started in a sheet ends, if it does, within the numbers of 64 bits. Assumes nothing.
 use Prim.Native.Nat.{ℕ, zero, suc, _+_, _^_, _<_, _≤_, max, min}
-use mathlib.Core.Path.{_≡_, refl, sym, ap, _∙_}
+use mathlib.Core.Path.{_≡_, refl, sym, ap, subst, _∙_}
 use mathlib.Core.Bool.{Bool, true, false, cond, _&&_, _||_, true≢false}
 use mathlib.Core.List.{List, [], _∷_, _++_}
 use mathlib.Core.Option.{none, some}
@@ -10,7 +10,8 @@ use lib.IntN.{ℤ, pos, negsuc}
 use lib.Signed.{leZ}
 use Rattle.loops.specs.Numbers.{toNat}
 use Rattle.loops.specs.Range.{collect}
-use Rattle.loops.specs.Lists.{given}
+use lib.ListN.{length}
+use Rattle.loops.specs.Lists.{given, each}
 use Rattle.loops.proofs.BoolLaws.{and-left, and-right}
 use Rattle.loops.proofs.NumberLaws.{gap}
 use Rattle.calendar.specs.Clock.{clock}
@@ -30,11 +31,12 @@ use Rattle.sheet.proofs.Lookups.{placed}
 use Rattle.model.specs.Sheet.{sheet}
 use Rattle.model.specs.Resource.{windows}
 use Rattle.model.proofs.Accepting.{accepted, at-most}
+use Rattle.window_rows.specs.inner.Laid.{calendarNumbers, Laid}
 use Rattle.window_rows.proofs.WindowRows.{windowRow, windowNaming, resource-windows}
-use Rattle.calendar.specs.declared.Answer as calendar
-use Rattle.work_end_inquiry.specs.declared.Answer.{Answer}
+use Rattle.calendar.specs.declared.WorkEnd as calendar
+use Rattle.work_end_inquiry.specs.declared.InquiryAnswer.{InquiryAnswer}
 use Rattle.work_end_inquiry.specs.inner.Said.{said}
-use Rattle.work_end_inquiry.specs.Inquiry.{Outcome, ends, refused, outcomeOf, inOrder, inquiryRefusal, inquiredCalendar, inquiry}
+use Rattle.work_end_inquiry.specs.Inquiry.{InquiryOutcome, ends, refused, outcomeOf, inOrder, inquiryRefusal, inquiredCalendar, inquiry}
 
 -- the greatest instant or amount of a sheet
 abbrev most : ℕ
@@ -146,12 +148,26 @@ module _ (rows : List ℤ) {resource z : ℤ} {a : Bool} (p : z ≡ resource) (e
   calendar-unknown f = rw (sym (ap (inClass id-c) p) ∙ sym e ∙ f)
 
 -- no places, no windows
-pub calendar-none : (w : List ℕ) → layout.calendarOf w 0 0 ≡ []
+calendar-none : (w : List ℕ) → layout.calendarOf w 0 0 ≡ []
 unfolding layout.calendarOf layout.windowsOf collect
 calendar-none w = let z : min 0 (layout.windowsIn w) ≡ 0 = omega arith in rw z
 
-pub calendar-found : (rows : List ℤ) (o id : ℕ) {c : Calendar ℤ} → placeOf rows 11 id ≡ some o → c ≡ windows (sheet rows) 15 (num rows o 1) → c ≡ windows (sheet rows) 15 id
-calendar-found rows o id q e = e ∙ ap (windows (sheet rows) 15) (placed rows 11 id o q .id-is)
+pub laid-none : (w : List ℕ) {c : Calendar ℤ} → length w ≡ 2400 → [] ≡ c → Laid w w 0 0 c
+laid-none w l e =
+    subst (Laid w w 0 0) e
+    (record {
+      whole = unfold calendarNumbers each in refl;
+      places = refl;
+      size = l;
+      calendar = calendar-none w;
+      kept = λ from j h. refl;
+    })
+
+pub laid-found : (rows : List ℤ) (o id : ℕ) {w w′ : List ℕ} {r : ℕ} → placeOf rows 11 id ≡ some o → Laid w w′ 0 r (windows (sheet rows) 15 (num rows o 1)) → Laid w w′ 0 r (windows (sheet rows) 15 id)
+laid-found rows o id {w} {w′} {r} q h = subst (λ x. Laid w w′ 0 r (windows (sheet rows) 15 x)) (placed rows 11 id o q .id-is) h
+
+pub laid-as : {w w′ : List ℕ} {r : ℕ} {c d : Calendar ℤ} → c ≡ d → Laid w w′ 0 r c → Laid w w′ 0 r d
+laid-as {w} {w′} {r} e h = subst (Laid w w′ 0 r) e h
 
 -- ---- the answers
 
@@ -179,7 +195,7 @@ module _ (rows : List ℤ) (resource start work : ℤ) (ok : refusalOf rows ≡ 
       ∙ said-as-is (jointWorkEnd clock (inquiredCalendar rows resource ∷ []) (pos (toNat start)) work) fits-inquiry
       ∙ ap (λ x. ends (jointWorkEnd clock (inquiredCalendar rows resource ∷ []) x work)) same-start
 
-  pub ending-said : {r : Answer} {a : calendar.Answer} {s : ℕ} {z y : ℤ} (w : List ℕ) (m : ℕ) → z ≡ start → y ≡ work
+  pub ending-said : {r : InquiryAnswer} {a : calendar.WorkEnd} {s : ℕ} {z y : ℤ} (w : List ℕ) (m : ℕ) → z ≡ start → y ≡ work
       → layout.calendarOf w 0 m ≡ inquiredCalendar rows resource → s ≡ toNat z
       → a ≡ layout.saying (jointWorkEnd clock (layout.calendarsOf w (0 ∷ m ∷ [])) (pos s) y) → r ≡ said a
       → outcomeOf r ≡ ends (jointWorkEnd clock (inquiredCalendar rows resource ∷ []) start work)
@@ -206,7 +222,7 @@ module _ (rows : List ℤ) where
     unfolding inquiry inquiryRefusal
     inquiry-own i = rw (ok, sym (ap (λ c. inOrder c y) p ∙ ap (inOrder start) q) ∙ sym h ∙ i)
 
-    pub inquiry-ends : {r : Outcome} → a ≡ true → r ≡ ends (jointWorkEnd clock (inquiredCalendar rows x ∷ []) z y) → r ≡ inquiry rows resource start work
+    pub inquiry-ends : {r : InquiryOutcome} → a ≡ true → r ≡ ends (jointWorkEnd clock (inquiredCalendar rows x ∷ []) z y) → r ≡ inquiry rows resource start work
     unfolding inquiry inquiryRefusal
     inquiry-ends i e =
         e ∙ rw (ok, sym (ap (λ c. inOrder c y) p ∙ ap (inOrder start) q) ∙ sym h ∙ i, o, p, q)

@@ -16,15 +16,15 @@ use Rattle.refusals.specs.Refusals.{OUT-OF-RANGE, Refusal, refuse}
 use Rattle.sheet.specs.Refusals.{refusalOf}
 use Rattle.model.specs.Sheet.{sheet}
 use Rattle.model.specs.Resource.{resourceCalendar}
-use Rattle.work_end_inquiry.specs.declared.Answer.{Answer}
-use Rattle.work_end_inquiry.specs.declared.Answer.the-variants.{End, Pause, Never, Refused}
+use Rattle.work_end_inquiry.specs.declared.InquiryAnswer.{InquiryAnswer}
+use Rattle.work_end_inquiry.specs.declared.InquiryAnswer.the-variants.{End, Pause, Never, Refused}
 
-pub data Outcome : Type 0 where
-  refused : Refusal → Outcome
-  ends : Ending ℤ → Outcome
+pub data InquiryOutcome : Type 0 where
+  refused : Refusal → InquiryOutcome
+  ends : Ending ℤ → InquiryOutcome
 
 -- what an answer says
-abbrev pub outcomeOf : Answer → Outcome
+abbrev pub outcomeOf : InquiryAnswer → InquiryOutcome
 outcomeOf (End e) = ends (endsAt (pos e))
 outcomeOf Pause = ends pauses
 outcomeOf Never = ends never
@@ -42,6 +42,6 @@ inquiryRefusal rows start work = orElse (refusalOf rows) (refuse (not (inOrder s
 unfoldable pub inquiredCalendar : List ℤ → ℤ → Calendar ℤ
 inquiredCalendar rows resource = cond (inClass id-c resource) (resourceCalendar (sheet rows) (toNat resource)) []
 
-unfoldable pub inquiry : List ℤ → ℤ → ℤ → ℤ → Outcome
+unfoldable pub inquiry : List ℤ → ℤ → ℤ → ℤ → InquiryOutcome
 inquiry rows resource start work =
     option (inquiryRefusal rows start work) (ends (jointWorkEnd clock (inquiredCalendar rows resource ∷ []) start work)) refused

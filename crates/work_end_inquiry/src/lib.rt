@@ -8,11 +8,11 @@ ghost use lib.IntN.{ℤ, pos};
 ghost use lib.ListN.{length};
 ghost use Rattle.calendar.specs.Clock.{clock};
 ghost use Rattle.calendar.specs.WorkEnd.{jointWorkEnd};
-ghost use Rattle.calendar.specs.Layout.{calendarOf};
 ghost use Rattle.sheet.specs.inner.Index.{Kinds, Owned};
 ghost use Rattle.sheet.specs.Refusals.{refusalOf};
 ghost use Rattle.model.specs.Sheet.{sheet};
 ghost use Rattle.model.specs.Resource.{windows};
+ghost use Rattle.window_rows.specs.inner.Laid.{Laid};
 ghost use Rattle.work_end_inquiry.specs.Inquiry.{ends, outcomeOf, inOrder, inquiredCalendar, inquiry};
 ghost use Rattle.work_end_inquiry.specs.inner.Said.{said};
 use refusals::Verdict;
@@ -26,7 +26,7 @@ const T: u8 = 5;
 const G: u8 = 7;
 
 // The work ends at an instant; or the start is no working time; or too little working time follows; or a refusal by number and place.
-pub enum Answer {
+pub enum InquiryAnswer {
     End(u64),
     Pause,
     Never,
@@ -52,8 +52,7 @@ fn resource_windows(
     w: &mut [u64; 2400],
 ) -> usize
     requires { ⌜ (refusalOf (now rows) ≡ none) × Kinds (now rows) (now kinds) × Owned (now rows) (now owned) × (length (now w) ≡ 2400) ⌝ }
-    ensures calendar { λ r. ⌜ calendarOf (now (w .exit)) 0 r ≡ windows (sheet (now (rows .entry))) 15 id ⌝ }
-    ensures size { λ r. ⌜ length (now (w .exit)) ≡ 2400 ⌝ }
+    ensures { λ r. ⌜ Laid (now (w .entry)) (now (w .exit)) 0 r (windows (sheet (now (rows .entry))) 15 id) ⌝ }
 {
     let f = sheet::find_resource(rows, kinds, id);
     let Found::At(o) = f else {
@@ -71,8 +70,7 @@ fn resource_calendar(
     w: &mut [u64; 2400],
 ) -> usize
     requires { ⌜ (refusalOf (now rows) ≡ none) × Kinds (now rows) (now kinds) × Owned (now rows) (now owned) × (length (now w) ≡ 2400) ⌝ }
-    ensures calendar { λ r. ⌜ calendarOf (now (w .exit)) 0 r ≡ inquiredCalendar (now (rows .entry)) resource ⌝ }
-    ensures size { λ r. ⌜ length (now (w .exit)) ≡ 2400 ⌝ }
+    ensures { λ r. ⌜ Laid (now (w .entry)) (now (w .exit)) 0 r (inquiredCalendar (now (rows .entry)) resource) ⌝ }
 {
     let ranges = rows::range_table();
     if rows::in_class(&ranges, ID, resource) {
@@ -82,14 +80,14 @@ fn resource_calendar(
 }
 
 // In a sheet no end lies beyond the numbers of 64 bits.
-fn answer_of(a: calendar::Answer) -> Answer
+fn answer_of(a: calendar::WorkEnd) -> InquiryAnswer
     ensures { λ r. ⌜ r ≡ said a ⌝ }
 {
     match a {
-        calendar::Answer::End(e) => Answer::End(e),
-        calendar::Answer::Pause => Answer::Pause,
-        calendar::Answer::Never => Answer::Never,
-        calendar::Answer::Beyond => Answer::Never,
+        calendar::WorkEnd::End(e) => InquiryAnswer::End(e),
+        calendar::WorkEnd::Pause => InquiryAnswer::Pause,
+        calendar::WorkEnd::Never => InquiryAnswer::Never,
+        calendar::WorkEnd::Beyond => InquiryAnswer::Never,
     }
 }
 
@@ -100,7 +98,7 @@ fn ending(
     resource: i64,
     start: i64,
     work: i64,
-) -> Answer
+) -> InquiryAnswer
     requires { ⌜ (refusalOf (now rows) ≡ none) × Kinds (now rows) (now kinds) × Owned (now rows) (now owned) × (inOrder start work ≡ true) ⌝ }
     ensures { λ r. ⌜ outcomeOf r ≡ ends (jointWorkEnd clock (inquiredCalendar (now (rows .entry)) resource ∷ []) start work) ⌝ }
 {
@@ -110,7 +108,7 @@ fn ending(
     answer_of(calendar::joint_work_end(&cs, &w, rows::nat(start), work))
 }
 
-pub fn work_end(rows: &[i64], resource: i64, start: i64, work: i64) -> Answer
+pub fn work_end(rows: &[i64], resource: i64, start: i64, work: i64) -> InquiryAnswer
     ensures { λ r. ⌜ outcomeOf r ≡ inquiry (now (rows .entry)) resource start work ⌝ }
 {
     let mut kinds = [0u16; 3680];
@@ -118,12 +116,12 @@ pub fn work_end(rows: &[i64], resource: i64, start: i64, work: i64) -> Answer
     let mut owned = [0u16; 8810];
     let v = validation::index(rows, &mut kinds, &mut links, &mut owned);
     match v {
-        Verdict::Refused(n, k) => Answer::Refused(n, k),
+        Verdict::Refused(n, k) => InquiryAnswer::Refused(n, k),
         Verdict::Fine => {
             if in_order(start, work) {
                 return ending(rows, &kinds, &owned, resource, start, work);
             }
-            Answer::Refused(refusals::OUT_OF_RANGE, 0)
+            InquiryAnswer::Refused(refusals::OUT_OF_RANGE, 0)
         }
     }
 }

@@ -1,14 +1,11 @@
 -- `calendar::with_window` meets its contract. Assumes nothing.
-use Rattle.calendar.specs.inner.Scan.{withWindow}
 use borrow.Author.Needs.{needs}
+use Prim.Native.Nat.{_≤_}
+use native.Mathlib.Omega.{arith}
+use Rattle.calendar.specs.inner.Scan.{withWindow}
+use Rattle.calendar.proofs.Stretches.{nearer-first}
 use Rattle.calendar.proofs.with_window.Statement.{statement}
 use Rattle.calendar.proofs.with_window.Tie as tie
-
-standing-at-requires : tie.Need-standing-at-requires
-standing-at-requires c κs = search needs
-
-greater-requires : tie.Need-greater-requires
-greater-requires c κs = search needs
 
 nearer-of-requires : tie.Need-nearer-of-requires
 nearer-of-requires c κs = search needs
@@ -16,16 +13,28 @@ nearer-of-requires c κs = search needs
 nearer-of-requires-2 : tie.Need-nearer-of-requires-2
 nearer-of-requires-2 c κs = search needs
 
+standing-at-requires : tie.Need-standing-at-requires
+standing-at-requires c κs = search needs
+
+greater-requires : tie.Need-greater-requires
+greater-requires c κs = search needs
+
+lesser-requires : tie.Need-lesser-requires
+lesser-requires c κs = search needs
+
 returns : tie.Need-returns
 unfolding withWindow
-returns c = rw ((c .before .before .greater .ensures), (c .before .before .before .standing-at .ensures), (c .nearer-of2 .ensures), (c .before .nearer-of .ensures))
+returns c =
+    let b : c .before .before .before .before .before .args .s .stop ≤ 18446744073709551615 = omega (arith, c .before .before .before .before .before .good .0) in
+    rw (c .before .greater .ensures, c .before .before .standing-at .ensures, c .lesser .ensures, c .before .before .before .nearer-of2 .ensures, c .before .before .before .before .nearer-of .ensures, nearer-first _ _ _ _ _ b)
 
 pub with-window-spec : {M : Type 1} → statement M
 with-window-spec =
     tie.close
     (tie.spec
-    standing-at-requires
-    greater-requires
     nearer-of-requires
     nearer-of-requires-2
+    standing-at-requires
+    greater-requires
+    lesser-requires
     returns)

@@ -1,13 +1,11 @@
+use native.Mathlib.Omega.{arith}
 use borrow.Author.Needs.{needs}
 use Rattle.candidates.proofs.Uses.{by-list, by-type}
 use Rattle.candidates.proofs.is_candidate.Statement.{statement}
 use Rattle.candidates.proofs.is_candidate.Tie as tie
 
-row-count-requires : tie.Need-row-count-requires
-row-count-requires c κs = search needs
-
-first-owned-requires : tie.Need-first-owned-requires
-first-owned-requires c κs = search needs
+has-owned-requires : tie.Need-has-owned-requires
+has-owned-requires c κs = ((c .pre .0), omega (arith, (c .pre .1)))
 
 num-at-requires : tie.Need-num-at-requires
 num-at-requires c κs = search needs
@@ -16,7 +14,7 @@ is-listed-requires : tie.Need-is-listed-requires
 is-listed-requires c κs = search needs
 
 returns : tie.Need-returns
-returns c = by-list _ _ ((c .before .before .before .before .before .pre .1)) ((c .before .before .before .before .before .pre .2)) _ (c .before .before .before .first-owned .ensures) (c .before .before .before .before .row-count .ensures) (c .before .before .if1 .taken) (c .before .num-at .ensures) (c .is-listed .ensures)
+returns c = by-list _ _ (c .before .before .before .before .pre .1) (c .before .before .before .before .pre .2) _ (c .before .before .before .has-owned .ensures) (c .before .before .if1 .taken) (c .before .num-at .ensures) (c .is-listed .ensures)
 
 num-at-requires-2 : tie.Need-num-at-requires-2
 num-at-requires-2 c κs = search needs
@@ -25,14 +23,13 @@ is-at-requires : tie.Need-is-at-requires
 is-at-requires c κs = search needs
 
 returns-2 : tie.Need-returns-2
-returns-2 c = by-type _ _ ((c .before .before .before .before .before .pre .1)) ((c .before .before .before .before .before .pre .2)) _ (c .before .before .before .first-owned .ensures) (c .before .before .before .before .row-count .ensures) (c .before .before .if1 .left) (c .before .num-at2 .ensures) (c .is-at .ensures)
+returns-2 c = by-type _ _ (c .before .before .before .before .pre .1) (c .before .before .before .before .pre .2) _ (c .before .before .before .has-owned .ensures) (c .before .before .if1 .left) (c .before .num-at2 .ensures) (c .is-at .ensures)
 
 pub is-candidate-spec : {M : Type 1} → statement M
 is-candidate-spec =
     tie.close
     (tie.spec
-    row-count-requires
-    first-owned-requires
+    has-owned-requires
     num-at-requires
     is-listed-requires
     returns

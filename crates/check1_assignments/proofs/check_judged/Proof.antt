@@ -1,5 +1,5 @@
 use native.Mathlib.Omega.{arith}
-use Rattle.check1_assignments.proofs.Placing.{activity-named, activity-place}
+use Rattle.check1_assignments.proofs.Placing.{activity-named, activity-place, activity-kind}
 use Rattle.check1_assignments.proofs.Judging.{judged-told}
 use borrow.Author.Needs.{needs}
 use Rattle.check1_assignments.proofs.check_judged.Statement.{statement}
@@ -15,7 +15,7 @@ add-is-over : tie.Need-add-is-over
 add-is-over c = search needs
 
 is-over-requires : tie.Need-is-over-requires
-is-over-requires c κs = ((c .before .before .pre .0), (c .before .before .pre .2), activity-place _ _ _ ((c .before .before .pre .5)), omega (arith, (c .uses-before .ensures .1)))
+is-over-requires c κs = ((c .before .before .pre .0), (c .before .before .pre .2), activity-place _ _ _ (c .before .before .pre .5), omega (arith, (c .uses-before .ensures .1)))
 
 tell-requires : tie.Need-tell-requires
 tell-requires c κs = search needs
@@ -35,20 +35,17 @@ is-early-requires c κs = search needs
 tell-requires-3 : tie.Need-tell-requires-3
 tell-requires-3 c κs = search needs
 
-owner-of-requires : tie.Need-owner-of-requires
-owner-of-requires c κs = ((c .before .before .before .before .before .before .before .before .before .before .before .before .before .before .before .pre .1), activity-named _ _ _ ((c .before .before .before .before .before .before .before .before .before .before .before .before .before .before .before .pre .5)) .within)
-
-is-early-requires-2 : tie.Need-is-early-requires-2
-is-early-requires-2 c κs = search needs
+is-early-in-task-requires : tie.Need-is-early-in-task-requires
+is-early-in-task-requires c κs = ((c .before .before .before .before .before .before .before .before .before .before .before .before .before .before .before .before .pre .1), activity-named _ _ _ (c .before .before .before .before .before .before .before .before .before .before .before .before .before .before .before .before .pre .5) .within, activity-kind _ _ _ (c .before .before .before .before .before .before .before .before .before .before .before .before .before .before .before .before .pre .5))
 
 tell-requires-4 : tie.Need-tell-requires-4
-tell-requires-4 c κs = (c .before .before .before .before .before .before .before .before .before .before .before .before .before .before .before .before .before .id-at .ensures .1)
+tell-requires-4 c κs = (c .before .before .before .before .before .before .before .before .before .before .before .before .before .before .before .before .id-at .ensures .1)
 
 same-length : tie.Need-same-length
 same-length c = search needs
 
 returns : tie.Need-returns
-returns c = judged-told _ _ _ ((c .before .before .before .before .before .before .before .before .before .before .before .before .before .before .before .before .before .before .before .before .pre .0)) ((c .before .before .before .before .before .before .before .before .before .before .before .before .before .before .before .before .before .before .before .before .pre .5)) _ ((c .before .before .before .before .before .before .before .before .before .before .before .before .before .before .before .before .before .before .before .before .pre .4)) ((c .before .before .before .before .before .before .before .before .before .before .before .before .before .before .before .before .before .before .before .before .pre .7)) ((c .before .before .before .before .before .before .before .before .before .before .before .before .before .before .before .before .before .before .before .before .pre .8)) _ ((c .before .before .before .before .before .before .before .before .before .before .before .before .before .before .before .before .before .before .before .id-at .ensures .0)) ((c .before .before .before .before .before .before .before .before .before .before .before .before .before .before .before .before .before .before .uses-before .ensures .0)) ((c .before .before .before .before .before .before .before .before .before .before .before .before .before .before .before .before .before .is-over .ensures)) ((c .before .before .before .before .before .before .before .before .before .before .before .before .before .before .before .tell .ensures)) ((c .before .before .before .before .before .before .before .before .before .before .before .before .before .id-at2 .ensures .0)) ((c .before .before .before .before .before .before .before .before .before .before .before .is-short .ensures)) ((c .before .before .before .before .before .before .before .before .before .before .tell2 .ensures)) ((c .before .before .before .before .before .before .before .is-early .ensures)) ((c .before .before .before .before .before .before .tell3 .ensures)) ((c .before .before .before .before .owner-of .ensures)) ((c .before .before .is-early2 .ensures)) ((c .before .tell4 .ensures))
+returns c = judged-told _ _ _ (c .before .before .before .before .before .before .before .before .before .before .before .before .before .before .before .before .before .before .before .pre .5) _ (c .before .before .before .before .before .before .before .before .before .before .before .before .before .before .before .before .before .before .before .pre .4) (c .before .before .before .before .before .before .before .before .before .before .before .before .before .before .before .before .before .before .before .pre .7) (c .before .before .before .before .before .before .before .before .before .before .before .before .before .before .before .before .before .before .before .pre .8) _ (c .before .before .before .before .before .before .before .before .before .before .before .before .before .before .before .before .before .before .id-at .ensures .0) (c .before .before .before .before .before .before .before .before .before .before .before .before .before .before .before .before .before .uses-before .ensures .0) (c .before .before .before .before .before .before .before .before .before .before .before .before .before .before .before .before .is-over .ensures) (c .before .before .before .before .before .before .before .before .before .before .before .before .before .before .tell .ensures) (c .before .before .before .before .before .before .before .before .before .before .before .before .id-at2 .ensures .0) (c .before .before .before .before .before .before .before .before .before .before .is-short .ensures) (c .before .before .before .before .before .before .before .before .before .tell2 .ensures) (c .before .before .before .before .before .before .is-early .ensures) (c .before .before .before .before .before .tell3 .ensures) (c .before .before .is-early-in-task .ensures) (c .before .tell4 .ensures)
 
 pub check-judged-spec : {M : Type 1} → statement M
 check-judged-spec =
@@ -64,8 +61,7 @@ check-judged-spec =
     tell-requires-2
     is-early-requires
     tell-requires-3
-    owner-of-requires
-    is-early-requires-2
+    is-early-in-task-requires
     tell-requires-4
     same-length
     returns)

@@ -1,5 +1,5 @@
 use borrow.Author.Needs.{needs}
-use Rattle.check2_time_only.proofs.Told.{first-told, task-found}
+use Rattle.check2_time_only.proofs.Told.{first-told}
 use Rattle.check2_time_only.proofs.Spans.{is-activity}
 use native.Mathlib.Omega.{arith}
 use Prim.Native.Nat.{ℕ}
@@ -13,10 +13,10 @@ use Rattle.check2_time_only.proofs.check_first.Statement.{statement}
 use Rattle.check2_time_only.proofs.check_first.Tie as tie
 
 gather-windows-requires : tie.Need-gather-windows-requires
-gather-windows-requires c κs = let h = placed _ _ _ _ ((c .before .pre .4)) .within in ((c .before .pre .1), omega (arith, h), inl (refl, found-self _ _ _ _ ((c .before .pre .4))), length-replicate {A = ℕ} 2400 0, all-fit _ _ _ ((c .before .pre .1 .short)))
+gather-windows-requires c κs = let h = placed _ _ _ _ (c .before .pre .4) .within in ((c .before .pre .1), omega (arith, h), inl (refl, found-self _ _ _ _ (c .before .pre .4)), length-replicate {A = ℕ} 2400 0, all-fit _ _ _ (c .before .pre .1 .short))
 
 is-short-requires : tie.Need-is-short-requires
-is-short-requires c κs = ((c .before .before .before .pre .2), is-activity _ _ _ ((c .before .before .before .pre .4)), (c .before .before .before .pre .3), (c .before .gather-windows .ensures .0 .size), (c .before .gather-windows .ensures .0 .calendar))
+is-short-requires c κs = ((c .before .before .before .pre .2), is-activity _ _ _ (c .before .before .before .pre .4), (c .before .before .before .pre .3), (c .before .gather-windows .ensures .0 .size), (c .before .gather-windows .ensures .0 .calendar))
 
 is-outside-requires : tie.Need-is-outside-requires
 is-outside-requires c κs = ((c .before .before .before .gather-windows .ensures .0 .size), (c .before .before .before .gather-windows .ensures .0 .calendar))
@@ -27,11 +27,8 @@ instant-at-requires c κs = search needs
 is-early-requires : tie.Need-is-early-requires
 is-early-requires c κs = search needs
 
-owner-of-requires : tie.Need-owner-of-requires
-owner-of-requires c κs = ((c .before .before .before .before .before .before .before .before .pre .0), (placed _ _ _ _ ((c .before .before .before .before .before .before .before .before .pre .4)) .within))
-
-instant-at-requires-2 : tie.Need-instant-at-requires-2
-instant-at-requires-2 c κs = search needs
+task-release-requires : tie.Need-task-release-requires
+task-release-requires c κs = ((c .before .before .before .before .before .before .before .before .pre .0), placed _ _ _ _ (c .before .before .before .before .before .before .before .before .pre .4) .within, is-activity _ _ _ (c .before .before .before .before .before .before .before .before .pre .4))
 
 is-early-requires-2 : tie.Need-is-early-requires-2
 is-early-requires-2 c κs = search needs
@@ -55,7 +52,7 @@ same-length : tie.Need-same-length
 same-length c = search needs
 
 returns : tie.Need-returns
-returns c = first-told _ _ _ _ ((c .before .before .before .before .before .before .before .before .before .before .before .before .id-at .ensures .0)) (c .before .before .before .before .before .before .before .before .before .before .before .before .before .before .before .before .before .before .before .before .is-short .ensures) (c .before .before .before .before .before .before .before .before .before .before .before .before .before .before .before .before .before .before .is-outside .ensures) (c .before .before .before .before .before .before .before .before .before .before .before .before .before .before .before .before .before .instant-at .ensures) (c .before .before .before .before .before .before .before .before .before .before .before .before .before .before .before .before .is-early .ensures) (task-found _ _ 0 ((c .before .before .before .before .before .before .before .before .before .before .before .before .before .before .before .before .before .before .before .before .before .before .before .before .pre .2)) (placed _ _ _ _ ((c .before .before .before .before .before .before .before .before .before .before .before .before .before .before .before .before .before .before .before .before .before .before .before .before .pre .4)) .within) (is-activity _ _ _ ((c .before .before .before .before .before .before .before .before .before .before .before .before .before .before .before .before .before .before .before .before .before .before .before .before .pre .4))) (c .before .before .before .before .before .before .before .before .before .before .before .before .before .before .before .owner-of .ensures)) (c .before .before .before .before .before .before .before .before .before .before .before .before .before .before .instant-at2 .ensures) (c .before .before .before .before .before .before .before .before .before .before .before .before .before .is-early2 .ensures) (c .before .before .before .before .before .before .before .before .before .before .tell .ensures) (c .before .before .before .before .before .before .before .tell2 .ensures) (c .before .before .before .before .tell3 .ensures) (c .before .tell4 .ensures)
+returns c = first-told _ _ _ _ (c .before .before .before .before .before .before .before .before .before .before .before .before .id-at .ensures .0) (c .before .before .before .before .before .before .before .before .before .before .before .before .before .before .before .before .before .before .before .is-short .ensures) (c .before .before .before .before .before .before .before .before .before .before .before .before .before .before .before .before .before .is-outside .ensures) (c .before .before .before .before .before .before .before .before .before .before .before .before .before .before .before .before .instant-at .ensures) (c .before .before .before .before .before .before .before .before .before .before .before .before .before .before .before .is-early .ensures) (c .before .before .before .before .before .before .before .before .before .before .before .before .before .before .task-release .ensures) (c .before .before .before .before .before .before .before .before .before .before .before .before .before .is-early2 .ensures) (c .before .before .before .before .before .before .before .before .before .before .tell .ensures) (c .before .before .before .before .before .before .before .tell2 .ensures) (c .before .before .before .before .tell3 .ensures) (c .before .tell4 .ensures)
 
 pub check-first-spec : {M : Type 1} → statement M
 check-first-spec =
@@ -66,8 +63,7 @@ check-first-spec =
     is-outside-requires
     instant-at-requires
     is-early-requires
-    owner-of-requires
-    instant-at-requires-2
+    task-release-requires
     is-early-requires-2
     id-at-requires
     tell-requires

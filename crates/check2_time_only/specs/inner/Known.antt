@@ -8,7 +8,8 @@ use lib.IntN.{ℤ}
 use Rattle.loops.specs.Lists.{option, isEmpty}
 use Rattle.rows.specs.Cells.{num}
 use Rattle.sheet.specs.declared.Found.{Found}
-use Rattle.sheet.specs.Places.{foundOf, placeOf}
+use Rattle.sheet.specs.Places.{placeOf}
+use Rattle.sheet.specs.inner.Found.{foundOf}
 use Rattle.model.specs.Sheet.{sheet}
 use Rattle.model.specs.Activity.{requirements}
 use Rattle.model.specs.inner.Records.{activityOf, spanOf}

@@ -1,5 +1,5 @@
 use mathlib.Core.Path.{sym, ap, _∙_}
-use Rattle.sheet.specs.Places.{foundOf}
+use Rattle.sheet.specs.inner.Found.{foundOf}
 use Rattle.check3_parts.proofs.Whole.{activity-told, activity-quiet}
 use borrow.Author.Needs.{needs}
 use Rattle.check3_parts.proofs.check_activity.Statement.{statement}

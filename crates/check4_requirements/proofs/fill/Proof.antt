@@ -25,10 +25,10 @@ first-owned-requires : tie.Need-first-owned-requires Inv-loop μ-loop
 first-owned-requires c κs = search needs
 
 loop-holds : tie.Need-loop-holds Inv-loop μ-loop
-loop-holds c = (search needs, claiming-start _ _ _ _ _ (c .first-owned .ensures) ((c .before .before .pre .5)))
+loop-holds c = (search needs, claiming-start _ _ _ _ _ (c .first-owned .ensures) (c .before .before .pre .6))
 
 claim-at-requires : tie.Need-claim-at-requires Inv-loop μ-loop
-claim-at-requires c κs = ((c .before .before .before .before .before .before .pre .0), (c .before .before .before .before .before .before .pre .1), (c .before .before .before .before .before .before .pre .3), omega (arith, (c .before .before .loop-test .taken), (c .before .before .before .before .before .row-count .ensures)), kind-here _ _ _ (c .before .before .loop-test .taken) (c .before .before .before .before .before .row-count .ensures) ((c .before .before .before .loop .inv .0)))
+claim-at-requires c κs = ((c .before .before .before .before .before .before .pre .0), (c .before .before .before .before .before .before .pre .1), (c .before .before .before .before .before .before .pre .3), (c .before .before .before .before .before .before .pre .4), omega (arith, (c .before .before .loop-test .taken), (c .before .before .before .before .before .row-count .ensures)), kind-here _ _ _ (c .before .before .loop-test .taken) (c .before .before .before .before .before .row-count .ensures) ((c .before .before .before .loop .inv .0)))
 
 next-owned-requires : tie.Need-next-owned-requires Inv-loop μ-loop
 next-owned-requires c κs = search needs

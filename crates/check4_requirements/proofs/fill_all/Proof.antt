@@ -2,6 +2,8 @@ use Rattle.loops.specs.inner.Chain.{Stands}
 use Rattle.rows.specs.Cells.{rowCount}
 use Rattle.sheet.specs.inner.Index.{ownedBy}
 use Prim.Native.Nat.{_-_}
+use native.Mathlib.Omega.{arith}
+use Rattle.check4_requirements.proofs.Along.{kind-here}
 use Rattle.findings.specs.inner.Sink.{sink}
 use Rattle.findings.proofs.SinkLaws.{kept}
 use Rattle.check4_requirements.proofs.Claiming.{Filling, filling-start, filling-turn, filling-end}
@@ -28,7 +30,7 @@ loop-holds : tie.Need-loop-holds Inv-loop μ-loop
 loop-holds c = (search needs, filling-start _ _ _ _ _ (c .first-owned .ensures) (c .before .free-in .ensures))
 
 fill-requires : tie.Need-fill-requires Inv-loop μ-loop
-fill-requires c κs = ((c .before .before .before .before .before .before .before .pre .0), (c .before .before .before .before .before .before .before .pre .1), (c .before .before .before .before .before .before .before .pre .2), (c .before .before .before .loop .inv .0 .high), (c .before .before .before .before .before .before .before .pre .4), (c .before .before .before .loop .inv .1 .size))
+fill-requires c κs = ((c .before .before .before .before .before .before .before .pre .0), (c .before .before .before .before .before .before .before .pre .1), (c .before .before .before .before .before .before .before .pre .2), omega (arith, (c .before .before .loop-test .taken), (c .before .before .before .before .before .before .row-count .ensures)), kind-here _ _ _ (c .before .before .loop-test .taken) (c .before .before .before .before .before .before .row-count .ensures) (c .before .before .before .loop .inv .0), (c .before .before .before .before .before .before .before .pre .4), (c .before .before .before .loop .inv .1 .size))
 
 next-owned-requires : tie.Need-next-owned-requires Inv-loop μ-loop
 next-owned-requires c κs = search needs

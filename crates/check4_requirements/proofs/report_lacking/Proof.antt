@@ -2,7 +2,9 @@ use Rattle.loops.specs.inner.Chain.{Stands, only}
 use Rattle.loops.specs.Range.{collect}
 use Rattle.rows.specs.Cells.{rowCount}
 use Rattle.sheet.specs.inner.Index.{ownedBy}
+use Rattle.sheet.proofs.Lookups.{placed}
 use mathlib.Core.Path.{_≡_}
+use native.Mathlib.Omega.{arith}
 use Prim.Native.Nat.{_-_}
 use Rattle.findings.specs.inner.Sink.{sink, emit}
 use Rattle.findings.proofs.SinkLaws.{kept}
@@ -15,7 +17,7 @@ use Rattle.check4_requirements.proofs.report_lacking.Statement.{stateme
 use Rattle.check4_requirements.proofs.report_lacking.Tie as tie
 
 abbrev Inv-loop : tie.InvT-loop
-Inv-loop rows owned q r x out₀ n end f m₀ k₀ out m k = Stands (ownedBy rows q 7) (rowCount rows) k × (sink out m ≡ emit (sink out₀ n) (collect (only (ownedBy rows q 7) (lackingFor rows r x)) k))
+Inv-loop rows owned q r x out₀ n end f m₀ k₀ out m k = Stands (ownedBy rows q 7) (rowCount rows) k × (sink out m ≡ emit (sink out₀ n) (collect (only (ownedBy rows q 7) (lackingFor rows x)) k))
 
 abbrev μ-loop : tie.MeasureT-loop
 μ-loop rows owned q r x out₀ n end f m₀ k₀ out m k = end - k
@@ -24,7 +26,7 @@ row-count-requires : tie.Need-row-count-requires Inv-loop μ-loop
 row-count-requires c κs = search needs
 
 first-owned-requires : tie.Need-first-owned-requires Inv-loop μ-loop
-first-owned-requires c κs = search needs
+first-owned-requires c κs = ((c .before .pre .0), omega (arith, (c .before .pre .1)))
 
 loop-holds : tie.Need-loop-holds Inv-loop μ-loop
 loop-holds c = (search needs, emit-first _ _ (c .first-owned .ensures) (silent-only _ _))
@@ -32,8 +34,8 @@ loop-holds c = (search needs, emit-first _ _ (c .first-owned .ensures) (silent-o
 num-at-requires : tie.Need-num-at-requires Inv-loop μ-loop
 num-at-requires c κs = search needs
 
-names-requires : tie.Need-names-requires Inv-loop μ-loop
-names-requires c κs = search needs
+has-skill-requires : tie.Need-has-skill-requires Inv-loop μ-loop
+has-skill-requires c κs = let h = placed _ 11 _ _ (c .before .before .before .before .before .pre .2) .within in ((c .before .before .before .before .before .pre .0), omega (arith, h))
 
 report-requires : tie.Need-report-requires Inv-loop μ-loop
 report-requires c κs = search needs
@@ -46,7 +48,7 @@ loop-less c = search needs
 
 loop-again : tie.Need-loop-again Inv-loop μ-loop
 unfolding lackingFor
-loop-again c = (search needs, emit-turn _ _ _ (c .next-owned .ensures) (c .before .before .before .before .before .before .loop-test .taken) (c .before .before .before .before .before .before .before .before .before .row-count .ensures) ((c .before .before .before .before .before .before .before .loop .inv .0)) ((c .before .before .before .before .before .before .before .loop .inv .1)) (rw ((c .before .before .before .before .names .ensures), (c .before .before .before .before .before .num-at .ensures)) at (c .before .before .report .ensures)))
+loop-again c = (search needs, emit-turn _ _ _ (c .next-owned .ensures) (c .before .before .before .before .before .before .loop-test .taken) (c .before .before .before .before .before .before .before .before .before .row-count .ensures) ((c .before .before .before .before .before .before .before .loop .inv .0)) ((c .before .before .before .before .before .before .before .loop .inv .1)) (rw (c .before .before .before .before .before .before .before .before .before .before .pre .2) (rw ((c .before .before .before .before .has-skill .ensures), (c .before .before .before .before .before .num-at .ensures)) at (c .before .before .report .ensures))))
 
 same-length : tie.Need-same-length Inv-loop μ-loop
 same-length c = kept _ _ _ ((c .before .loop .inv .1))
@@ -55,4 +57,4 @@ returns : tie.Need-returns Inv-loop μ-loop
 returns c = emit-end _ _ _ _ _ (c .loop-test .left) (c .before .before .before .row-count .ensures) ((c .before .loop .inv .0)) ((c .before .loop .inv .1))
 
 pub report-lacking-spec : {M : Type 1} → statement M
-report-lacking-spec = tie.close (tie.spec Inv-loop μ-loop row-count-requires first-owned-requires loop-holds num-at-requires names-requires report-requires next-owned-requires loop-less loop-again same-length returns)
+report-lacking-spec = tie.close (tie.spec Inv-loop μ-loop row-count-requires first-owned-requires loop-holds num-at-requires has-skill-requires report-requires next-owned-requires loop-less loop-again same-length returns)

@@ -8,7 +8,8 @@ use Rattle.findings.specs.inner.Sink.{sink, emit}
 use Rattle.findings.proofs.SinkLaws.{kept}
 use Rattle.findings.proofs.Reports.{emit-first, emit-end}
 use Rattle.loops.proofs.Walks.{silent-only}
-use Rattle.check4_requirements.proofs.Along.{emit-turn}
+use native.Mathlib.Omega.{arith}
+use Rattle.check4_requirements.proofs.Along.{emit-turn, kind-here}
 use Rattle.check4_requirements.specs.inner.ByRow.{missingAt}
 use borrow.Author.Needs.{needs}
 use Rattle.check4_requirements.proofs.report_unaccompanied.Statement.{statement}
@@ -30,7 +31,7 @@ loop-holds : tie.Need-loop-holds Inv-loop μ-loop
 loop-holds c = (search needs, emit-first _ _ (c .first-owned .ensures) (silent-only _ _))
 
 report-missing-at-requires : tie.Need-report-missing-at-requires Inv-loop μ-loop
-report-missing-at-requires c κs = search needs
+report-missing-at-requires c κs = ((c .before .before .before .before .before .pre .0), (c .before .before .before .before .before .pre .1), (c .before .before .before .before .before .pre .2), (c .before .before .before .before .before .pre .3), omega (arith, (c .before .loop-test .taken), (c .before .before .before .before .row-count .ensures)), kind-here _ _ _ (c .before .loop-test .taken) (c .before .before .before .before .row-count .ensures) (c .before .before .loop .inv .0), (c .before .before .before .before .before .pre .4))
 
 next-owned-requires : tie.Need-next-owned-requires Inv-loop μ-loop
 next-owned-requires c κs = search needs

@@ -41,7 +41,7 @@ loop-less : tie.Need-loop-less Inv-loop μ-loop
 loop-less c = search needs
 
 loop-again : tie.Need-loop-again Inv-loop μ-loop
-loop-again c = (search needs, (c .before .before .check-resource .ensures .1), emit-next _ _ (c .next-booked .ensures) (told-silent _) (c .before .before .before .before .before .before .before .loop .inv .2) (told-first _ _ (c .before .before .before .before .before .before .loop-test .taken) (c .before .before .before .before .before .before .before .before .before .row-count .ensures) (c .before .before .before .before .before .before .before .loop .inv .0) (c .before .before .before .before .before .id-at .ensures .0) (c .before .before .check-resource .ensures .0)))
+loop-again c = (search needs, (c .before .before .check-resource .ensures .1 .size), emit-next _ _ (c .next-booked .ensures) (told-silent _) (c .before .before .before .before .before .before .before .loop .inv .2) (told-first _ _ (c .before .before .before .before .before .before .loop-test .taken) (c .before .before .before .before .before .before .before .before .before .row-count .ensures) (c .before .before .before .before .before .before .before .loop .inv .0) (c .before .before .before .before .before .id-at .ensures .0) (c .before .before .check-resource .ensures .0)))
 
 same-length : tie.Need-same-length Inv-loop μ-loop
 same-length c = kept _ _ _ (c .before .loop .inv .2)

@@ -1,5 +1,5 @@
 use Rattle.check5_capacity.proofs.Told.{below-zero, from-zero}
-use Rattle.rows.proofs.Signs.{cast}
+use Rattle.loops.proofs.SignLaws.{cast}
 use Rattle.check5_capacity.proofs.exceeds.Statement.{statement}
 use Rattle.check5_capacity.proofs.exceeds.Tie as tie
 

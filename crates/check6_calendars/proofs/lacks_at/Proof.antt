@@ -1,6 +1,6 @@
 use borrow.Author.Tests.{not-true, not-false}
 use mathlib.Core.Path.{sym, ap, _∙_}
-use Rattle.sheet.specs.Places.{foundOf}
+use Rattle.sheet.specs.inner.Found.{foundOf}
 use Rattle.sheet.proofs.Links.{books}
 use Rattle.check6_calendars.proofs.Resumable.{lacks-none, lacks-absent, lacks-external, lacks-is, lacks-found}
 use borrow.Author.Needs.{needs}

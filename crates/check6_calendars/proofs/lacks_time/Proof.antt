@@ -26,10 +26,10 @@ mul-cs : tie.Need-mul-cs
 mul-cs c = search needs
 
 array-share-prefix-cs : tie.Need-array-share-prefix-cs
-array-share-prefix-cs c = omega (arith, (c .before .before .before .lay-calendars .ensures .count), (c .before .before .before .lay-calendars .ensures .pairs))
+array-share-prefix-cs c = omega (arith, (c .before .before .before .lay-calendars .ensures .few), (c .before .before .before .lay-calendars .ensures .pairs-size))
 
 slice-aggregate-is-uncovered : tie.Need-slice-aggregate-is-uncovered
-slice-aggregate-is-uncovered c = sym (length-take-le _ _ (omega (arith, (c .before .before .before .before .lay-calendars .ensures .count), (c .before .before .before .before .lay-calendars .ensures .pairs))))
+slice-aggregate-is-uncovered c = sym (length-take-le _ _ (omega (arith, (c .before .before .before .before .lay-calendars .ensures .few), (c .before .before .before .before .lay-calendars .ensures .pairs-size))))
 
 slice-aggregate-is-uncovered-2 : tie.Need-slice-aggregate-is-uncovered-2
 slice-aggregate-is-uncovered-2 c = search needs

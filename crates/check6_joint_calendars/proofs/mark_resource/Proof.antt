@@ -1,6 +1,6 @@
 use mathlib.Core.Path.{refl, sym, ap, _∙_}
 use native.Mathlib.Omega.{arith}
-use Rattle.sheet.specs.Places.{foundOf}
+use Rattle.sheet.specs.inner.Found.{foundOf}
 use Rattle.sheet.proofs.Lookups.{placed}
 use Rattle.pieces.proofs.Chains.{piece-kind}
 use Rattle.check6_joint_calendars.proofs.Marking.{mark-more, mark-none, mark-other}

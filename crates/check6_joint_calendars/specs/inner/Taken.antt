@@ -1,7 +1,7 @@
 -- Which resources the bookings of a piece are on, by row. Assumes nothing.
-use Prim.Native.Nat.{ℕ, _<_}
+use Prim.Native.Nat.{ℕ, _<_, _≤_}
 use mathlib.Core.Path.{_≡_}
-use mathlib.Core.Bool.{Bool, true, false, _&&_}
+use mathlib.Core.Bool.{Bool, true, false, cond, _&&_}
 use mathlib.Core.List.{List}
 use mathlib.Core.Option.{some}
 use lib.Dec.{eqb}
@@ -28,10 +28,11 @@ taken rows k r = takenBelow rows k (rowCount rows) r
 abbrev pub marked : List ℕ → ℕ → Bool
 marked marks r = eqb (getD marks r 0) 1
 
--- marks, 1 at the row of each resource that is taken among the first i rows
+-- marks, 1 at the row of each resource that is taken among the first i rows, 0 at the others and past the last row
 pub record Marked (rows : List ℤ) (k i : ℕ) (marks : List ℕ) : Type 0 where
   pub size : length marks ≡ 800
-  pub at : (r : ℕ) → r < rowCount rows → marked marks r ≡ takenBelow rows k i r
+  pub at : (r : ℕ) → r < rowCount rows → getD marks r 0 ≡ cond (takenBelow rows k i r) 1 0
+  pub past : (r : ℕ) → rowCount rows ≤ r → r < 800 → getD marks r 0 ≡ 0
 
 -- the marks of rows are at resources
 pub record OnResources (rows : List ℤ) (marks : List ℕ) : Type 0 where

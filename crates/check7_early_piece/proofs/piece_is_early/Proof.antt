@@ -1,5 +1,5 @@
 use mathlib.Core.Path.{sym, ap, _∙_}
-use Rattle.sheet.specs.Places.{foundOf}
+use Rattle.sheet.specs.inner.Found.{foundOf}
 use Rattle.check7_early_piece.proofs.Judged.{some-booked, none-booked}
 use borrow.Author.Needs.{needs}
 use Rattle.check7_early_piece.proofs.piece_is_early.Statement.{statement}

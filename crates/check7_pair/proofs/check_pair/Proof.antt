@@ -1,5 +1,5 @@
 use mathlib.Core.Path.{sym, ap, _∙_}
-use Rattle.sheet.specs.Places.{foundOf}
+use Rattle.sheet.specs.inner.Found.{foundOf}
 use Rattle.model.proofs.Accepting.{accepted}
 use Rattle.check7_end_to_start.proofs.Bounds.{span-most}
 use Rattle.check7_transport.proofs.Bookings.{activity-at}

@@ -1,6 +1,6 @@
 use mathlib.Core.Path.{sym, ap, _∙_}
 use native.Mathlib.Omega.{arith}
-use Rattle.sheet.specs.Places.{foundOf}
+use Rattle.sheet.specs.inner.Found.{foundOf}
 use Rattle.sheet.proofs.Lookups.{placed}
 use Rattle.check7_transport.proofs.Moves.{moves-blind, move-is, no-move, move-most, unmoved}
 use borrow.Author.Needs.{needs}

@@ -1,5 +1,5 @@
 use mathlib.Core.Path.{sym, ap, _∙_}
-use Rattle.sheet.specs.Places.{foundOf}
+use Rattle.sheet.specs.inner.Found.{foundOf}
 use Rattle.findings.proofs.SinkLaws.{emit-none}
 use Rattle.check9_constraints.specs.inner.Bookings.{pairsAt}
 use borrow.Author.Needs.{needs}

@@ -1,5 +1,5 @@
 use mathlib.Core.Path.{sym, ap, _∙_}
-use Rattle.sheet.specs.Places.{foundOf}
+use Rattle.sheet.specs.inner.Found.{foundOf}
 use borrow.Author.Tests.{lt-ltb, le-ltb}
 use Rattle.check9_constraints.specs.inner.Bookings.{pairAt}
 use borrow.Author.Needs.{needs}

@@ -1,18 +1,16 @@
 -- The members of a no-overlap constraint and their bookings, by rows. Assumes nothing.
-use Prim.Native.Nat.{ℕ, _<_, _≤_}
-use mathlib.Core.Path.{_≡_}
+use Prim.Native.Nat.{ℕ}
 use mathlib.Core.Bool.{Bool, false, cond, _&&_}
 use mathlib.Core.Option.{Option, none}
 use mathlib.Core.List.{List, []}
 use lib.IntN.{ℤ, pos}
 use lib.Dec.{ltb}
-use lib.ListN.{getD}
 use Rattle.loops.specs.Lists.{given, option}
 use Rattle.loops.specs.Range.{collect}
 use Rattle.loops.specs.Search.{firstPlace}
 use Rattle.calendar.specs.Clock.{clock}
 use Rattle.rows.specs.Cells.{rowCount, num, is}
-use Rattle.sheet.specs.inner.Index.{orEnd}
+use Rattle.sheet.specs.inner.Kept.{Kept}
 use Rattle.findings.specs.declared.Violation.{Violation}
 use Rattle.model.specs.Schedule.{capacityExceeded}
 
@@ -25,11 +23,9 @@ unfoldable pub memberBooking : List ℤ → ℕ → ℕ → ℕ → Option ℕ
 memberBooking rows place resource k =
     cond (is rows k 0 22 && is rows k 1 place) (firstPlace (bookedOn rows (num rows k 2) resource) (rowCount rows)) none
 
--- the table that holds them, with the number of rows for none; past the last row it is 0
-pub record Booked (rows : List ℤ) (place resource : ℕ) (t : List ℕ) : Type 0 where
-  pub short : rowCount rows ≤ 800
-  pub at : (k : ℕ) → k < rowCount rows → getD t k 0 ≡ orEnd rows (memberBooking rows place resource k)
-  pub past : (k : ℕ) → rowCount rows ≤ k → getD t k 0 ≡ 0
+-- the table that keeps them
+abbrev pub Booked : List ℤ → ℕ → ℕ → List ℕ → Type 0
+Booked rows place resource t = Kept rows (memberBooking rows place resource) t
 
 -- the bookings of rows a and b overlap
 unfoldable pub overlapAt : List ℤ → ℕ → ℕ → Bool

@@ -1,12 +1,12 @@
-use Rattle.derived_times.specs.inner.Rows.{timedAt}
-use Rattle.resource_timing.specs.Durations.{start, timed, pieceDuration}
+use Rattle.derived_times.specs.inner.Rows.{columnsOf, timedAt}
+use Rattle.resource_timing.specs.Durations.{start, pieceDuration}
 use Rattle.resource_timing.specs.inner.Limits.{within, derivedOf}
 use Rattle.resource_timing.proofs.Laws.{derived-known}
 use Rattle.rows.specs.Cells.{rowCount}
 use Rattle.loops.specs.Range.{fold}
 use Rattle.derived_times.proofs.Derivation.{derived-is}
-use Rattle.derived_times.proofs.Parts.{activity-within, owner-is, base-amounts, columns-are}
-use mathlib.Core.Path.{ap, _∙_}
+use Rattle.derived_times.proofs.Parts.{activity-within, owner-is, columns-are}
+use mathlib.Core.Path.{ap, ap₂, _∙_}
 use borrow.Author.Needs.{needs}
 use Rattle.derived_times.proofs.duration_on.Statement.{statement}
 use Rattle.derived_times.proofs.duration_on.Tie as tie
@@ -27,13 +27,14 @@ num-at-requires-3 : tie.Need-num-at-requires-3
 num-at-requires-3 c κs = search needs
 
 duration-requires : tie.Need-duration-requires
-duration-requires c κs = ((c .before .before .before .before .piece-at .ensures .1), rw (columns-are _ _ (c .before .before .num-at .ensures) (c .before .num-at2 .ensures) (c .num-at3 .ensures)) (base-amounts _ ((c .before .before .before .before .before .pre .0)) _ _ ((c .before .before .before .before .before .pre .6))))
-
-duration-requires-2 : tie.Need-duration-requires-2
-duration-requires-2 c κs = search needs
+duration-requires c κs = search needs
 
 returns : tie.Need-returns
-returns c = (c .duration2 .ensures) ∙ ap (λ t. derivedOf t (c .before .duration .result)) (c .before .before .before .before .before .timed-of .ensures) ∙ derived-known (fold (timedAt ((c .before .before .before .before .before .before .before .args .rows .now)) (c .before .before .before .before .before .before .before .args .k) (c .before .before .before .before .before .before .piece-at .result)) start (rowCount ((c .before .before .before .before .before .before .before .args .rows .now)))) (c .before .duration .result) ∙ ap within (ap (λ b. timed b (fold (timedAt ((c .before .before .before .before .before .before .before .args .rows .now)) (c .before .before .before .before .before .before .before .args .k) (c .before .before .before .before .before .before .piece-at .result)) start (rowCount ((c .before .before .before .before .before .before .before .args .rows .now))))) ((c .before .duration .ensures) ∙ ap (pieceDuration (c .before .before .before .before .before .before .piece-at .result)) (columns-are _ _ (c .before .before .before .before .num-at .ensures) (c .before .before .before .num-at2 .ensures) (c .before .before .num-at3 .ensures))) ∙ derived-is _ ((c .before .before .before .before .before .before .before .pre .0)) _ _ _ ((c .before .before .before .before .before .before .before .pre .4)) ((c .before .before .before .before .before .before .before .pre .5)) ((c .before .before .before .before .before .before .before .pre .6)) ((c .before .before .before .before .before .before .piece-at .ensures .0)))
+returns c =
+    ((c .duration .ensures))
+    ∙ ap₂ derivedOf ((c .before .before .before .before .timed-of .ensures)) (ap (pieceDuration ((c .before .before .before .before .before .piece-at .result))) (columns-are _ _ ((c .before .before .before .num-at .ensures)) ((c .before .before .num-at2 .ensures)) ((c .before .num-at3 .ensures))))
+    ∙ derived-known (fold (timedAt ((c .before .before .before .before .before .before .args .rows .now)) ((c .before .before .before .before .before .before .args .k)) ((c .before .before .before .before .before .piece-at .result))) start (rowCount ((c .before .before .before .before .before .before .args .rows .now)))) (pieceDuration ((c .before .before .before .before .before .piece-at .result)) (columnsOf ((c .before .before .before .before .before .before .args .rows .now)) ((c .before .before .before .before .before .before .args .o)) 4))
+    ∙ ap within (derived-is _ ((c .before .before .before .before .before .before .pre .0)) _ _ _ ((c .before .before .before .before .before .before .pre .4)) ((c .before .before .before .before .before .before .pre .5)) ((c .before .before .before .before .before .before .pre .6)) ((c .before .before .before .before .before .piece-at .ensures .0)))
 
 pub duration-on-spec : {M : Type 1} → statement M
 duration-on-spec =
@@ -45,5 +46,4 @@ duration-on-spec =
     num-at-requires-2
     num-at-requires-3
     duration-requires
-    duration-requires-2
     returns)

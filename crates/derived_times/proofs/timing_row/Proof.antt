@@ -1,7 +1,7 @@
 use mathlib.Core.Path.{refl, sym, ap, _∙_}
 use native.Mathlib.Omega.{arith}
 use borrow.Author.Tests.{not-true, not-false}
-use Rattle.sheet.specs.Places.{foundOf}
+use Rattle.sheet.specs.inner.Found.{foundOf}
 use Rattle.sheet.specs.inner.Index.{ownerKind}
 use Rattle.sheet.proofs.Links.{books}
 use Rattle.sheet.proofs.Lookups.{placed}

@@ -1,17 +1,15 @@
 -- Timings and the parts of bookings as rows, and one booking's step of a derived time. Assumes nothing.
-use Prim.Native.Nat.{ℕ, _+_, _<_, _≤_}
-use mathlib.Core.Path.{_≡_}
+use Prim.Native.Nat.{ℕ, _+_}
 use mathlib.Core.Bool.{Bool, cond, not, _&&_, _||_}
 use mathlib.Core.List.{List}
 use mathlib.Core.Option.{Option, none, some}
 use lib.Dec.{ltb}
 use lib.IntN.{ℤ}
 use lib.Ieee.{binary64, ofBits}
-use lib.ListN.{getD}
 use Rattle.loops.specs.Lists.{option}
 use Rattle.loops.specs.Search.{firstPlace}
 use Rattle.rows.specs.Cells.{rowCount, cell, num, is}
-use Rattle.sheet.specs.inner.Index.{orEnd}
+use Rattle.sheet.specs.inner.Kept.{Kept}
 use Rattle.resource_timing.specs.declared.ActivityDuration.{ActivityDuration}
 use Rattle.resource_timing.specs.declared.ResourceTiming.{ResourceTiming}
 use Rattle.resource_timing.specs.declared.ResourceTiming.the-variants.{Speed, Duration}
@@ -54,8 +52,6 @@ module _ (rows : List ℤ) where
       (option (timing (sheet rows) (num rows k 1) (num rows j 3)) f (λ t. timedOn f (pieceTiming piece t)))
       f
 
--- the table that holds them, with the number of rows for none; past the last row it is 0
-pub record Timings (rows : List ℤ) (t : List ℕ) : Type 0 where
-  pub short : rowCount rows ≤ 800
-  pub at : (k : ℕ) → k < rowCount rows → getD t k 0 ≡ orEnd rows (timingPlace rows k)
-  pub past : (k : ℕ) → rowCount rows ≤ k → getD t k 0 ≡ 0
+-- the table that keeps them
+abbrev pub Timings : List ℤ → List ℕ → Type 0
+Timings rows t = Kept rows (timingPlace rows) t

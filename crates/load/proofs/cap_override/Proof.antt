@@ -7,7 +7,8 @@ use Rattle.loops.specs.Range.{fold}
 use Rattle.loops.specs.inner.Chain.{Stands, onlyAt}
 use Rattle.loops.proofs.Walks.{fold-first, fold-end, quiet-only, only-next}
 use Rattle.rows.specs.Cells.{rowCount}
-use Rattle.sheet.specs.Places.{foundOf, ofKind}
+use Rattle.sheet.specs.Places.{ofKind}
+use Rattle.sheet.specs.inner.Found.{foundOf}
 use Rattle.load.proofs.cap_override.Statement.{statement}
 use Rattle.load.proofs.cap_override.Tie as tie
 

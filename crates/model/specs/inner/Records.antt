@@ -1,7 +1,6 @@
 -- What a row of a kind stands for, read by its columns: functions over the rows are handed a row's place, and their contracts speak of these.
 -- Assumes nothing.
 use Prim.Native.Nat.{ℕ}
-use mathlib.Core.Bool.{Bool}
 use mathlib.Core.List.{List}
 use mathlib.Core.Option.{Option}
 use lib.IntN.{ℤ, pos}
@@ -10,7 +9,7 @@ use Rattle.loops.specs.Search.{countBelow}
 use Rattle.rows.specs.Cells.{cell, num}
 use Rattle.sheet.specs.Places.{named}
 use Rattle.rows.specs.Class.{t?-c}
-use Rattle.model.specs.Sheet.{Sheet, sheet, read, asInt, asNum, asFlag, asInstant}
+use Rattle.model.specs.Sheet.{Sheet, sheet, read, asInt, asNum, asInstant}
 use Rattle.model.specs.Task.{Task}
 use Rattle.model.specs.Activity.{Activity, ResourceRequirement}
 use Rattle.model.specs.Resource.{Resource}
@@ -23,9 +22,6 @@ module _ {T : Type 0} (s : Sheet T) where
 
   abbrev pub numAt : ℕ → ℕ → ℕ
   numAt k c = asNum (s .cell k c)
-
-  abbrev pub flagAt : ℕ → ℕ → Bool
-  flagAt k c = asFlag (s .cell k c)
 
   abbrev pub timeAt : ℕ → ℕ → Option T
   timeAt k c = asInstant (s .cell k c)

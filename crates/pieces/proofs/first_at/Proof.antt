@@ -8,7 +8,7 @@ is-at-requires : tie.Need-is-at-requires
 is-at-requires c κs = search needs
 
 is-first-requires : tie.Need-is-first-requires
-is-first-requires c κs = ((c .before .before .pre .0), (c .before .before .pre .1), (c .before .before .pre .2), (sym (c .before .is-at .ensures) ∙ (c .if1 .taken)))
+is-first-requires c κs = search needs
 
 returns : tie.Need-returns
 unfolding firstOn

@@ -1,5 +1,6 @@
 use borrow.Author.Tests.{eq-eqb, ne-eqb}
 use mathlib.Core.Path.{sym, _∙_}
+use Rattle.pieces.proofs.Chains.{first-kind}
 use Rattle.pieces.proofs.Marks.{mark-is}
 use Rattle.pieces.specs.inner.Bookings.{firstOn}
 use borrow.Author.Needs.{needs}
@@ -10,7 +11,7 @@ element-copy-out-if1 : tie.Need-element-copy-out-if1
 element-copy-out-if1 c = search needs
 
 holds-for-requires : tie.Need-holds-for-requires
-holds-for-requires c κs = search needs
+holds-for-requires c κs = ((c .before .before .pre .0), (c .before .before .pre .1), (c .before .before .pre .2), (c .before .before .pre .4), first-kind _ _ (sym (mark-is (firstOn _ _) ((c .before .before .pre .3 .at) _ ((c .before .before .pre .4)))) ∙ eq-eqb _ _ (c .if1 .taken)))
 
 returns : tie.Need-returns
 returns c = rw (sym (mark-is (firstOn _ _) ((c .before .before .before .pre .3 .at) _ ((c .before .before .before .pre .4)))) ∙ eq-eqb _ _ (c .before .if1 .taken)) (c .holds-for .ensures)

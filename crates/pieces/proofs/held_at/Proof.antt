@@ -8,10 +8,10 @@ is-at-requires : tie.Need-is-at-requires
 is-at-requires c κs = search needs
 
 is-held-requires : tie.Need-is-held-requires
-is-held-requires c κs = ((c .before .before .pre .0), (c .before .before .pre .1), (c .before .before .pre .2), (c .before .before .pre .3), (c .before .before .pre .4), (sym (c .before .is-at .ensures) ∙ (c .if1 .taken)))
+is-held-requires c κs = search needs
 
 returns : tie.Need-returns
-returns c = (c .is-held .ensures) ∙ sym (held-booking _ ((c .before .before .before .pre .0)) _ ((c .before .before .before .pre .4)) (sym (c .before .before .is-at .ensures) ∙ (c .before .if1 .taken)))
+returns c = (c .is-held .ensures) ∙ sym (held-booking _ ((c .before .before .before .pre .0)) _ ((c .before .before .before .pre .5)) (sym (c .before .before .is-at .ensures) ∙ (c .before .if1 .taken)))
 
 returns-2 : tie.Need-returns-2
 returns-2 c = sym (held-none _ _ (sym (c .before .is-at .ensures) ∙ (c .if1 .left)))

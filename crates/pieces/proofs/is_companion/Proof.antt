@@ -1,6 +1,6 @@
 use mathlib.Core.Path.{sym, ap, _∙_}
 use native.Mathlib.Omega.{arith}
-use Rattle.sheet.specs.Places.{foundOf}
+use Rattle.sheet.specs.inner.Found.{foundOf}
 use Rattle.sheet.proofs.Lookups.{placed}
 use Rattle.pieces.proofs.Chains.{companions-blind, any-found, none-found, no-companions}
 use borrow.Author.Needs.{needs}

@@ -1,8 +1,7 @@
 use borrow.Author.Needs.{needs}
 use Rattle.pieces.specs.inner.Bookings.{sameBooking}
 use Rattle.pieces.proofs.Chains.{same-blind, not-first, is-first}
-use Rattle.sheet.proofs.Tables.{own-below}
-use Rattle.sheet.specs.inner.Index.{ownedBy}
+use Rattle.sheet.specs.Places.{named}
 use Rattle.rows.specs.Cells.{rowCount}
 use Rattle.loops.proofs.Walks.{any-first, any-next}
 use Rattle.loops.specs.Search.{anyBelow}
@@ -15,19 +14,19 @@ use Rattle.pieces.proofs.is_first.Statement.{statement}
 use Rattle.pieces.proofs.is_first.Tie as tie
 
 abbrev Inv-loop : tie.InvT-loop
-Inv-loop rows links owned k o j₀ j = Stands (ownedBy rows o 23) (rowCount rows) j × (anyBelow (sameBooking rows k) j ≡ false)
+Inv-loop rows kinds k activity j₀ j = Stands (named rows 23 activity) (rowCount rows) j × (anyBelow (sameBooking rows k) j ≡ false)
 
 abbrev μ-loop : tie.MeasureT-loop
-μ-loop rows links owned k o j₀ j = k - j
+μ-loop rows kinds k activity j₀ j = k - j
 
-owner-of-requires : tie.Need-owner-of-requires Inv-loop μ-loop
-owner-of-requires c κs = search needs
+num-at-requires : tie.Need-num-at-requires Inv-loop μ-loop
+num-at-requires c κs = search needs
 
-first-owned-requires : tie.Need-first-owned-requires Inv-loop μ-loop
-first-owned-requires c κs = ((c .before .pre .1), rw (c .owner-of .ensures) (own-below _ _))
+first-named-requires : tie.Need-first-named-requires Inv-loop μ-loop
+first-named-requires c κs = search needs
 
 loop-holds : tie.Need-loop-holds Inv-loop μ-loop
-loop-holds c = (search needs, any-first _ (c .first-owned .ensures) (same-blind _ _ _ ((c .before .before .pre .3)) (c .before .owner-of .ensures)))
+loop-holds c = (search needs, any-first _ (c .first-named .ensures) (same-blind _ _ (c .before .num-at .ensures)))
 
 is-same-requires : tie.Need-is-same-requires Inv-loop μ-loop
 is-same-requires c κs = search needs
@@ -35,14 +34,14 @@ is-same-requires c κs = search needs
 returns : tie.Need-returns Inv-loop μ-loop
 returns c = not-first _ _ _ (c .before .before .loop-test .taken) (sym (c .before .is-same .ensures) ∙ (c .if1 .taken))
 
-next-owned-requires : tie.Need-next-owned-requires Inv-loop μ-loop
-next-owned-requires c κs = ((c .before .before .before .before .before .before .pre .1), (c .before .before .before .loop .inv .0), omega (arith, (c .before .before .loop-test .taken), (c .before .before .before .before .before .before .pre .2)))
+next-named-requires : tie.Need-next-named-requires Inv-loop μ-loop
+next-named-requires c κs = ((c .before .before .before .before .before .before .pre .0), (c .before .before .before .loop .inv .0), omega (arith, (c .before .before .loop-test .taken), (c .before .before .before .before .before .before .pre .1)))
 
 loop-less : tie.Need-loop-less Inv-loop μ-loop
 loop-less c = search needs
 
 loop-again : tie.Need-loop-again Inv-loop μ-loop
-loop-again c = (search needs, any-next _ (c .next-owned .ensures) (same-blind _ _ _ ((c .before .before .before .before .before .before .before .pre .3)) (c .before .before .before .before .before .before .owner-of .ensures)) ((c .before .before .before .before .loop .inv .1)) (sym (c .before .before .is-same .ensures) ∙ (c .before .if1 .left)))
+loop-again c = (search needs, any-next _ (c .next-named .ensures) (same-blind _ _ (c .before .before .before .before .before .before .num-at .ensures)) (c .before .before .before .before .loop .inv .1) (sym (c .before .before .is-same .ensures) ∙ (c .before .if1 .left)))
 
 returns-2 : tie.Need-returns-2 Inv-loop μ-loop
 returns-2 c = is-first _ _ _ (c .loop-test .left) ((c .before .loop .inv .1))
@@ -53,12 +52,12 @@ is-first-spec =
     (tie.spec
     Inv-loop
     μ-loop
-    owner-of-requires
-    first-owned-requires
+    num-at-requires
+    first-named-requires
     loop-holds
     is-same-requires
     returns
-    next-owned-requires
+    next-named-requires
     loop-less
     loop-again
     returns-2)

@@ -1,8 +1,7 @@
 use borrow.Author.Needs.{needs}
 use Rattle.loops.proofs.SearchLaws.{any-hit}
 use Rattle.pieces.proofs.Chains.{firstHolds, first-blind, firsts-enough}
-use Rattle.sheet.proofs.Tables.{own-below}
-use Rattle.sheet.specs.inner.Index.{ownedBy}
+use Rattle.sheet.specs.Places.{named}
 use Rattle.rows.specs.Cells.{rowCount}
 use Rattle.loops.proofs.Walks.{any-first, any-next, any-end}
 use Rattle.loops.specs.Search.{anyBelow}
@@ -15,37 +14,37 @@ use Rattle.pieces.proofs.is_held.Statement.{statement}
 use Rattle.pieces.proofs.is_held.Tie as tie
 
 abbrev Inv-loop : tie.InvT-loop
-Inv-loop rows links owned firsts k n o j₀ j = Stands (ownedBy rows o 23) (rowCount rows) j × (anyBelow (firstHolds rows k) j ≡ false)
+Inv-loop rows kinds links owned firsts k n activity j₀ j = Stands (named rows 23 activity) (rowCount rows) j × (anyBelow (firstHolds rows k) j ≡ false)
 
 abbrev μ-loop : tie.MeasureT-loop
-μ-loop rows links owned firsts k n o j₀ j = n - j
+μ-loop rows kinds links owned firsts k n activity j₀ j = n - j
 
 row-count-requires : tie.Need-row-count-requires Inv-loop μ-loop
 row-count-requires c κs = search needs
 
-owner-of-requires : tie.Need-owner-of-requires Inv-loop μ-loop
-owner-of-requires c κs = search needs
+num-at-requires : tie.Need-num-at-requires Inv-loop μ-loop
+num-at-requires c κs = search needs
 
-first-owned-requires : tie.Need-first-owned-requires Inv-loop μ-loop
-first-owned-requires c κs = ((c .before .before .pre .2), rw (c .owner-of .ensures) (own-below _ _))
+first-named-requires : tie.Need-first-named-requires Inv-loop μ-loop
+first-named-requires c κs = search needs
 
 loop-holds : tie.Need-loop-holds Inv-loop μ-loop
-loop-holds c = (search needs, any-first _ (c .first-owned .ensures) (first-blind _ _ _ ((c .before .before .before .pre .5)) (c .before .owner-of .ensures)))
+loop-holds c = (search needs, any-first _ (c .first-named .ensures) (first-blind _ _ (c .before .num-at .ensures)))
 
 first-holds-requires : tie.Need-first-holds-requires Inv-loop μ-loop
-first-holds-requires c κs = ((c .before .before .before .before .before .pre .0), (c .before .before .before .before .before .pre .1), (c .before .before .before .before .before .pre .2), (c .before .before .before .before .before .pre .3), omega (arith, (c .loop-test .taken), (c .before .before .before .before .row-count .ensures)))
+first-holds-requires c κs = ((c .before .before .before .before .before .pre .0), (c .before .before .before .before .before .pre .2), (c .before .before .before .before .before .pre .3), (c .before .before .before .before .before .pre .4), omega (arith, (c .loop-test .taken), (c .before .before .before .before .row-count .ensures)))
 
 returns : tie.Need-returns Inv-loop μ-loop
 returns c = any-hit _ _ _ _ (c .before .before .loop-test .taken) (c .before .before .before .before .before .before .row-count .ensures) (sym (c .before .first-holds .ensures) ∙ (c .if1 .taken)) ∙ firsts-enough _ _
 
-next-owned-requires : tie.Need-next-owned-requires Inv-loop μ-loop
-next-owned-requires c κs = search needs
+next-named-requires : tie.Need-next-named-requires Inv-loop μ-loop
+next-named-requires c κs = search needs
 
 loop-less : tie.Need-loop-less Inv-loop μ-loop
 loop-less c = search needs
 
 loop-again : tie.Need-loop-again Inv-loop μ-loop
-loop-again c = (search needs, any-next _ (c .next-owned .ensures) (first-blind _ _ _ ((c .before .before .before .before .before .before .before .before .pre .5)) (c .before .before .before .before .before .before .owner-of .ensures)) ((c .before .before .before .before .loop .inv .1)) (sym (c .before .before .first-holds .ensures) ∙ (c .before .if1 .left)))
+loop-again c = (search needs, any-next _ (c .next-named .ensures) (first-blind _ _ (c .before .before .before .before .before .before .num-at .ensures)) (c .before .before .before .before .loop .inv .1) (sym (c .before .before .first-holds .ensures) ∙ (c .before .if1 .left)))
 
 returns-2 : tie.Need-returns-2 Inv-loop μ-loop
 returns-2 c = any-end _ _ _ _ (c .loop-test .left) (c .before .before .before .before .row-count .ensures) ((c .before .loop .inv .0)) ((c .before .loop .inv .1)) ∙ firsts-enough _ _
@@ -57,12 +56,12 @@ is-held-spec =
     Inv-loop
     μ-loop
     row-count-requires
-    owner-of-requires
-    first-owned-requires
+    num-at-requires
+    first-named-requires
     loop-holds
     first-holds-requires
     returns
-    next-owned-requires
+    next-named-requires
     loop-less
     loop-again
     returns-2)

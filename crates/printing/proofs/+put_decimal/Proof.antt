@@ -1,6 +1,7 @@
 use mathlib.Core.Path.{_∙_}
 use native.Mathlib.Omega.{arith}
-use Rattle.printing.proofs.PutLaws.{wrote-last, wrote-digit, wrote-within}
+use Rattle.loops.proofs.StoreLaws.{wrote-within}
+use Rattle.printing.proofs.PutLaws.{wrote-last, wrote-digit}
 use Prim.Native.Nat.{ℕ, _<_}
 use borrow.Fn.Kinds.{In}
 use borrow.Fn.PlainCycle.{Measures, is, falls, and}

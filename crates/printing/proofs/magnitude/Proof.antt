@@ -1,4 +1,5 @@
-use Rattle.printing.proofs.SignLaws.{up-fits, back-fits, back-cast, back-more, back-magnitude, plain-cast}
+use Rattle.loops.proofs.SignLaws.{cast}
+use Rattle.printing.proofs.SignLaws.{up-fits, back-fits, back-cast, back-more, back-magnitude}
 use borrow.Author.Needs.{needs}
 use Rattle.printing.proofs.magnitude.Statement.{statement}
 use Rattle.printing.proofs.magnitude.Tie as tie
@@ -19,7 +20,7 @@ returns : tie.Need-returns
 returns c = back-magnitude _ (c .before .fits .z) (c .if1 .taken)
 
 cast-result-2 : tie.Need-cast-result-2
-cast-result-2 c = plain-cast _ (c .before .fits .z) (c .if1 .left)
+cast-result-2 c = cast _ (c .before .fits .z) (c .if1 .left)
 
 returns-2 : tie.Need-returns-2
 returns-2 c = search needs

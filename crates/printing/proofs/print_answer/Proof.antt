@@ -3,7 +3,7 @@ use native.Mathlib.Omega.{arith}
 use denote.Ref.{now}
 use Rattle.refusals.specs.declared.Answer.{Answer}
 use Rattle.printing.specs.Printed.{printed}
-use Rattle.printing.proofs.PutLaws.{wrote-as}
+use Rattle.loops.proofs.StoreLaws.{wrote-as}
 use borrow.Author.Needs.{needs}
 use Rattle.printing.proofs.print_answer.Statement.{statement}
 use Rattle.printing.proofs.print_answer.Tie as tie

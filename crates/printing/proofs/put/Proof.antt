@@ -1,4 +1,4 @@
-use Rattle.printing.proofs.PutLaws.{wrote-past}
+use Rattle.loops.proofs.StoreLaws.{wrote-past}
 use borrow.Author.Needs.{needs}
 use Rattle.printing.proofs.put.Statement.{statement}
 use Rattle.printing.proofs.put.Tie as tie

@@ -1,5 +1,5 @@
 use Rattle.printing.specs.Printed.{printedAccepted}
-use Rattle.printing.proofs.PutLaws.{wrote-then}
+use Rattle.loops.proofs.StoreLaws.{wrote-then}
 use borrow.Author.Needs.{needs}
 use Rattle.printing.proofs.put_accepted.Statement.{statement}
 use Rattle.printing.proofs.put_accepted.Tie as tie

@@ -1,8 +1,9 @@
 use borrow.Author.Needs.{needs}
 use Prim.Native.Nat.{_-_}
 use lib.ListN.{length, take}
-use Rattle.printing.specs.inner.Wrote.{Wrote}
-use Rattle.printing.proofs.PutLaws.{wrote-none, wrote-within, wrote-next, wrote-all, wrote-long}
+use Rattle.loops.specs.inner.Wrote.{Wrote}
+use Rattle.loops.proofs.StoreLaws.{wrote-none, wrote-within, wrote-long}
+use Rattle.printing.proofs.PutLaws.{wrote-next, wrote-all}
 use Rattle.printing.proofs.put_bytes.Statement.{statement}
 use Rattle.printing.proofs.put_bytes.Tie as tie
 

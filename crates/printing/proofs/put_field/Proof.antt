@@ -2,7 +2,8 @@ use mathlib.Core.Path.{refl}
 use borrow.Author.Needs.{needs, sfits-of}
 use borrow.Author.Tests.{lt-ltb, le-ltb}
 use Rattle.printing.specs.NumberLines.{field}
-use Rattle.printing.proofs.PutLaws.{wrote-then, wrote-number}
+use Rattle.loops.proofs.StoreLaws.{wrote-then}
+use Rattle.printing.proofs.PutLaws.{wrote-number}
 use Rattle.printing.proofs.put_field.Statement.{statement}
 use Rattle.printing.proofs.put_field.Tie as tie
 

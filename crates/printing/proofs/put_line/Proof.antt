@@ -4,8 +4,9 @@ use lib.ListN.{length}
 use borrow.Author.Needs.{needs}
 use Rattle.loops.specs.Range.{collect}
 use Rattle.printing.specs.NumberLines.{field, numberLine}
-use Rattle.printing.specs.inner.Wrote.{Wrote}
-use Rattle.printing.proofs.PutLaws.{wrote-none, wrote-within, wrote-line, wrote-long, wrote-upto}
+use Rattle.loops.specs.inner.Wrote.{Wrote}
+use Rattle.loops.proofs.StoreLaws.{wrote-none, wrote-within, wrote-long}
+use Rattle.printing.proofs.PutLaws.{wrote-line, wrote-upto}
 use Rattle.printing.proofs.put_line.Statement.{statement}
 use Rattle.printing.proofs.put_line.Tie as tie
 

@@ -3,7 +3,8 @@ use native.Mathlib.Omega.{arith}
 use lib.ListN.{length, length-take}
 use borrow.Author.Needs.{needs}
 use Rattle.printing.specs.NumberLines.{numberLines}
-use Rattle.printing.proofs.PutLaws.{wrote-within, wrote-long, wrote-upto}
+use Rattle.loops.proofs.StoreLaws.{wrote-within, wrote-long}
+use Rattle.printing.proofs.PutLaws.{wrote-upto}
 use Rattle.printing.proofs.RestLaws.{Printing, printing-none, printing-next}
 use Rattle.printing.proofs.put_lines.Statement.{statement}
 use Rattle.printing.proofs.put_lines.Tie as tie

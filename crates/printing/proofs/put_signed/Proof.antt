@@ -1,5 +1,4 @@
-use Rattle.printing.proofs.PutLaws.{wrote-as, wrote-then}
-use Rattle.printing.proofs.SignLaws.{spelling-minus, spelling-plain}
+use Rattle.printing.proofs.SignLaws.{wrote-minus, wrote-plain}
 use borrow.Author.Needs.{needs}
 use Rattle.printing.proofs.put_signed.Statement.{statement}
 use Rattle.printing.proofs.put_signed.Tie as tie
@@ -17,7 +16,7 @@ same-length : tie.Need-same-length
 same-length c = search needs
 
 returns : tie.Need-returns
-returns c = wrote-as (spelling-minus _ _ (c .before .before .before .before .before .before .before .before .before .before .before .fits .z) (c .before .before .before .before .before .before .before .before .before .if1 .taken) (c .before .before .before .magnitude .ensures)) (wrote-then _ _ (c .before .before .before .before .before .before .before .put .ensures) (c .before .before .put-decimal .ensures))
+returns c = search (needs, wrote-minus)
 
 magnitude-requires-2 : tie.Need-magnitude-requires-2
 magnitude-requires-2 c κs = search needs
@@ -29,7 +28,7 @@ same-length-2 : tie.Need-same-length-2
 same-length-2 c = search needs
 
 returns-2 : tie.Need-returns-2
-returns-2 c = wrote-as (spelling-plain _ _ (c .before .before .before .before .before .before .before .fits .z) (c .before .before .before .before .before .if1 .left) (c .before .before .before .magnitude2 .ensures)) (c .before .before .put-decimal2 .ensures)
+returns-2 c = search (needs, wrote-plain)
 
 pub put-signed-spec : {M : Type 1} → statement M
 put-signed-spec =

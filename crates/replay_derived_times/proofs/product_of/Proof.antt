@@ -33,7 +33,7 @@ float-from-bits-requires : tie.Need-float-from-bits-requires Inv-loop μ-loop
 float-from-bits-requires c κs = search needs
 
 on-requires : tie.Need-on-requires Inv-loop μ-loop
-on-requires c κs = (tt, tt)
+on-requires c κs = search needs
 
 add-i : tie.Need-add-i Inv-loop μ-loop
 add-i c = search needs

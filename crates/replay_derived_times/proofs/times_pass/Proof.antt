@@ -22,16 +22,16 @@ sevens-requires : tie.Need-sevens-requires
 sevens-requires c κs = search needs
 
 held-of-requires : tie.Need-held-of-requires
-held-of-requires c κs = let fine = sym (c .before .before .before .before .before .index .ensures .verdict) ∙ ap verdictOf (c .before .before .before .enum-told .given .1) in let t = tables-of _ (c .before .before .before .before .before .index .ensures) fine in (accepted _ fine, t .links, t .owned)
+held-of-requires c κs = let fine = sym (c .before .before .before .before .before .before .index .ensures .verdict) ∙ ap verdictOf (c .before .before .before .before .enum-told .given .1) in let t = tables-of _ (c .before .before .before .before .before .before .index .ensures) fine in (accepted _ fine, t .kinds, t .links, t .owned)
 
 slice-aggregate-derived-all : tie.Need-slice-aggregate-derived-all
 slice-aggregate-derived-all c = search needs
 
 derived-all-requires : tie.Need-derived-all-requires
-derived-all-requires c κs = let fine = sym (c .before .before .before .before .before .before .before .before .before .before .index .ensures .verdict) ∙ ap verdictOf (c .before .before .before .before .before .before .before .before .enum-told .given .1) in let t = tables-of _ (c .before .before .before .before .before .before .before .before .before .before .index .ensures) fine in (accepted _ fine, t .links, t .owned, (c .before .before .before .before .held-of .ensures))
+derived-all-requires c κs = let fine = sym (c .before .before .before .before .before .before .before .before .before .before .before .index .ensures .verdict) ∙ ap verdictOf (c .before .before .before .before .before .before .before .before .before .enum-told .given .1) in let t = tables-of _ (c .before .before .before .before .before .before .before .before .before .before .before .index .ensures) fine in (accepted _ fine, t .links, t .owned, (c .before .before .before .before .held-of .ensures))
 
 needs-of-requires : tie.Need-needs-of-requires
-needs-of-requires c κs = let fine = sym (c .before .before .before .before .before .before .before .before .before .before .before .before .before .before .before .index .ensures .verdict) ∙ ap verdictOf (c .before .before .before .before .before .before .before .before .before .before .before .before .before .enum-told .given .1) in let t = tables-of _ (c .before .before .before .before .before .before .before .before .before .before .before .before .before .before .before .index .ensures) fine in (accepted _ fine, t .links, t .owned, (c .before .before .before .before .before .before .before .before .before .held-of .ensures))
+needs-of-requires c κs = let fine = sym (c .before .before .before .before .before .before .before .before .before .before .before .before .before .before .before .before .index .ensures .verdict) ∙ ap verdictOf (c .before .before .before .before .before .before .before .before .before .before .before .before .before .before .enum-told .given .1) in let t = tables-of _ (c .before .before .before .before .before .before .before .before .before .before .before .before .before .before .before .before .index .ensures) fine in (accepted _ fine, t .links, t .owned, (c .before .before .before .before .before .before .before .before .before .held-of .ensures))
 
 refused-requires : tie.Need-refused-requires
 refused-requires c κs = search needs

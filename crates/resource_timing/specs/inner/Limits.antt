@@ -4,13 +4,13 @@ use mathlib.Core.Bool.{cond}
 use mathlib.Core.Option.{Option, none, some}
 use lib.Dec.{ltb}
 use lib.Ieee.{binary64, mul}
+use Rattle.loops.specs.Lists.{option}
 use Rattle.rounding.specs.inner.Limited.{limited}
 use Rattle.rounding.specs.declared.Time.{Time}
 use Rattle.rounding.specs.declared.Time.the-variants as time
 use Rattle.resource_timing.specs.declared.ActivityDuration.{ActivityDuration}
 use Rattle.resource_timing.specs.declared.ResourceTiming.{ResourceTiming}
 use Rattle.resource_timing.specs.declared.ResourceTiming.the-variants.{Speed, Duration}
-use Rattle.resource_timing.specs.declared.PartTimes.{PartTimes}
 use Rattle.resource_timing.specs.declared.Piece.{Piece}
 use Rattle.resource_timing.specs.declared.Piece.the-variants.{Whole, InPart}
 use Rattle.resource_timing.specs.declared.Derived.{Derived}
@@ -18,7 +18,8 @@ use Rattle.resource_timing.specs.declared.Derived.the-variants.{Within, 
 use Rattle.resource_timing.specs.declared.Fixed.{Fixed}
 use Rattle.resource_timing.specs.declared.Fixed.the-variants.{Nothing, Standing}
 use Rattle.resource_timing.specs.declared.Timed.{Timed}
-use Rattle.resource_timing.specs.Durations.{TimedSoFar, totalMs, pieceFixed, atSpeed}
+use Rattle.part_share.specs.inner.Within.{shareWithin}
+use Rattle.resource_timing.specs.Durations.{TimedSoFar, totalMs, inPart, atSpeed}
 
 -- the derived time is refused where it is 2^53 or more, or not finite
 unfoldable pub within : Option ActivityDuration → Derived
@@ -52,10 +53,15 @@ abbrev pub fixedWith : Fixed → Derived → Fixed
 fixedWith Nothing d = Standing d
 fixedWith (Standing f) d = Standing (longerOf f d)
 
+-- a resource's own duration for the activity, as the piece has it; none where its share is not worked out
+abbrev pub fixedIn : Piece → ActivityDuration → Option ActivityDuration
+fixedIn Whole d = some d
+fixedIn (InPart p) d = option (shareWithin (d .«process_ms») (p .«work_ms») (p .«whole_ms»)) none (λ n. some (inPart d n p))
+
 -- one resource more that the piece runs on, by the activity's timing there
 abbrev pub timedWith : Timed → Piece → ResourceTiming → Timed
 timedWith t piece (Speed s) = record { speed = mul binary64 (t .speed) s; fixed = t .fixed }
-timedWith t piece (Duration d) = record { speed = t .speed; fixed = fixedWith (t .fixed) (within (some (pieceFixed piece d))) }
+timedWith t piece (Duration d) = record { speed = t .speed; fixed = fixedWith (t .fixed) (within (fixedIn piece d)) }
 
 abbrev pub fixedOr : Fixed → Derived → Derived
 fixedOr Nothing d = d
@@ -65,24 +71,14 @@ fixedOr (Standing f) d = f
 abbrev pub derivedOf : Timed → ActivityDuration → Derived
 derivedOf t base = fixedOr (t .fixed) (within (atSpeed base (t .speed)))
 
--- amounts as the rows of a sheet have them
+-- amounts as the rows of a sheet have them: shares of these are worked out
 abbrev pub Amount : ℕ → Type 0
 Amount n = n ≤ 4000000000000
 
-pub record Amounts (d : ActivityDuration) : Type 0 where
-  pub setup : Amount (d .«setup_ms»)
-  pub process : Amount (d .«process_ms»)
-  pub teardown : Amount (d .«teardown_ms»)
-
-pub record PartAmounts (p : PartTimes) : Type 0 where
-  pub work : Amount (p .«work_ms»)
-  pub whole : Amount (p .«whole_ms»)
-  pub overhead : Amount (p .«overhead_ms»)
-
 abbrev pub PieceAmounts : Piece → Type 0
 PieceAmounts Whole = Unit
-PieceAmounts (InPart p) = PartAmounts p
+PieceAmounts (InPart p) = Amount (p .«work_ms») × Amount (p .«whole_ms»)
 
 abbrev pub TimingAmounts : ResourceTiming → Type 0
 TimingAmounts (Speed s) = Unit
-TimingAmounts (Duration d) = Amounts d
+TimingAmounts (Duration d) = Amount (d .«process_ms»)

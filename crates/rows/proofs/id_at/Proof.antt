@@ -1,6 +1,7 @@
 use mir.Val.{SFits}
 use mir.Syntax.{w64}
-use Rattle.rows.proofs.Signs.{cast, nat-under, nat-over, nat-bound}
+use Rattle.loops.proofs.SignLaws.{cast}
+use Rattle.rows.proofs.Signs.{nat-under, nat-over, nat-bound}
 use Rattle.loops.specs.Numbers.{toNat}
 use mathlib.Core.Path.{ap, _∙_}
 use native.Mathlib.Omega.{arith}

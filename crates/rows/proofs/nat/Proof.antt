@@ -1,4 +1,5 @@
-use Rattle.rows.proofs.Signs.{cast, nat-under, nat-over}
+use Rattle.loops.proofs.SignLaws.{cast}
+use Rattle.rows.proofs.Signs.{nat-under, nat-over}
 use Rattle.rows.proofs.nat.Statement.{statement}
 use Rattle.rows.proofs.nat.Tie as tie
 

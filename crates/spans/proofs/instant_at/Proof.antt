@@ -1,6 +1,6 @@
 use borrow.Author.Needs.{needs, sfits-of}
 use mathlib.Core.Path.{ap, _∙_}
-use Rattle.rows.proofs.Signs.{cast}
+use Rattle.loops.proofs.SignLaws.{cast}
 use Rattle.rows.specs.Class.{t?-c}
 use Rattle.model.specs.Sheet.{asInstant, read}
 use Rattle.spans.proofs.Instants.{read-none, read-some}

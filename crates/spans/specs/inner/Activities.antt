@@ -7,10 +7,10 @@ use lib.IntN.{ℤ, pos}
 use Rattle.calendar.specs.Clock.{clock}
 use Rattle.rows.specs.Cells.{num, is}
 use Rattle.definition.specs.ActivitySpan as page
-use Rattle.spans.specs.declared.Span.{Span}
-use Rattle.spans.specs.declared.Span.the-variants.{Between, Nowhere}
+use Rattle.spans.specs.declared.ActivitySpan.{ActivitySpan}
+use Rattle.spans.specs.declared.ActivitySpan.the-variants.{Between, Nowhere}
 
-abbrev pub spanMeant : Span → Option (page.Span ℤ)
+abbrev pub spanMeant : ActivitySpan → Option (page.Span ℤ)
 spanMeant (Between a e) = some (record { start = pos a; end = pos e })
 spanMeant Nowhere = none
 

@@ -1,4 +1,5 @@
-use Rattle.stored_cases.proofs.PutLaws.{wrote-as, told-all}
+use Rattle.loops.proofs.StoreLaws.{wrote-as}
+use Rattle.stored_cases.proofs.PutLaws.{told-all}
 use Rattle.stored_cases.specs.inner.Line.{numbersIn}
 use mathlib.Core.Path.{ap}
 use borrow.Author.Needs.{needs}

@@ -1,6 +1,6 @@
 use borrow.Author.Needs.{needs}
 use Rattle.stored_cases.proofs.PutLaws.{yet-all, bytes-less, bytes-none}
-use Rattle.stored_cases.specs.inner.Wrote.{Yet}
+use Rattle.stored_cases.specs.inner.Yet.{Yet}
 use Rattle.stored_cases.specs.inner.Line.{meant}
 use lib.ListN.{length, drop}
 use mathlib.Core.List.{map}

@@ -1,6 +1,6 @@
 use borrow.Author.Needs.{needs}
 use Rattle.stored_cases.proofs.PutLaws.{yet-all, yet-less, yet-none, yet-as, times-less, times-none}
-use Rattle.stored_cases.specs.inner.Wrote.{Yet}
+use Rattle.stored_cases.specs.inner.Yet.{Yet}
 use Rattle.stored_cases.specs.inner.Line.{meant, times}
 use mathlib.Core.List.{map}
 use Rattle.stored_cases.proofs.put_copies.Statement.{statement}

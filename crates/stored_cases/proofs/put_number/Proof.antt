@@ -1,4 +1,4 @@
-use Rattle.stored_cases.proofs.PutLaws.{wrote-past}
+use Rattle.loops.proofs.StoreLaws.{wrote-past}
 use borrow.Author.Needs.{needs}
 use Rattle.stored_cases.proofs.put_number.Statement.{statement}
 use Rattle.stored_cases.proofs.put_number.Tie as tie

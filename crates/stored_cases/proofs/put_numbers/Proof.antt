@@ -1,8 +1,9 @@
 use mathlib.Core.Path.{_∙_}
 use borrow.Author.Needs.{needs}
 use Rattle.stored_cases.proofs.LineLaws.{map-more, map-last}
-use Rattle.stored_cases.proofs.PutLaws.{wrote-back, wrote-long, yet-all, yet-less, yet-last, yet-as}
-use Rattle.stored_cases.specs.inner.Wrote.{Yet}
+use Rattle.loops.proofs.StoreLaws.{wrote-long}
+use Rattle.stored_cases.proofs.PutLaws.{wrote-back, yet-all, yet-less, yet-last, yet-as}
+use Rattle.stored_cases.specs.inner.Yet.{Yet}
 use Rattle.stored_cases.specs.inner.Line.{numbersIn}
 use Rattle.text.specs.Line.{valueOf}
 use native.Mathlib.Omega.{arith}

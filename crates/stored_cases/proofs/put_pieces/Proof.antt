@@ -1,7 +1,7 @@
 use borrow.Author.Needs.{needs}
 use Rattle.stored_cases.proofs.PutLaws.{yet-all, yet-less, yet-none, yet-as, times-less, times-none}
 use Rattle.stored_cases.specs.inner.Gives.{pieceAs}
-use Rattle.stored_cases.specs.inner.Wrote.{Yet}
+use Rattle.stored_cases.specs.inner.Yet.{Yet}
 use Rattle.stored_cases.specs.inner.Line.{times}
 use Rattle.stored_cases.proofs.put_pieces.Statement.{statement}
 use Rattle.stored_cases.proofs.put_pieces.Tie as tie

@@ -1,7 +1,8 @@
 use borrow.Author.Needs.{needs}
 use Rattle.stored_cases.proofs.LineLaws.{each-more, each-last}
-use Rattle.stored_cases.proofs.PutLaws.{wrote-long, yet-all, yet-less, yet-last, yet-as}
-use Rattle.stored_cases.specs.inner.Wrote.{Yet}
+use Rattle.loops.proofs.StoreLaws.{wrote-long}
+use Rattle.stored_cases.proofs.PutLaws.{yet-all, yet-less, yet-last, yet-as}
+use Rattle.stored_cases.specs.inner.Yet.{Yet}
 use Rattle.stored_cases.specs.inner.Line.{bytesOf}
 use Rattle.text.specs.Parts.{parts}
 use Rattle.loops.specs.Lists.{each}

@@ -1,6 +1,6 @@
 use borrow.Author.Needs.{needs}
 use Rattle.stored_cases.proofs.PutLaws.{yet-all, yet-less, yet-none, yet-as, replicate-less, replicate-none}
-use Rattle.stored_cases.specs.inner.Wrote.{Yet}
+use Rattle.stored_cases.specs.inner.Yet.{Yet}
 use lib.IntN.{pos}
 use lib.ListN.{replicate}
 use Rattle.stored_cases.proofs.put_zeros.Statement.{statement}

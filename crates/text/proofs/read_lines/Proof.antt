@@ -1,8 +1,7 @@
-use mathlib.Core.Path.{sym, _∙_}
 use lib.ListN.{length, length-take, length-drop}
 use native.Mathlib.Omega.{arith}
 use borrow.Author.Needs.{needs}
-use Rattle.text.proofs.TextLaws.{LinesRead, lines-none, lines-end, lines-open, lines-wrong, lines-full, lines-more}
+use Rattle.text.proofs.TextLaws.{LinesRead, lines-none, end-answer, end-rows, open-answer, open-rows, wrong-answer, wrong-rows, full-answer, full-rows, lines-more}
 use Rattle.text.proofs.read_lines.Statement.{statement}
 use Rattle.text.proofs.read_lines.Tie as tie
 
@@ -12,9 +11,6 @@ Inv-loop text rows₀ lent classes rest₀ place₀ rows rest place = LinesRead 
 abbrev μ-loop : tie.MeasureT-loop
 μ-loop text rows₀ lent classes rest₀ place₀ rows rest place = length rest
 
-class-table-requires : tie.Need-class-table-requires Inv-loop μ-loop
-class-table-requires c κs = search needs
-
 loop-holds : tie.Need-loop-holds Inv-loop μ-loop
 loop-holds c = lines-none _ _ _
 
@@ -22,10 +18,10 @@ first-part-requires : tie.Need-first-part-requires Inv-loop μ-loop
 first-part-requires c κs = search needs
 
 same-length : tie.Need-same-length Inv-loop μ-loop
-same-length c = ((c .before .before .before .loop .inv .long))
+same-length c = search needs
 
 returns : tie.Need-returns Inv-loop μ-loop
-returns c = lines-open _ _ _ _ _ _ (c .before .before .before .loop .inv) _ (c .before .first-part .ensures) (c .before .before .loop-test .taken) (c .if1 .taken)
+returns c = search (needs, open-answer, open-rows)
 
 mul-read-line : tie.Need-mul-read-line Inv-loop μ-loop
 mul-read-line c = search needs
@@ -37,23 +33,19 @@ enum-known-k : tie.Need-enum-known-k Inv-loop μ-loop
 enum-known-k c = search needs
 
 same-length-2 : tie.Need-same-length-2 Inv-loop μ-loop
-same-length-2 c = ((c .before .before .before .before .read-line .kept .1 .0)) ∙ ((c .before .before .before .before .before .before .before .before .before .before .loop .inv .long))
+same-length-2 c = search needs
 
 returns-2 : tie.Need-returns-2 Inv-loop μ-loop
-returns-2 c =
-    lines-wrong _ _ _ _ _ _ (c .before .before .before .before .before .before .before .before .before .before .loop .inv) _ (c .before .before .before .before .before .before .before .before .first-part .ensures) (c .before .before .before .before .before .before .before .if1 .left) _ (c .before .before .before .before .read-line .ensures .1) _
-    (sym (c .before .before .before .before .read-line .ensures .0) ∙ ((c .before .k .given .1)))
+returns-2 c = search (needs, wrong-answer, wrong-rows)
 
 enum-told : tie.Need-enum-told Inv-loop μ-loop
 enum-told c = search needs
 
 same-length-3 : tie.Need-same-length-3 Inv-loop μ-loop
-same-length-3 c = ((c .before .before .before .before .read-line .kept .1 .0)) ∙ ((c .before .before .before .before .before .before .before .before .before .before .loop .inv .long))
+same-length-3 c = search needs
 
 returns-3 : tie.Need-returns-3 Inv-loop μ-loop
-returns-3 c =
-    lines-full _ _ _ _ _ _ (c .before .before .before .before .before .before .before .before .before .before .loop .inv) _ (c .before .before .before .before .before .before .before .before .first-part .ensures) (c .before .before .before .before .before .before .before .if1 .left) _ (c .before .before .before .before .read-line .ensures .1)
-    (sym (c .before .before .before .before .read-line .ensures .0) ∙ ((c .before .enum-told .given .1))) (c .if2 .taken)
+returns-3 c = search (needs, full-answer, full-rows)
 
 add-place : tie.Need-add-place Inv-loop μ-loop
 add-place c = search needs
@@ -74,15 +66,13 @@ loop-less : tie.Need-loop-less Inv-loop μ-loop
 loop-less c = simp (length-take, length-drop) (omega arith)
 
 loop-again : tie.Need-loop-again Inv-loop μ-loop
-loop-again c =
-    lines-more _ _ _ _ _ _ (c .before .before .before .before .before .before .before .before .before .before .before .loop .inv) _ (c .before .before .before .before .before .before .before .before .before .first-part .ensures) (c .before .before .before .before .before .before .before .before .if1 .left) _ (c .before .before .before .before .before .read-line .ensures .1)
-    (sym (c .before .before .before .before .before .read-line .ensures .0) ∙ ((c .before .before .enum-told .given .1))) (c .before .if2 .left)
+loop-again c = search (needs, lines-more)
 
 same-length-4 : tie.Need-same-length-4 Inv-loop μ-loop
-same-length-4 c = ((c .before .loop .inv .long))
+same-length-4 c = search needs
 
 returns-4 : tie.Need-returns-4 Inv-loop μ-loop
-returns-4 c = lines-end _ _ _ _ _ _ (c .before .loop .inv) (c .loop-test .left)
+returns-4 c = search (needs, end-answer, end-rows)
 
 pub read-lines-spec : {M : Type 1} → statement M
 read-lines-spec =
@@ -90,7 +80,6 @@ read-lines-spec =
     (tie.spec
     Inv-loop
     μ-loop
-    class-table-requires
     loop-holds
     first-part-requires
     same-length

@@ -26,7 +26,7 @@ answer-of-requires : tie.Need-answer-of-requires
 answer-of-requires c κs = search needs
 
 returns : tie.Need-returns
-returns c = ending-said _ (c .before .before .before .before .before .before .before .args .resource) (c .before .before .before .before .before .before .before .args .start) (c .before .before .before .before .before .before .before .args .work) (c .before .before .before .before .before .before .before .pre .0) (c .before .before .before .before .before .before .before .pre .3) _ _ (toZ-ofZ w64 (c .before .before .before .before .before .before .before .args .start) (c .before .before .before .before .before .before .before .fits .start)) (toZ-ofZ w64 (c .before .before .before .before .before .before .before .args .work) (c .before .before .before .before .before .before .before .fits .work)) ((c .before .before .before .before .before .resource-calendar .ensures .0) ∙ ap (inquiredCalendar _) (toZ-ofZ w64 (c .before .before .before .before .before .before .before .args .resource) (c .before .before .before .before .before .before .before .fits .resource))) (c .before .before .nat .ensures) (c .before .joint-work-end .ensures) (c .answer-of .ensures)
+returns c = ending-said _ (c .before .before .before .before .before .before .before .args .resource) (c .before .before .before .before .before .before .before .args .start) (c .before .before .before .before .before .before .before .args .work) (c .before .before .before .before .before .before .before .pre .0) (c .before .before .before .before .before .before .before .pre .3) _ _ (toZ-ofZ w64 (c .before .before .before .before .before .before .before .args .start) (c .before .before .before .before .before .before .before .fits .start)) (toZ-ofZ w64 (c .before .before .before .before .before .before .before .args .work) (c .before .before .before .before .before .before .before .fits .work)) ((c .before .before .before .before .before .resource-calendar .ensures .calendar) ∙ ap (inquiredCalendar _) (toZ-ofZ w64 (c .before .before .before .before .before .before .before .args .resource) (c .before .before .before .before .before .before .before .fits .resource))) (c .before .before .nat .ensures) (c .before .joint-work-end .ensures) (c .answer-of .ensures)
 
 pub ending-spec : {M : Type 1} → statement M
 ending-spec =

@@ -12,17 +12,10 @@ enum-known-fixed : tie.Need-enum-known-fixed
 enum-known-fixed c = search needs
 
 returns : tie.Need-returns
-returns c = rw ((c .before .enum-told .given .1)) (c .at-speed .ensures)
+returns c = rw ((c .before .enum-told .given .1)) ((c .at-speed .ensures))
 
 returns-2 : tie.Need-returns-2
-returns-2 c = rw ((c .before .fixed .given .1))
+returns-2 c = search needs
 
 pub duration-spec : {M : Type 1} → statement M
-duration-spec =
-    tie.close
-    (tie.spec
-    enum-told
-    at-speed-requires
-    enum-known-fixed
-    returns
-    returns-2)
+duration-spec = tie.close (tie.spec enum-told at-speed-requires enum-known-fixed returns returns-2)

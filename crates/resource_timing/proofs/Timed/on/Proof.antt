@@ -1,5 +1,5 @@
-use mathlib.Core.Path.{ap, subst, _∙_}
-use Rattle.resource_timing.specs.inner.Limits.{fixedWith, TimingAmounts}
+use mathlib.Core.Path.{ap, _∙_}
+use Rattle.resource_timing.specs.inner.Limits.{fixedWith}
 use borrow.Author.Needs.{needs}
 use Rattle.resource_timing.proofs.Timed.on.Statement.{statement}
 use Rattle.resource_timing.proofs.Timed.on.Tie as tie
@@ -11,7 +11,7 @@ enum-known-timing-2 : tie.Need-enum-known-timing-2
 enum-known-timing-2 c = search needs
 
 fixed-requires : tie.Need-fixed-requires
-fixed-requires c κs = (((c .before .before .before .pre .0)), subst TimingAmounts ((c .before .timing2 .given .1)) ((c .before .before .before .pre .1)))
+fixed-requires c κs = search needs
 
 with-requires : tie.Need-with-requires
 with-requires c κs = search needs
@@ -25,10 +25,4 @@ returns-2 c = rw ((c .before .before .before .timing2 .given .1)) (ap (λ w. rec
 pub on-spec : {M : Type 1} → statement M
 on-spec =
     tie.close
-    (tie.spec
-    enum-known-timing
-    enum-known-timing-2
-    fixed-requires
-    with-requires
-    returns
-    returns-2)
+    (tie.spec enum-known-timing enum-known-timing-2 fixed-requires with-requires returns returns-2)
