@@ -2,7 +2,7 @@
 use Prim.Native.Nat.{ℕ, zero, suc, _+_, _*_, _/_, _<_, _≤_, max, min}
 use mathlib.Core.Path.{_≡_, refl, sym, ap, ap₂, subst, _∙_}
 use mathlib.Core.Logic.{_⊎_, inl, inr}
-use mathlib.Core.Bool.{Bool, true, false, cond, not, _&&_, and-assoc, and-true}
+use mathlib.Core.Bool.{Bool, true, false, cond, _&&_, and-assoc, and-true}
 use mathlib.Core.List.{List, [], _∷_, _++_, foldl}
 use native.Mathlib.Omega.{arith}
 use lib.IntN.{pos}

@@ -1,6 +1,6 @@
 -- Calendars, over any clock. A calendar is a list of windows; its working time is a test that says of each instant whether it is working time.
 use Prim.Native.Nat.{ℕ}
-use mathlib.Core.Bool.{Bool, true, false, not, _&&_, _||_}
+use mathlib.Core.Bool.{Bool, not, _&&_, _||_}
 use mathlib.Core.List.{List}
 use lib.Dec.{eqb}
 use Rattle.calendar.specs.Clock.{Clock, upTo}

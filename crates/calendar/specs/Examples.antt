@@ -1,7 +1,7 @@
 -- Edges of calendar time, by computation. (The rules' examples G to L stand with A to F in shift/specs/Examples.)
 use Prim.Native.Nat.{ℕ}
 use mathlib.Core.Path.{_≡_, refl}
-use mathlib.Core.Bool.{Bool, true, false}
+use mathlib.Core.Bool.{true, false}
 use mathlib.Core.List.{List, [], _∷_}
 use lib.IntN.{pos}
 use Rattle.calendar.specs.Clock.{clock}

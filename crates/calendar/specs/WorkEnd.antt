@@ -5,7 +5,7 @@ use mathlib.Core.List.{List, [], _∷_}
 use lib.IntN.{ℤ, pos}
 use Rattle.loops.specs.Numbers.{toNat}
 use Rattle.calendar.specs.Clock.{Clock, ahead}
-use Rattle.calendar.specs.Calendar.{Window, Calendar, jointWorking}
+use Rattle.calendar.specs.Calendar.{Calendar, jointWorking}
 use Rattle.calendar.specs.Amount.{since}
 
 -- at an instant; or the start is no working time; or too little working time follows

@@ -4,10 +4,9 @@
 // A calendar is the windows at the places from `from` up to, not with, `to`; several calendars are lent as numbers too, two to a
 // calendar: from, to. A place past the last window is the place of none. Any numbers may be handed in.
 ghost use mathlib.Core.Path.{_≡_};
-ghost use mathlib.Core.Bool.{Bool, true, false, cond, _&&_, _||_};
+ghost use mathlib.Core.Bool.{true, false, cond, _&&_, _||_};
 ghost use mathlib.Core.List.{[], _∷_, _++_};
-ghost use Prim.Native.Nat.{ℕ, _+_, _-_, _*_, _/_, _<_, _≤_, max, min};
-ghost use lib.ListN.{length, getD};
+ghost use Prim.Native.Nat.{ℕ, _+_, _-_, _*_, _/_, _<_, max, min};
 ghost use lib.IntN.{ℤ, pos};
 ghost use Rattle.loops.specs.Numbers.{toNat};
 ghost use Rattle.calendar.specs.Clock.{clock};

@@ -14,8 +14,8 @@ use Rattle.loops.proofs.BoolLaws.{and-left}
 use Rattle.loops.proofs.ListLaws.{keep-collect, head-collect}
 use Rattle.rows.specs.Cells.{rowCount, num, is}
 use Rattle.sheet.specs.Places.{placeOf}
-use Rattle.sheet.specs.inner.Index.{ownerKind, ownPlace, ownedBy}
 use Rattle.sheet.specs.Refusals.{refusalOf}
+use Rattle.owners.specs.inner.Owners.{ownerKind, ownPlace, ownedBy}
 use Rattle.model.specs.Sheet.{sheet}
 use Rattle.model.specs.Activity.{requirementAt, requirements, candidates, isCandidate, usageOn}
 use Rattle.model.specs.inner.Records.{activityOf, requirementOf, resourceOf}

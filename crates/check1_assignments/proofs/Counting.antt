@@ -14,7 +14,7 @@ use Rattle.loops.proofs.ListLaws.{count-append}
 use Rattle.loops.proofs.SearchLaws.{counted-le}
 use Rattle.rows.specs.Cells.{rowCount, num, is}
 use Rattle.sheet.specs.inner.Accepted.{Accepted}
-use Rattle.sheet.specs.inner.Index.{ownerKind, ownedBy}
+use Rattle.owners.specs.inner.Owners.{ownerKind, ownedBy}
 use Rattle.model.specs.Sheet.{sheet}
 use Rattle.model.specs.Schedule.{Assignment, assignmentAt, assignmentsBelow}
 use Rattle.model.specs.inner.Records.{activityOf, assignmentOf}

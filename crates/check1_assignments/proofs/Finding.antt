@@ -12,7 +12,7 @@ use Rattle.loops.proofs.ListLaws.{head-collect}
 use Rattle.loops.proofs.PlaceLaws.{any-same}
 use Rattle.rows.specs.Cells.{rowCount, num, is}
 use Rattle.sheet.specs.Places.{placeOf}
-use Rattle.sheet.specs.inner.Index.{ownerKind, ownedBy}
+use Rattle.owners.specs.inner.Owners.{ownerKind, ownedBy}
 use Rattle.model.specs.Sheet.{sheet, rowAt}
 use Rattle.model.specs.inner.Records.{numAt, intAt}
 use Rattle.model.specs.Activity.{Split, split}

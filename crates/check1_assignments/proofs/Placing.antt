@@ -16,8 +16,9 @@ use Rattle.rows.specs.Class.{n?-c}
 use Rattle.rows.specs.Ranges.{isNone, between, inRange, inClass}
 use Rattle.sheet.specs.inner.Accepted.{Accepted}
 use Rattle.sheet.specs.Places.{ofKind, placeOf}
-use Rattle.sheet.specs.inner.Index.{ownerKind, orEnd, ownPlace, ownedBy}
+use Rattle.sheet.specs.inner.Index.{orEnd}
 use Rattle.sheet.proofs.Lookups.{Named, placed, num-is}
+use Rattle.owners.specs.inner.Owners.{ownerKind, ownPlace, ownedBy}
 use Rattle.model.specs.Sheet.{sheet}
 use Rattle.model.specs.Activity.{split}
 use Rattle.model.specs.Schedule.{Part}
@@ -101,6 +102,9 @@ module _ (rows : List ℤ) where
 
   pub activity-named : (a k : ℕ) → Booked rows a k → Named rows 2 (num rows k 1) a
   activity-named a k b = placed rows 2 (num rows k 1) a (b .place)
+
+  pub activity-within : (a k : ℕ) → Booked rows a k → a < rowCount rows
+  activity-within a k b = activity-named a k b .within
 
   pub activity-kind : (a k : ℕ) → Booked rows a k → is rows a 0 2 ≡ true
   activity-kind a k b = num-is rows a 0 2 (activity-named a k b .kind)

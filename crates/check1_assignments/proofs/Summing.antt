@@ -21,7 +21,7 @@ use Rattle.rows.specs.Class.{n-c}
 use Rattle.rows.specs.Ranges.{inClass}
 use Rattle.sheet.specs.inner.Accepted.{Accepted}
 use Rattle.sheet.specs.Places.{placeOf}
-use Rattle.sheet.specs.inner.Index.{ownerKind, ownedBy}
+use Rattle.owners.specs.inner.Owners.{ownerKind, ownedBy}
 use Rattle.model.specs.Sheet.{sheet}
 use Rattle.model.specs.Activity.{ResourceRequirement, requirementAt, requirements}
 use Rattle.model.proofs.RowLaws.{kind-is}

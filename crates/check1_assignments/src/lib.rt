@@ -1,18 +1,19 @@
 // Check 1, `check_assignments` of scheduler/feasibility.rs: each booking under a task of the sheet names one of its activities, takes no more units than
 // the activity's requirements, lasts as long as its work, and starts no earlier than the releases.
 ghost use mathlib.Core.Path.{_≡_};
-ghost use Prim.Native.Nat.{ℕ, _+_, _*_, _<_, _≤_};
-ghost use mathlib.Core.Bool.{Bool, true, false, cond};
-ghost use mathlib.Core.Option.{Option, some};
+ghost use Prim.Native.Nat.{_+_, _*_, _<_, _≤_};
+ghost use mathlib.Core.Bool.{true, false, cond};
+ghost use mathlib.Core.Option.{some};
 ghost use lib.Dec.{ltb};
-ghost use lib.IntN.{ℤ, pos, _-ℤ_};
+ghost use lib.IntN.{pos, _-ℤ_};
 ghost use lib.Signed.{ltZ};
 ghost use lib.ListN.{getD};
 ghost use Rattle.loops.specs.Lists.{given, option, isSome};
 ghost use Rattle.rows.specs.Cells.{rowCount, cell, num, is};
 ghost use Rattle.sheet.specs.Places.{placeOf, taskPlace};
-ghost use Rattle.sheet.specs.inner.Index.{Kinds, Linked, Owned};
+ghost use Rattle.sheet.specs.inner.Index.{Kinds};
 ghost use Rattle.sheet.specs.inner.Accepted.{Accepted};
+ghost use Rattle.owners.specs.inner.Owners.{Linked, Owned};
 ghost use Rattle.calendar.specs.Clock.{clock};
 ghost use Rattle.findings.specs.inner.Sink.{sink, emit};
 ghost use Rattle.model.specs.Sheet.{sheet};
@@ -37,7 +38,7 @@ fn is_split(rows: &[i64], owned: &[u16; 8810], a: usize) -> bool
     requires { ⌜ Owned (now rows) (now owned) × (placeOf (now rows) 2 (num (now rows) a 1) ≡ some a) ⌝ }
     ensures { λ r. ⌜ r ≡ isSome (split (sheet (now (rows .entry))) (num (now (rows .entry)) a 1)) ⌝ }
 {
-    sheet::has_owned(rows, owned, a, 4)
+    owners::has_owned(rows, owned, a, 4)
 }
 
 // Whether booking k names another task than its activity's, of row a, or a part where that is not split.
@@ -84,10 +85,10 @@ fn units_of(rows: &[i64], owned: &[u16; 8810], a: usize) -> Units
         raised: 0,
         offset: 0,
     };
-    let mut q = sheet::first_owned(rows, owned, a, 5);
+    let mut q = owners::first_owned(rows, owned, a, 5);
     while q < n {
         u = add_quantity(rows, u, q);
-        q = sheet::next_owned(rows, owned, a, 5, q);
+        q = owners::next_owned(rows, owned, a, 5, q);
     }
     u
 }
@@ -141,10 +142,10 @@ fn uses_before(
     ensures bound { λ r. ⌜ r ≤ 800 ⌝ }
 {
     let mut used = 0;
-    let mut j = sheet::first_owned(rows, owned, a, 23);
+    let mut j = owners::first_owned(rows, owned, a, 23);
     while j < k {
         used = more(used, takes_unit(rows, held, a, parts, k, j));
-        j = sheet::next_owned(rows, owned, a, 23, j);
+        j = owners::next_owned(rows, owned, a, 23, j);
     }
     used
 }
@@ -172,7 +173,7 @@ fn is_early_in_task(rows: &[i64], links: &[u16; 1600], k: usize, a: usize) -> bo
     requires { ⌜ Linked (now rows) (now links) × (a < rowCount (now rows)) × (is (now rows) a 0 2 ≡ true) ⌝ }
     ensures { λ b. ⌜ b ≡ option (taskPlace (now (rows .entry)) (num (now (rows .entry)) a 2)) false (λ t. ltb (num (now (rows .entry)) k 4) (num (now (rows .entry)) t 3)) ⌝ }
 {
-    let Found::At(t) = sheet::task_of(rows, links, a) else {
+    let Found::At(t) = owners::task_of(rows, links, a) else {
         return false;
     };
     is_early(rows, k, t, 3)
@@ -270,7 +271,7 @@ fn check_assignment(
     requires { ⌜ Accepted (now rows) × Linked (now rows) (now links) × Owned (now rows) (now owned) × Held (now rows) (now held) × Needs (now rows) (now need) × Kinds (now rows) (now kinds) × (k < rowCount (now rows)) × (is (now rows) k 0 23 ≡ true) ⌝ }
     ensures { λ r. ⌜ sink (now (out .exit)) r ≡ emit (sink (now (out .entry)) n) (checkAssignmentAt clock (sheet (now (rows .entry))) k) ⌝ }
 {
-    let Found::At(a) = sheet::activity_of(rows, links, k) else {
+    let Found::At(a) = owners::activity_of(rows, links, k) else {
         let yes = is_task(rows, kinds, rows::num_at(rows, k, 2));
         return tell(out, n, yes, 9, rows::id_at(rows, k, 1), 95);
     };

@@ -3,6 +3,7 @@ use Prim.Native.Nat.{ℕ, _<_, _≤_}
 use mathlib.Core.Path.{_≡_, refl, ap, sym, _∙_}
 use mathlib.Core.Bool.{Bool, true, false, cond, not, _&&_, _||_, or-false}
 use mathlib.Core.List.{List}
+use mathlib.Core.Logic.{inl}
 use mathlib.Core.Option.{Option, none, some}
 use native.Mathlib.Omega.{arith}
 use native.Mathlib.Decide.{ℕ-discrete}
@@ -18,8 +19,8 @@ use Rattle.loops.proofs.PlaceLaws.{any-same}
 use Rattle.rows.specs.Cells.{rowCount, num, is}
 use Rattle.sheet.specs.declared.Found.the-variants.{At, Nothing}
 use Rattle.sheet.specs.Places.{placeOf}
-use Rattle.sheet.specs.inner.Index.{ownerKind, ownedBy}
 use Rattle.sheet.proofs.Lookups.{placed, num-is}
+use Rattle.owners.specs.inner.Owners.{ownerKind, ownedBy}
 use Rattle.model.specs.Sheet.{sheet}
 use Rattle.model.specs.Activity.{requirements}
 use Rattle.model.specs.Schedule.{spanAt, timeOnlyBelow}
@@ -28,11 +29,22 @@ use Rattle.model.proofs.RowLaws.{span-row, span-none}
 use Rattle.model.proofs.OwnedLaws.{of-activity}
 use Rattle.model.proofs.Finds.{find-activity, found-self}
 use Rattle.model.proofs.Requiring.{eqb-swap, requirement-by, none-given}
+use Rattle.window_rows.specs.inner.Laid.{Holder}
 use Rattle.definition.specs.CheckTimeOnly.{known, seen}
 use Rattle.check2_time_only.specs.inner.Known.{Known}
 
 pub is-activity : (rows : List ℤ) (id a : ℕ) → placeOf rows 2 id ≡ some a → is rows a 0 2 ≡ true
 is-activity rows id a q = num-is rows a 0 2 (placed rows 2 id a q .kind)
+
+pub is-below : (rows : List ℤ) (id a : ℕ) → placeOf rows 2 id ≡ some a → a < rowCount rows
+is-below rows id a q = placed rows 2 id a q .within
+
+pub up-to : (rows : List ℤ) (id a : ℕ) → placeOf rows 2 id ≡ some a → a ≤ rowCount rows
+up-to rows id a q = omega (arith, is-below rows id a q)
+
+-- an activity holds windows of kind 16
+pub own-windows : (rows : List ℤ) (id a : ℕ) → placeOf rows 2 id ≡ some a → Holder rows a 16
+own-windows rows id a q = inl (refl, found-self rows 2 id a q)
 
 -- ---- an activity that holds no resource
 

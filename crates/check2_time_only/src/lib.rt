@@ -1,8 +1,8 @@
 // Check 2, `check_time_only`: the spans of the activities that hold no resource, and the activities among them that have none.
 ghost use mathlib.Core.Path.{_≡_};
-ghost use mathlib.Core.Bool.{Bool, true, false};
-ghost use mathlib.Core.Option.{Option, none, some};
-ghost use Prim.Native.Nat.{ℕ, _<_, _≤_};
+ghost use mathlib.Core.Bool.{true, false};
+ghost use mathlib.Core.Option.{none, some};
+ghost use Prim.Native.Nat.{_<_, _≤_};
 ghost use lib.IntN.{pos};
 ghost use lib.Signed.{ltZ};
 ghost use lib.ListN.{length};
@@ -11,8 +11,8 @@ ghost use Rattle.calendar.specs.Clock.{clock};
 ghost use Rattle.calendar.specs.Layout.{calendarOf};
 ghost use Rattle.rows.specs.Cells.{rowCount, num, is};
 ghost use Rattle.sheet.specs.Places.{placeOf, taskPlace};
-ghost use Rattle.sheet.specs.inner.Index.{Linked, Owned};
 ghost use Rattle.sheet.specs.Refusals.{refusalOf};
+ghost use Rattle.owners.specs.inner.Owners.{Linked, Owned};
 ghost use Rattle.findings.specs.inner.Sink.{sink, emit};
 ghost use Rattle.resource_timing.specs.Durations.{totalMs};
 ghost use Rattle.model.specs.Sheet.{sheet};
@@ -21,7 +21,7 @@ ghost use Rattle.model.specs.Task.{tasks};
 ghost use Rattle.model.specs.Activity.{requirements, activitiesOf};
 ghost use Rattle.model.specs.Resource.{windows};
 ghost use Rattle.model.specs.Schedule.{timeOnlyBelow, violation};
-ghost use Rattle.model.specs.inner.Records.{maybeAt, taskOf, activityOf, spanOf};
+ghost use Rattle.model.specs.inner.Records.{maybeAt, activityOf, spanOf};
 ghost use Rattle.spans.specs.inner.Instants.{meant};
 ghost use Rattle.definition.specs.CheckTimeOnly.{seen, checkFirst, checkSpanAt, checkUnplaced, checkTimeOnly};
 ghost use Rattle.check2_time_only.specs.inner.Tests.{tooShort, outsideOwn};
@@ -36,7 +36,7 @@ fn is_free(rows: &[i64], owned: &[u16; 8810], a: usize) -> bool
     requires { ⌜ Owned (now rows) (now owned) × (placeOf (now rows) 2 (num (now rows) a 1) ≡ some a) ⌝ }
     ensures { λ r. ⌜ r ≡ isEmpty (requirements (sheet (now (rows .entry))) (num (now (rows .entry)) a 1)) ⌝ }
 {
-    !sheet::has_owned(rows, owned, a, 5)
+    !owners::has_owned(rows, owned, a, 5)
 }
 
 // The row of the activity that the span of row k names, if it is one of the span's task and holds no resource.
@@ -44,7 +44,7 @@ fn known(rows: &[i64], links: &[u16; 1600], owned: &[u16; 8810], k: usize) -> Fo
     requires { ⌜ Linked (now rows) (now links) × Owned (now rows) (now owned) × (k < rowCount (now rows)) × (is (now rows) k 0 24 ≡ true) ⌝ }
     ensures { λ r. ⌜ Known (now (rows .entry)) k r ⌝ }
 {
-    let Found::At(a) = sheet::activity_of(rows, links, k) else {
+    let Found::At(a) = owners::activity_of(rows, links, k) else {
         return Found::Nothing;
     };
     let task = rows::num_at(rows, k, 2);
@@ -63,12 +63,12 @@ fn is_seen(rows: &[i64], owned: &[u16; 8810], a: usize, k: usize) -> bool
     ensures { λ r. ⌜ r ≡ seen (sheet (now (rows .entry))) (timeOnlyBelow (sheet (now (rows .entry))) k) (num (now (rows .entry)) a 1) ⌝ }
 {
     let task = rows::num_at(rows, a, 2);
-    let mut i = sheet::first_owned(rows, owned, a, 24);
+    let mut i = owners::first_owned(rows, owned, a, 24);
     while i < k {
         if rows::is_at(rows, i, 2, task) {
             return true;
         }
-        i = sheet::next_owned(rows, owned, a, 24, i);
+        i = owners::next_owned(rows, owned, a, 24, i);
     }
     false
 }
@@ -129,7 +129,7 @@ fn task_release(rows: &[i64], links: &[u16; 1600], a: usize) -> Instant
     requires { ⌜ Linked (now rows) (now links) × (a < rowCount (now rows)) × (is (now rows) a 0 2 ≡ true) ⌝ }
     ensures { λ r. ⌜ meant r ≡ option (taskPlace (now (rows .entry)) (num (now (rows .entry)) a 2)) none (λ t. maybeAt (now (rows .entry)) t 3) ⌝ }
 {
-    let Found::At(t) = sheet::task_of(rows, links, a) else {
+    let Found::At(t) = owners::task_of(rows, links, a) else {
         return Instant::Nothing;
     };
     spans::instant_at(rows, t, 3)
@@ -240,10 +240,10 @@ fn check_task(rows: &[i64], owned: &[u16; 8810], t: usize, out: &mut [i64], n: u
 {
     let count = rows::row_count(rows);
     let mut m = n;
-    let mut a = sheet::first_owned(rows, owned, t, 2);
+    let mut a = owners::first_owned(rows, owned, t, 2);
     while a < count {
         m = check_unplaced(rows, owned, a, out, m);
-        a = sheet::next_owned(rows, owned, t, 2, a);
+        a = owners::next_owned(rows, owned, t, 2, a);
     }
     m
 }

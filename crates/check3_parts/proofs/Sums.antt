@@ -18,8 +18,8 @@ use Rattle.loops.specs.inner.Chain.{First, Stands, Blind}
 use Rattle.loops.specs.Sums.{total}
 use Rattle.loops.proofs.OrderedLaws.{integer-order, total-upsert}
 use Rattle.rows.specs.Cells.{rowCount, cell, num}
-use Rattle.sheet.specs.inner.Index.{ownedBy}
 use Rattle.sheet.specs.inner.Accepted.{Accepted}
+use Rattle.owners.specs.inner.Owners.{ownedBy}
 use Rattle.model.specs.Schedule.{Part}
 use Rattle.model.proofs.Accepting.{at-most}
 use Rattle.pieces.proofs.Chains.{owned-kind}

@@ -23,8 +23,8 @@ use Rattle.findings.proofs.Reports.{emit-next}
 use Rattle.rows.specs.Cells.{rowCount, cell, num, is}
 use Rattle.rows.specs.Ranges.{isNone}
 use Rattle.sheet.specs.Places.{ofKind, placeOf}
-use Rattle.sheet.specs.inner.Index.{ownerKind, ownedBy}
 use Rattle.sheet.specs.inner.Accepted.{Accepted}
+use Rattle.owners.specs.inner.Owners.{ownerKind, ownedBy}
 use Rattle.model.specs.Sheet.{number, nothing, sheet, rowAt}
 use Rattle.model.specs.inner.Records.{numAt, intAt, taskOf, activityOf}
 use Rattle.model.specs.inner.Indexed.{Indexed}

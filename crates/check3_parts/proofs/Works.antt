@@ -20,8 +20,8 @@ use Rattle.loops.proofs.Walks.{collect-first, collect-next}
 use Rattle.loops.proofs.RangeLaws.{collect-step}
 use Rattle.rows.specs.Cells.{cell, num}
 use Rattle.rows.specs.Ranges.{isNone}
-use Rattle.sheet.specs.inner.Index.{ownedBy}
 use Rattle.sheet.specs.inner.Accepted.{Accepted}
+use Rattle.owners.specs.inner.Owners.{ownedBy}
 use Rattle.findings.specs.declared.Violation.{Violation}
 use Rattle.findings.specs.inner.Sink.{Sink, emit}
 use Rattle.findings.proofs.SinkLaws.{emit-none}

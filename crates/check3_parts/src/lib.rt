@@ -1,14 +1,14 @@
 // Check 3, `check_parts`: the parts that a split activity is booked in.
 ghost use mathlib.Core.Path.{_≡_};
-ghost use mathlib.Core.Bool.{Bool, true, false, cond, not, _&&_, _||_};
-ghost use mathlib.Core.List.{List, [], _∷_};
-ghost use Prim.Native.Nat.{ℕ, _+_, _*_, _<_, _≤_};
+ghost use mathlib.Core.Bool.{true, false, cond, not, _&&_, _||_};
+ghost use mathlib.Core.List.{[], _∷_};
+ghost use Prim.Native.Nat.{_+_, _*_, _<_, _≤_};
 ghost use lib.Dec.{eqb, ltb};
 ghost use Rattle.loops.specs.Lists.{given, option};
 ghost use Rattle.loops.specs.Range.{collect};
 ghost use Rattle.rows.specs.Cells.{rowCount, cell, num, is};
-ghost use Rattle.sheet.specs.inner.Index.{ownedBy, Owned};
 ghost use Rattle.sheet.specs.inner.Accepted.{Accepted};
+ghost use Rattle.owners.specs.inner.Owners.{ownedBy, Owned};
 ghost use Rattle.findings.specs.inner.Sink.{sink, emit};
 ghost use Rattle.model.specs.Sheet.{sheet};
 ghost use Rattle.model.specs.inner.Indexed.{Indexed};
@@ -45,10 +45,10 @@ fn work_before(rows: &[i64], owned: &[u16; 8810], o: usize, k: usize) -> u64
     ensures { λ r. ⌜ decoded r ≡ workOf (partsBelow (now (rows .entry)) o k) (cell (now (rows .entry)) k 7) ⌝ }
 {
     let mut e: u64 = 0;
-    let mut i = sheet::first_owned(rows, owned, o, 23);
+    let mut i = owners::first_owned(rows, owned, o, 23);
     while i < k {
         e = work_after(rows, i, k, e);
-        i = sheet::next_owned(rows, owned, o, 23, i);
+        i = owners::next_owned(rows, owned, o, 23, i);
     }
     e
 }
@@ -103,10 +103,10 @@ fn check_works(rows: &[i64], owned: &[u16; 8810], o: usize, out: &mut [i64], n: 
 {
     let end = rows::row_count(rows);
     let mut m = n;
-    let mut k = sheet::first_owned(rows, owned, o, 23);
+    let mut k = owners::first_owned(rows, owned, o, 23);
     while k < end {
         m = check_work(rows, owned, o, k, out, m);
-        k = sheet::next_owned(rows, owned, o, 23, k);
+        k = owners::next_owned(rows, owned, o, 23, k);
     }
     m
 }
@@ -169,10 +169,10 @@ fn sum_of(rows: &[i64], owned: &[u16; 8810], o: usize, x: usize, mode: u64) -> u
 {
     let end = rows::row_count(rows);
     let mut sum: u64 = 0;
-    let mut k = sheet::first_owned(rows, owned, o, 23);
+    let mut k = owners::first_owned(rows, owned, o, 23);
     while k < end {
         sum = add_part(rows, owned, o, x, mode, k, sum);
-        k = sheet::next_owned(rows, owned, o, 23, k);
+        k = owners::next_owned(rows, owned, o, 23, k);
     }
     sum
 }
@@ -185,12 +185,12 @@ fn is_whole(rows: &[i64], owned: &[u16; 8810], o: usize) -> bool
     ensures { λ r. ⌜ r ≡ wholeIn (now (rows .entry)) o ⌝ }
 {
     let end = rows::row_count(rows);
-    let mut k = sheet::first_owned(rows, owned, o, 23);
+    let mut k = owners::first_owned(rows, owned, o, 23);
     while k < end {
         if !has_part(rows, k) {
             return true;
         }
-        k = sheet::next_owned(rows, owned, o, 23, k);
+        k = owners::next_owned(rows, owned, o, 23, k);
     }
     false
 }
@@ -259,7 +259,7 @@ fn check_activity(rows: &[i64], owned: &[u16; 8810], o: usize, out: &mut [i64], 
     requires { ⌜ Accepted (now rows) × Owned (now rows) (now owned) × (o < rowCount (now rows)) × (is (now rows) o 0 2 ≡ true) ⌝ }
     ensures { λ r. ⌜ sink (now (out .exit)) r ≡ emit (sink (now (out .entry)) n) (activityFindings (now (rows .entry)) o) ⌝ }
 {
-    let Found::At(x) = sheet::find_owned(rows, owned, o, 4) else {
+    let Found::At(x) = owners::find_owned(rows, owned, o, 4) else {
         return n;
     };
     let m = check_works(rows, owned, o, out, n);
@@ -272,10 +272,10 @@ fn check_task(rows: &[i64], owned: &[u16; 8810], t: usize, out: &mut [i64], n: u
 {
     let end = rows::row_count(rows);
     let mut m = n;
-    let mut o = sheet::first_owned(rows, owned, t, 2);
+    let mut o = owners::first_owned(rows, owned, t, 2);
     while o < end {
         m = check_activity(rows, owned, o, out, m);
-        o = sheet::next_owned(rows, owned, t, 2, o);
+        o = owners::next_owned(rows, owned, t, 2, o);
     }
     m
 }

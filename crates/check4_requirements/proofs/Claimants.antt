@@ -22,10 +22,10 @@ use Rattle.loops.proofs.PlaceLaws.{any-same, place-none}
 use Rattle.rows.specs.Cells.{rowCount, cell, num, is}
 use Rattle.rows.specs.Table.{classOf}
 use Rattle.sheet.specs.Places.{named, placeOf}
-use Rattle.sheet.specs.inner.Index.{ownerKind, ownedBy}
 use Rattle.sheet.specs.Refusals.{isAbsent, lacks}
 use Rattle.sheet.specs.inner.Accepted.{Accepted}
 use Rattle.sheet.proofs.Lookups.{is-num, num-is, Named, placed}
+use Rattle.owners.specs.inner.Owners.{ownerKind, ownedBy}
 use Rattle.model.specs.Sheet.{sheet, rowAt}
 use Rattle.model.specs.inner.Records.{numAt, requirementOf, resourceOf}
 use Rattle.model.specs.Resource.{resourceAt, resources, listed, skills, companions}
@@ -36,7 +36,7 @@ use Rattle.model.proofs.Accepting.{has-owner, one-row}
 use Rattle.model.proofs.OwnedLaws.{of-resource}
 use Rattle.model.proofs.Requiring.{of-requirement}
 use Rattle.definition.specs.CheckRequirements.{claim, claiming, passing, candidateId, lacking, claims}
-use Rattle.check4_requirements.specs.inner.ByRow.{hasSkill, candidateOf, lackingFor, lackingOf, claimOf, filled, claimsOf}
+use Rattle.check4_claims.specs.inner.Claims.{hasSkill, candidateOf, lackingFor, lackingOf, claimOf, filled, claimsOf}
 use Rattle.check4_requirements.proofs.Lists.{only-same, both-same, each-only, any-only, none-collect, given-any, given-each, each-ext, swap, any-false, any-at}
 
 -- what a column names along a chain

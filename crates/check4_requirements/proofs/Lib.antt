@@ -1,6 +1,3 @@
-pub mod Along
-pub mod Keys
-pub mod Claiming
 pub mod Lists
 pub mod Claimants
 pub mod Pieced

@@ -15,7 +15,7 @@ use Rattle.loops.proofs.RangeLaws.{collect-ext}
 use Rattle.loops.proofs.ListLaws.{each-collect, map-collect, keep-collect, any-collect, all-append}
 use Rattle.loops.proofs.SearchLaws.{any-hit}
 use Rattle.loops.proofs.PlaceLaws.{any-same}
-use Rattle.check4_requirements.specs.inner.ByRow.{both}
+use Rattle.check4_pieces.specs.inner.OfPiece.{both}
 
 -- two lists along one chain that agree on the chain
 pub only-same : {A : Type 0} (p : ℕ → Bool) (f g : ℕ → List A) (n : ℕ) → ((k : ℕ) → k < n → p k ≡ true → f k ≡ g k) → collect (only p f) n ≡ collect (only p g) n

@@ -10,7 +10,7 @@ use lib.Dec.{eqb, ltb}
 use lib.IntN.{ℤ, pos, negsuc, subℕ}
 use borrow.Author.Tests.{eqb-true, eq-eqb, ne-eqb, lt-ltb, le-ltb}
 use Rattle.loops.specs.Numbers.{toNat}
-use Rattle.loops.specs.Lists.{given, keep, anyOf, allOf, head, option, each}
+use Rattle.loops.specs.Lists.{given, keep, anyOf, allOf, head, option}
 use Rattle.loops.specs.Ordered.{entry, upsert, values}
 use Rattle.loops.specs.Range.{collect}
 use Rattle.loops.specs.Search.{anyBelow, firstPlace, someIf}
@@ -27,9 +27,9 @@ use Rattle.rows.specs.Cells.{rowCount, cell, num, is}
 use Rattle.rows.specs.Class.{n?-c}
 use Rattle.rows.specs.Ranges.{between, isNone, inRange, inClass}
 use Rattle.sheet.specs.Places.{placeOf}
-use Rattle.sheet.specs.inner.Index.{ownerKind, ownedBy}
 use Rattle.sheet.specs.inner.Accepted.{Accepted}
 use Rattle.sheet.proofs.Lookups.{is-num}
+use Rattle.owners.specs.inner.Owners.{ownerKind, ownedBy}
 use Rattle.model.specs.Sheet.{sheet}
 use Rattle.model.specs.Schedule.{Assignment, assignmentAt, assignmentsBelow, assignments, assignmentsForActivityAll}
 use Rattle.model.proofs.RowLaws.{assignment-row, assignment-none}
@@ -42,7 +42,9 @@ use Rattle.pieces.specs.inner.Bookings.{indexKey, keyAt, inPiece}
 use Rattle.pieces.specs.inner.Held.{heldAt}
 use Rattle.pieces.proofs.Indices.{indexIn, before-key, same-key}
 use Rattle.pieces.proofs.Companions.{booking, index-class, booked-index, of-piece}
-use Rattle.check4_requirements.specs.inner.ByRow.{assignsAt, keys, both, owns, keyIs, keyBelow, differs, differsIn, apart, freeIn, freeAt, runsOnIn}
+use Rattle.check4_pieces.specs.inner.OfPiece.{keys, both, keyIs, keyBelow, differs, differsIn, apart, freeIn}
+use Rattle.check4_claims.specs.inner.Claims.{freeAt, runsOnIn}
+use Rattle.check4_requirements.specs.inner.ByRow.{owns}
 use Rattle.check4_requirements.proofs.Lists.{only-same, both-same, map-only, keep-only, any-only, all-only, given-keep, given-any, given-map, any-false}
 
 -- ---- part indices as numbers
@@ -343,22 +345,3 @@ module _ (rows : List ℤ) (acc : Accepted rows) (o : ℕ) (l : o < rowCount row
             ≡ option y false (λ j. anyBelow (both (ownedBy rows o 23) (differsIn rows p j)) (rowCount rows))
         go none = refl
         go (some j) = differ-is j
-
--- ---- whether a booking is on a resource, and of a piece
-
-and-true-right : (a : Bool) → a ≡ (a && true)
-and-true-right true = refl
-and-true-right false = refl
-
-and-false-right : (a : Bool) → false ≡ (a && false)
-and-false-right true = refl
-and-false-right false = refl
-
-module _ (rows : List ℤ) (p x k : ℕ) {b : Bool} (e : b ≡ is rows k 3 x) where
-  pub assigned-there : {c : Bool} → b ≡ true → c ≡ keyIs rows p k → c ≡ assignsAt rows p x k
-  unfolding assignsAt
-  assigned-there t q = q ∙ rw (← e, t) (and-true-right (keyIs rows p k))
-
-  pub assigned-elsewhere : b ≡ false → false ≡ assignsAt rows p x k
-  unfolding assignsAt
-  assigned-elsewhere t = rw (← e, t) (and-false-right (keyIs rows p k))

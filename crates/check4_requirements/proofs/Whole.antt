@@ -17,8 +17,8 @@ use Rattle.findings.specs.declared.Violation.{Violation}
 use Rattle.calendar.specs.Clock.{clock}
 use Rattle.rows.specs.Cells.{rowCount, num, is}
 use Rattle.sheet.specs.Places.{ofKind, placeOf}
-use Rattle.sheet.specs.inner.Index.{ownerKind, ownedBy}
 use Rattle.sheet.specs.inner.Accepted.{Accepted}
+use Rattle.owners.specs.inner.Owners.{ownerKind, ownedBy}
 use Rattle.model.specs.Sheet.{sheet}
 use Rattle.model.specs.inner.Indexed.{Indexed}
 use Rattle.model.specs.inner.Records.{taskOf, activityOf, requirementOf}
@@ -32,7 +32,9 @@ use Rattle.model.proofs.OwnedLaws.{of-task, of-activity}
 use Rattle.model.proofs.Requiring.{requirement-row, requirement-none}
 use Rattle.definition.specs.Pieces.{resourcesOf}
 use Rattle.definition.specs.CheckRequirements.{unaccompanied, claims, checkPieceRequirements, orNothing, bookingsByPiece, checkActivityRequirements, checkRequirements}
-use Rattle.check4_requirements.specs.inner.ByRow.{keys, owns, keyBelow, keyIs, assignsAt, assigns, missingFor, missing, missingAt, freeIn, freeAt, unaccompaniedIn, requirementRows, runsOnIn, claimsOf, checkPiece, checkKeys, checkPieces, checkActivity, checkTask}
+use Rattle.check4_pieces.specs.inner.OfPiece.{keys, keyBelow, keyIs, assignsAt, assigns, missingFor, missing, missingAt, freeIn, unaccompaniedIn}
+use Rattle.check4_claims.specs.inner.Claims.{freeAt, requirementRows, runsOnIn, claimsOf}
+use Rattle.check4_requirements.specs.inner.ByRow.{owns, checkPiece, checkKeys, checkPieces, checkActivity, checkTask}
 use Rattle.check4_requirements.proofs.Lists.{only-same, both-same, each-only, map-only, any-only, all-only, given-any, given-each, empty-only, swap}
 use Rattle.check4_requirements.proofs.Claimants.{along, companions-along, isOf, claims-are}
 use Rattle.check4_requirements.proofs.Pieced.{found, pieceAt, assigned, assigned-are, runs-on, apart-is, pieces-are, keys-any, no-piece}

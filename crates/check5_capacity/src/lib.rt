@@ -1,6 +1,6 @@
 // Check 5, `check_capacity`: each booked resource whose load exceeds its limit.
 ghost use mathlib.Core.Path.{_≡_};
-ghost use Prim.Native.Nat.{ℕ, _<_};
+ghost use Prim.Native.Nat.{_<_};
 ghost use lib.IntN.{pos};
 ghost use lib.Signed.{ltZ};
 ghost use lib.ListN.{length};

@@ -1,17 +1,17 @@
 // Check 6, `check_calendars` of scheduler/feasibility.rs: a booking that may not pause is held whole by a window of its resource and of its activity;
 // resumable work starts in the joint working time of its piece, and that time within its span covers it.
 ghost use mathlib.Core.Path.{_≡_};
-ghost use Prim.Native.Nat.{ℕ, _+_, _<_, _≤_};
-ghost use mathlib.Core.Bool.{Bool, true, not, cond, _||_};
-ghost use mathlib.Core.Option.{Option, some};
+ghost use Prim.Native.Nat.{_+_, _<_, _≤_};
+ghost use mathlib.Core.Bool.{true, not, _||_};
+ghost use mathlib.Core.Option.{some};
 ghost use lib.Dec.{ltb};
 ghost use lib.IntN.{pos};
-ghost use lib.ListN.{getD, set};
+ghost use lib.ListN.{getD};
 ghost use Rattle.loops.specs.Lists.{given};
 ghost use Rattle.rows.specs.Cells.{rowCount, num, is};
 ghost use Rattle.sheet.specs.Places.{placeOf};
-ghost use Rattle.sheet.specs.inner.Index.{Linked, Owned};
 ghost use Rattle.sheet.specs.inner.Accepted.{Accepted};
+ghost use Rattle.owners.specs.inner.Owners.{Linked, Owned};
 ghost use Rattle.calendar.specs.Clock.{clock};
 ghost use Rattle.calendar.specs.Calendar.{intervalFits, jointWorking};
 ghost use Rattle.calendar.specs.Amount.{jointAvailableMs};
@@ -158,10 +158,10 @@ fn lacks_at(
     if !rows::is_at(rows, k, 0, 23) {
         return false;
     }
-    let Found::At(_) = sheet::booked_resource(rows, links, k) else {
+    let Found::At(_) = owners::booked_resource(rows, links, k) else {
         return false;
     };
-    let Found::At(a) = sheet::activity_of(rows, links, k) else {
+    let Found::At(a) = owners::activity_of(rows, links, k) else {
         return false;
     };
     if rows::is_at(rows, a, 7, 1) {
@@ -222,10 +222,10 @@ fn check_booking(
     requires { ⌜ Linked (now rows) (now links) × Owned (now rows) (now owned) × Lacking (now rows) (now lacking) × (k < rowCount (now rows)) × (is (now rows) k 0 23 ≡ true) ⌝ }
     ensures { λ r. ⌜ sink (now (out .exit)) r ≡ emit (sink (now (out .entry)) n) (checkBooking clock (sheet (now (rows .entry))) (assignmentOf (now (rows .entry)) k)) ⌝ }
 {
-    let Found::At(o) = sheet::booked_resource(rows, links, k) else {
+    let Found::At(o) = owners::booked_resource(rows, links, k) else {
         return n;
     };
-    let Found::At(a) = sheet::activity_of(rows, links, k) else {
+    let Found::At(a) = owners::activity_of(rows, links, k) else {
         return check_resource(rows, owned, o, k, out, n);
     };
     if rows::is_at(rows, a, 7, 1) {

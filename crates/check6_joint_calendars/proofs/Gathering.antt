@@ -27,8 +27,8 @@ use Rattle.calendar.specs.Calendar.{Calendar}
 use Rattle.calendar.specs.Layout.{calendarOf}
 use Rattle.rows.specs.Cells.{rowCount, num, is}
 use Rattle.sheet.specs.Places.{ofKind}
-use Rattle.sheet.specs.inner.Index.{ownPlace, ownedBy}
 use Rattle.sheet.proofs.Lookups.{is-num, num-is, placed}
+use Rattle.owners.specs.inner.Owners.{ownPlace, ownedBy}
 use Rattle.model.specs.Sheet.{sheet}
 use Rattle.model.specs.Resource.{windows}
 use Rattle.model.proofs.Requiring.{count-less}

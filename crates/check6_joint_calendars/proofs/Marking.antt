@@ -16,8 +16,9 @@ use Rattle.loops.specs.inner.Chain.{First, Stands}
 use Rattle.loops.proofs.Walks.{over, stands-end}
 use Rattle.rows.specs.Cells.{rowCount, num, is}
 use Rattle.sheet.specs.Places.{placeOf}
-use Rattle.sheet.specs.inner.Index.{ownerKind, orEnd, ownPlace, ownedBy}
+use Rattle.sheet.specs.inner.Index.{orEnd}
 use Rattle.sheet.proofs.Lookups.{placed}
+use Rattle.owners.specs.inner.Owners.{ownerKind, ownPlace, ownedBy}
 use Rattle.pieces.specs.inner.Bookings.{inPiece}
 use Rattle.pieces.proofs.Chains.{blind-if, own-activity, piece-owned}
 use Rattle.check6_joint_calendars.specs.inner.Taken.{isOn, takenBelow, marked, Marked, OnResources}

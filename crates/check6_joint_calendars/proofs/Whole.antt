@@ -21,7 +21,7 @@ use Rattle.calendar.specs.Layout as layout
 use Rattle.rows.specs.Cells.{rowCount, num, is}
 use Rattle.sheet.specs.inner.Accepted.{Accepted}
 use Rattle.sheet.specs.Places.{placeOf}
-use Rattle.sheet.specs.inner.Index.{ownedBy}
+use Rattle.owners.specs.inner.Owners.{ownedBy}
 use Rattle.model.specs.Sheet.{sheet}
 use Rattle.model.specs.Resource.{windows}
 use Rattle.model.specs.inner.Records.{activityOf, assignmentOf}

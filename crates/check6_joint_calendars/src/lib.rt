@@ -8,7 +8,8 @@ ghost use lib.ListN.{length};
 ghost use Rattle.loops.specs.Search.{countBelow};
 ghost use Rattle.rows.specs.Cells.{rowCount, num, is};
 ghost use Rattle.sheet.specs.Places.{placeOf};
-ghost use Rattle.sheet.specs.inner.Index.{Kinds, Linked, Owned, ownedBy};
+ghost use Rattle.sheet.specs.inner.Index.{Kinds};
+ghost use Rattle.owners.specs.inner.Owners.{Linked, Owned, ownedBy};
 ghost use Rattle.model.specs.Sheet.{sheet};
 ghost use Rattle.model.specs.inner.Indexed.{Indexed};
 ghost use Rattle.model.specs.Resource.{windows};
@@ -25,7 +26,7 @@ fn mark_resource(rows: &[i64], links: &[u16; 1600], k: usize, j: usize, marks: &
     ensures { λ _. ⌜ Marked (now (rows .entry)) k (suc j) (now (marks .exit)) ⌝ }
 {
     if pieces::in_piece(rows, k, j) {
-        let Found::At(r) = sheet::booked_resource(rows, links, j) else {
+        let Found::At(r) = owners::booked_resource(rows, links, j) else {
             return;
         };
         marks[r] = 1;
@@ -45,10 +46,10 @@ fn mark_resources(
 {
     let n = rows::row_count(rows);
     let mut marks = [0u8; 800];
-    let mut j = sheet::first_owned(rows, owned, a, 23);
+    let mut j = owners::first_owned(rows, owned, a, 23);
     while j < n {
         mark_resource(rows, links, k, j, &mut marks);
-        j = sheet::next_owned(rows, owned, a, 23, j);
+        j = owners::next_owned(rows, owned, a, 23, j);
     }
     marks
 }

@@ -16,7 +16,7 @@ use Rattle.loops.specs.Ordered.{Entry, upsert}
 use Rattle.loops.proofs.IntegerLaws.{signed-trans, signed-asym, signed-total}
 use Rattle.loops.proofs.OrderedLaws.{Order, alike, none-some, lookup, sorted, sorted-upsert, lookup-upsert}
 use Rattle.calendar.specs.Clock.{clock}
-use Rattle.rows.specs.Cells.{num, is}
+use Rattle.rows.specs.Cells.{num}
 use Rattle.model.specs.Sheet.{sheet}
 use Rattle.model.specs.Resource.{transportBetween}
 use Rattle.definition.specs.Pieces.{indexOf, beforeIndex}

@@ -3,14 +3,15 @@
 // one of its bookings, so each booking is judged with those of its piece, and no map is made.
 ghost use mathlib.Core.Path.{_≡_};
 ghost use mathlib.Core.Bool.{true, false, _&&_};
-ghost use Prim.Native.Nat.{ℕ, _<_, _≤_};
+ghost use Prim.Native.Nat.{_<_, _≤_};
 ghost use lib.IntN.{pos};
 ghost use Rattle.loops.specs.Lists.{anyOf, option};
 ghost use Rattle.loops.specs.Search.{anyBelow};
 ghost use Rattle.calendar.specs.Clock.{clock};
 ghost use Rattle.rows.specs.Cells.{rowCount, num, is};
-ghost use Rattle.sheet.specs.inner.Index.{Kinds, Linked, Owned, ownedBy};
+ghost use Rattle.sheet.specs.inner.Index.{Kinds};
 ghost use Rattle.sheet.specs.inner.Accepted.{Accepted};
+ghost use Rattle.owners.specs.inner.Owners.{Linked, Owned, ownedBy};
 ghost use Rattle.model.specs.Sheet.{sheet};
 ghost use Rattle.model.specs.Resource.{transportBetween};
 ghost use Rattle.definition.specs.CheckPrecedence.{runsOnAll, piecesOf};
@@ -35,12 +36,12 @@ fn starts_before(rows: &[i64], owned: &[u16; 8810], o: usize, k: usize, bound: u
     ensures { λ r. ⌜ r ≡ anyBelow (startsAt (now (rows .entry)) k bound) (rowCount (now (rows .entry))) ⌝ }
 {
     let n = rows::row_count(rows);
-    let mut j = sheet::first_owned(rows, owned, o, 23);
+    let mut j = owners::first_owned(rows, owned, o, 23);
     while j < n {
         if starts_at(rows, k, j, bound) {
             return true;
         }
-        j = sheet::next_owned(rows, owned, o, 23, j);
+        j = owners::next_owned(rows, owned, o, 23, j);
     }
     false
 }
@@ -76,12 +77,12 @@ fn any_unreached(
     ensures { λ r. ⌜ r ≡ anyBelow (λ k. ownedBy (now (rows .entry)) after 23 k && unreachedAt (now (rows .entry)) (num (now (rows .entry)) before 1) from k) (rowCount (now (rows .entry))) ⌝ }
 {
     let n = rows::row_count(rows);
-    let mut k = sheet::first_owned(rows, owned, after, 23);
+    let mut k = owners::first_owned(rows, owned, after, 23);
     while k < n {
         if unreached_at(rows, links, owned, before, after, from, k) {
             return true;
         }
-        k = sheet::next_owned(rows, owned, after, 23, k);
+        k = owners::next_owned(rows, owned, after, 23, k);
     }
     false
 }
@@ -109,7 +110,7 @@ pub fn piece_is_early(
     requires { ⌜ Accepted (now rows) × Kinds (now rows) (now kinds) × Linked (now rows) (now links) × Owned (now rows) (now owned) × (before < rowCount (now rows)) × (is (now rows) before 0 2 ≡ true) × (after < rowCount (now rows)) × (is (now rows) after 0 2 ≡ true) × (from ≤ 4000000000000) ⌝ }
     ensures { λ r. ⌜ r ≡ anyOf (λ p. clock .before (p .start) (clock .plus (pos from) (pos (transportBetween (sheet (now (rows .entry))) (runsOnAll clock (sheet (now (rows .entry))) (num (now (rows .entry)) before 1)) (p .to))))) (piecesOf clock (sheet (now (rows .entry))) (num (now (rows .entry)) after 1)) ⌝ }
 {
-    let Found::At(_) = sheet::find_owned(rows, owned, after, 23) else {
+    let Found::At(_) = owners::find_owned(rows, owned, after, 23) else {
         let x = spans::activity_span(rows, kinds, rows::num_at(rows, after, 1));
         return span_starts_before(x, from);
     };

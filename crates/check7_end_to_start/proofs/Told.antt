@@ -14,15 +14,15 @@ use Rattle.loops.proofs.ListLaws.{each-collect, keep-collect}
 use Rattle.calendar.specs.Clock.{clock}
 use Rattle.rows.specs.Cells.{rowCount, cell, num, is}
 use Rattle.sheet.specs.Places.{ofKind, placeOf}
-use Rattle.sheet.specs.inner.Index.{ownerKind, ownedBy}
 use Rattle.sheet.specs.inner.Accepted.{Accepted}
+use Rattle.owners.specs.inner.Owners.{ownerKind, ownedBy}
 use Rattle.findings.specs.declared.Violation.{Violation}
 use Rattle.findings.specs.inner.Sink.{Sink, emit}
 use Rattle.model.specs.Sheet.{sheet, rowAt}
 use Rattle.model.specs.inner.Records.{numAt}
 use Rattle.model.specs.Resource.{listed}
 use Rattle.model.specs.Activity.{Activity, activityAt, activities, activitiesOf, predecessors}
-use Rattle.model.specs.Constraint.{precedence, constraintAt, constraints}
+use Rattle.model.specs.Constraint.{constraintAt, constraints}
 use Rattle.model.specs.Schedule.{precedenceViolation}
 use Rattle.model.proofs.RowLaws.{kind-is, row-none, row-here, activity-row, activity-none}
 use Rattle.model.proofs.Accepting.{found-again}

@@ -2,14 +2,15 @@
 // precedence constraints.
 ghost use mathlib.Core.Path.{_≡_};
 ghost use mathlib.Core.Bool.{true};
-ghost use Prim.Native.Nat.{ℕ, _<_, _≤_};
-ghost use lib.IntN.{ℤ, pos, _+ℤ_, natAbs};
+ghost use Prim.Native.Nat.{_<_, _≤_};
+ghost use lib.IntN.{pos, _+ℤ_, natAbs};
 ghost use lib.Signed.{ltZ};
 ghost use Rattle.loops.specs.Lists.{each};
 ghost use Rattle.calendar.specs.Clock.{clock};
 ghost use Rattle.rows.specs.Cells.{rowCount, num, is};
-ghost use Rattle.sheet.specs.inner.Index.{Kinds, Owned};
+ghost use Rattle.sheet.specs.inner.Index.{Kinds};
 ghost use Rattle.sheet.specs.inner.Accepted.{Accepted};
+ghost use Rattle.owners.specs.inner.Owners.{Owned};
 ghost use Rattle.findings.specs.inner.Sink.{sink, emit};
 ghost use Rattle.model.specs.Sheet.{sheet};
 ghost use Rattle.model.specs.Activity.{activitiesOf, predecessors};
@@ -80,10 +81,10 @@ fn check_predecessors(
     let count = rows::row_count(rows);
     let after = rows::id_at(rows, o, 1);
     let mut m = n;
-    let mut i = sheet::first_owned(rows, owned, o, 8);
+    let mut i = owners::first_owned(rows, owned, o, 8);
     while i < count {
         m = end_to_start(rows, kinds, rows::num_at(rows, i, 2), after, 0, out, m);
-        i = sheet::next_owned(rows, owned, o, 8, i);
+        i = owners::next_owned(rows, owned, o, 8, i);
     }
     m
 }
@@ -102,10 +103,10 @@ pub fn check_all_predecessors(
 {
     let count = rows::row_count(rows);
     let mut m = n;
-    let mut i = sheet::first_owned(rows, owned, t, 2);
+    let mut i = owners::first_owned(rows, owned, t, 2);
     while i < count {
         m = check_predecessors(rows, kinds, owned, i, out, m);
-        i = sheet::next_owned(rows, owned, t, 2, i);
+        i = owners::next_owned(rows, owned, t, 2, i);
     }
     m
 }

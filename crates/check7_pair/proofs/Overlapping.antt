@@ -16,8 +16,8 @@ use Rattle.model.proofs.Finds.{first-same, first-placed}
 use Rattle.rows.specs.Cells.{rowCount, cell, num, is}
 use Rattle.rows.proofs.Signed.{signed-time}
 use Rattle.sheet.specs.Places.{placeOf}
-use Rattle.sheet.specs.inner.Index.{ownerKind, ownedBy}
 use Rattle.sheet.specs.inner.Accepted.{Accepted}
+use Rattle.owners.specs.inner.Owners.{ownerKind, ownedBy}
 use Rattle.calendar.specs.Clock.{clock}
 use Rattle.overlap.specs.declared.Overlap.{Overlap}
 use Rattle.overlap.specs.Bounds.{overlapOf, earliestEnd}

@@ -7,8 +7,9 @@ ghost use lib.IntN.{pos, natAbs};
 ghost use Rattle.loops.specs.Lists.{given};
 ghost use Rattle.calendar.specs.Clock.{clock};
 ghost use Rattle.rows.specs.Cells.{rowCount, cell, num, is};
-ghost use Rattle.sheet.specs.inner.Index.{Kinds, Linked, Owned};
+ghost use Rattle.sheet.specs.inner.Index.{Kinds};
 ghost use Rattle.sheet.specs.inner.Accepted.{Accepted};
+ghost use Rattle.owners.specs.inner.Owners.{Linked, Owned};
 ghost use Rattle.findings.specs.inner.Sink.{sink, emit};
 ghost use Rattle.overlap.specs.Bounds.{overlapOf, earliestStart, earliestEnd};
 ghost use Rattle.model.specs.Sheet.{sheet};
@@ -134,7 +135,7 @@ pub fn check_pair(
     let ActivitySpan::Between(start, end) = previous else {
         return n;
     };
-    let Found::At(k) = sheet::find_owned(rows, owned, after, 3) else {
+    let Found::At(k) = owners::find_owned(rows, owned, after, 3) else {
         return report_early(rows, kinds, links, owned, before, after, end, out, n);
     };
     check_overlapping(

@@ -14,8 +14,8 @@ use Rattle.loops.proofs.ListLaws.{keep-collect}
 use Rattle.loops.proofs.RangeLaws.{collect-ext}
 use Rattle.rows.specs.Cells.{rowCount, num, is}
 use Rattle.sheet.specs.Places.{placeOf}
-use Rattle.sheet.specs.inner.Index.{ownerKind, ownedBy}
 use Rattle.sheet.specs.inner.Accepted.{Accepted}
+use Rattle.owners.specs.inner.Owners.{ownerKind, ownedBy}
 use Rattle.model.specs.Sheet.{sheet}
 use Rattle.model.specs.Schedule.{assignmentAt, assignmentsBelow, assignments, assignmentsForActivityAll}
 use Rattle.model.proofs.RowLaws.{assignment-row, assignment-none}

@@ -12,8 +12,8 @@ use Rattle.loops.proofs.ListLaws.{map-collect, map-append, each-collect, foldl-
 use Rattle.loops.proofs.RangeLaws.{fold-ext, collect-ext}
 use Rattle.calendar.specs.Clock.{clock}
 use Rattle.rows.specs.Cells.{rowCount, num, is}
-use Rattle.sheet.specs.inner.Index.{ownedBy}
 use Rattle.sheet.specs.inner.Accepted.{Accepted}
+use Rattle.owners.specs.inner.Owners.{ownedBy}
 use Rattle.model.specs.Sheet.{Sheet, sheet}
 use Rattle.model.specs.Resource.{transportTo, transportBetween}
 use Rattle.definition.specs.Pieces.{resourcesOf}

@@ -13,9 +13,9 @@ use Rattle.loops.proofs.ListLaws.{head-collect}
 use Rattle.loops.proofs.PlaceLaws.{found-at}
 use Rattle.rows.specs.Cells.{rowCount, num, is}
 use Rattle.sheet.specs.Places.{placeOf}
-use Rattle.sheet.specs.inner.Index.{ownerKind, ownedBy}
 use Rattle.sheet.specs.Refusals.{lacks}
 use Rattle.sheet.specs.inner.Accepted.{Accepted}
+use Rattle.owners.specs.inner.Owners.{ownerKind, ownedBy}
 use Rattle.model.specs.Sheet.{sheet, rowAt}
 use Rattle.model.specs.inner.Records.{numAt}
 use Rattle.model.specs.Resource.{transportTo}

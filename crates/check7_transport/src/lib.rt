@@ -2,12 +2,12 @@
 // are booked on. The moves of a resource are found along its chain of rows.
 ghost use mathlib.Core.Path.{_≡_};
 ghost use mathlib.Core.Bool.{true};
-ghost use mathlib.Core.List.{List, [], _∷_};
-ghost use Prim.Native.Nat.{ℕ, _<_, _≤_, max};
+ghost use mathlib.Core.List.{[], _∷_};
+ghost use Prim.Native.Nat.{_<_, _≤_, max};
 ghost use Rattle.calendar.specs.Clock.{clock};
 ghost use Rattle.rows.specs.Cells.{rowCount, num, is};
-ghost use Rattle.sheet.specs.inner.Index.{Linked, Owned};
 ghost use Rattle.sheet.specs.inner.Accepted.{Accepted};
+ghost use Rattle.owners.specs.inner.Owners.{Linked, Owned};
 ghost use Rattle.model.specs.Sheet.{sheet};
 ghost use Rattle.model.specs.Resource.{transportTo, transportBetween};
 ghost use Rattle.definition.specs.CheckPrecedence.{runsOnAll};
@@ -19,7 +19,7 @@ fn transport_to(rows: &[i64], links: &[u16; 1600], owned: &[u16; 8810], i: usize
     ensures value { λ r. ⌜ r ≡ transportTo (sheet (now (rows .entry))) (num (now (rows .entry)) i 3) b ⌝ }
     ensures bound { λ r. ⌜ r ≤ 4000000000000 ⌝ }
 {
-    let Found::At(o) = sheet::booked_resource(rows, links, i) else {
+    let Found::At(o) = owners::booked_resource(rows, links, i) else {
         return 0;
     };
     let a = rows::num_at(rows, i, 3);
@@ -46,10 +46,10 @@ pub fn moved_to(rows: &[i64], links: &[u16; 1600], owned: &[u16; 8810], o: usize
 {
     let n = rows::row_count(rows);
     let mut t = 0;
-    let mut i = sheet::first_owned(rows, owned, o, 23);
+    let mut i = owners::first_owned(rows, owned, o, 23);
     while i < n {
         t = longer(t, transport_to(rows, links, owned, i, b));
-        i = sheet::next_owned(rows, owned, o, 23, i);
+        i = owners::next_owned(rows, owned, o, 23, i);
     }
     t
 }
@@ -68,10 +68,10 @@ pub fn moved_between(
 {
     let n = rows::row_count(rows);
     let mut t = 0;
-    let mut i = sheet::first_owned(rows, owned, p, 23);
+    let mut i = owners::first_owned(rows, owned, p, 23);
     while i < n {
         t = longer(t, moved_to(rows, links, owned, o, rows::num_at(rows, i, 3)));
-        i = sheet::next_owned(rows, owned, p, 23, i);
+        i = owners::next_owned(rows, owned, p, 23, i);
     }
     t
 }

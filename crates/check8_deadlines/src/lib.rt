@@ -1,7 +1,7 @@
 // Check 8, `check_deadlines`: each task with a deadline that completes after it.
 ghost use mathlib.Core.Path.{_≡_};
-ghost use mathlib.Core.Bool.{Bool, true, false};
-ghost use Prim.Native.Nat.{ℕ, _<_};
+ghost use mathlib.Core.Bool.{true, false};
+ghost use Prim.Native.Nat.{_<_};
 ghost use Rattle.calendar.specs.Clock.{clock};
 ghost use Rattle.loops.specs.Lists.{each};
 ghost use Rattle.rows.specs.Cells.{is};

@@ -1,5 +1,5 @@
 -- Each two members' bookings: the list of bookings and its pairs, as loops over the members' rows. Assumes nothing.
-use Prim.Native.Nat.{ℕ, zero, suc, _<_}
+use Prim.Native.Nat.{ℕ, zero, suc, _+_, _<_, _≤_}
 use mathlib.Core.Path.{_≡_, refl, ap, ap₂, sym, _∙_}
 use mathlib.Core.Bool.{Bool, true, false, cond, _&&_, and-assoc}
 use mathlib.Core.List.{List, [], _∷_, _++_, append-nil}
@@ -8,7 +8,7 @@ use native.Mathlib.Omega.{arith}
 use native.Mathlib.Decide.{decLt}
 use lib.Dec.{eqb, ltb}
 use lib.IntN.{ℤ, pos}
-use lib.ListN.{length}
+use lib.ListN.{length, getD, set}
 use borrow.Author.Tests.{lt-ltb, le-ltb}
 use Rattle.loops.specs.Lists.{given, keep, head, each, option}
 use Rattle.loops.specs.Range.{collect}
@@ -21,7 +21,9 @@ use Rattle.loops.proofs.PlaceLaws.{found-at}
 use Rattle.calendar.specs.Clock.{clock}
 use Rattle.rows.specs.Cells.{rowCount, num, is}
 use Rattle.sheet.specs.Places.{ofKind, named}
-use Rattle.sheet.specs.inner.Kept.{IsRow}
+use Rattle.sheet.specs.inner.Index.{orEnd, storedPlace}
+use Rattle.sheet.specs.inner.Kept.{IsRow, Kept}
+use Rattle.sheet.proofs.Keeping.{Keeping, keeping-turn, kept-at}
 use Rattle.findings.specs.declared.Violation.{Violation}
 use Rattle.model.specs.Sheet.{sheet, rowAt}
 use Rattle.model.specs.inner.Records.{numAt}
@@ -264,10 +266,23 @@ booked-test rows a r n N k l z s e q =
 
 -- ---- places of bookings
 
-pub booking-row : (rows : List ℤ) (p r k : ℕ) → IsRow rows (memberBooking rows p r k)
+booking-row : (rows : List ℤ) (p r k : ℕ) → IsRow rows (memberBooking rows p r k)
 unfolding memberBooking
 booking-row rows p r k = record { within = λ i. go i (is rows k 0 22 && is rows k 1 p) }
   where
     go : (i : ℕ) (b : Bool) → cond b (firstPlace (bookedOn rows (num rows k 2) r) (rowCount rows)) none ≡ some i → i < rowCount rows
     go i true e = found-at (bookedOn rows (num rows k 2) r) (rowCount rows) i e .0
     go i false e = let z : _≡_ {A = ℕ} 0 1 = cc in absurd (omega arith)
+
+module _ (rows : List ℤ) (p r k : ℕ) {x : Option ℕ} where
+  pub booking-found : x ≡ memberBooking rows p r k → IsRow rows x
+  booking-found e = rw e (booking-row rows p r k)
+
+  -- one booking more in the table
+  pub booking-turn : {n : ℕ} {t t′ : List ℕ} → k < n → n ≡ rowCount rows → rowCount rows ≤ 800 → x ≡ memberBooking rows p r k → t′ ≡ set t k (orEnd rows x)
+      → Keeping rows (memberBooking rows p r) k t → Keeping rows (memberBooking rows p r) (k + 1) t′
+  booking-turn l z s e q h = keeping-turn rows (memberBooking rows p r) k (omega arith) e q h
+
+  -- what is read of the table
+  pub booking-kept : (t : List ℕ) → Kept rows (memberBooking rows p r) t → k < rowCount rows → x ≡ storedPlace rows (getD t k 0) → x ≡ memberBooking rows p r k
+  booking-kept t h l e = kept-at rows (memberBooking rows p r) k t h l (booking-row rows p r k) e

@@ -17,7 +17,7 @@ use denote.Array.{each}
 use denote.Shadow.{shadow}
 use Rattle.loops.proofs.RangeLaws.{collect-ext}
 use Rattle.loops.proofs.PlaceLaws.{or-none-right, if-none}
-use Rattle.text.specs.Parts.{parts}
+use Rattle.text_fields.specs.Parts.{parts}
 use Rattle.text.specs.Text.{answerFrom, answerOf, rowsOf, rowsAfter}
 use Rattle.refusals.specs.declared.Answer.{Answer}
 use Rattle.refusals.specs.declared.Answer.the-variants.{Accepted, Refused}

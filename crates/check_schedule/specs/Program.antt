@@ -5,7 +5,7 @@ use mathlib.Core.List.{List}
 use mathlib.Core.Option.{Option, none, some}
 use lib.IntN.{ℤ}
 use lib.ListN.{length}
-use Rattle.text.specs.Parts.{parts}
+use Rattle.text_fields.specs.Parts.{parts}
 use Rattle.text.specs.Text.{answerOf, rowsOf}
 use Rattle.refusals.specs.declared.Answer.{Answer}
 use Rattle.refusals.specs.declared.Answer.the-variants.{Accepted, Refused}

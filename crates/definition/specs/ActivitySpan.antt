@@ -1,11 +1,11 @@
 -- `activity_span` of scheduler/feasibility.rs.
 use Prim.Native.Nat.{ℕ}
-use mathlib.Core.List.{List, map}
+use mathlib.Core.List.{map}
 use mathlib.Core.Option.{Option, none, some}
 use Rattle.loops.specs.Lists.{option}
 use Rattle.calendar.specs.Clock.{Clock}
 use Rattle.model.specs.Sheet.{Sheet}
-use Rattle.model.specs.Schedule.{Assignment, assignmentsForActivityAll, timeOnlyForActivity, latest, earliest}
+use Rattle.model.specs.Schedule.{assignmentsForActivityAll, timeOnlyForActivity, latest, earliest}
 
 pub record Span (T : Type 0) : Type 0 where
   pub start : T

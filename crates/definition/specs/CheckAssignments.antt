@@ -1,6 +1,6 @@
 -- Check 1: `check_assignments` of scheduler/feasibility.rs.
 use Prim.Native.Nat.{ℕ, suc}
-use mathlib.Core.Bool.{Bool, true, false, cond, not, _&&_, _||_}
+use mathlib.Core.Bool.{Bool, cond, not, _&&_, _||_}
 use mathlib.Core.List.{List, [], _∷_, _++_, map, foldl}
 use mathlib.Core.Option.{Option, none, some}
 use lib.Dec.{eqb}
@@ -12,7 +12,7 @@ use Rattle.loops.specs.Range.{collect}
 use Rattle.calendar.specs.Clock.{Clock}
 use Rattle.findings.specs.declared.Violation.{Violation}
 use Rattle.model.specs.Sheet.{Sheet}
-use Rattle.model.specs.Task.{Task, findTask}
+use Rattle.model.specs.Task.{findTask}
 use Rattle.model.specs.Activity.{Activity, findActivity, split, requirements, neededMs}
 use Rattle.model.specs.Schedule.{Assignment, assignmentAt, assignmentsBelow, unknownActivity, durationTooShort, earlyStart}
 use Rattle.definition.specs.Pieces.{ofPiece, isHeld, runsOn}

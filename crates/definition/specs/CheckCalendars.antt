@@ -1,6 +1,6 @@
 -- Check 6: `check_calendars` of scheduler/feasibility.rs.
 use Prim.Native.Nat.{ℕ}
-use mathlib.Core.Bool.{Bool, true, false, cond, not, _&&_, _||_}
+use mathlib.Core.Bool.{Bool, cond, not, _||_}
 use mathlib.Core.List.{List, [], _∷_, _++_, map}
 use mathlib.Core.Option.{Option, none, some}
 use lib.Dec.{ltb}
@@ -10,7 +10,7 @@ use Rattle.calendar.specs.Calendar.{Calendar, intervalFits, jointWorking}
 use Rattle.calendar.specs.Amount.{jointAvailableMs}
 use Rattle.findings.specs.declared.Violation.{Violation}
 use Rattle.model.specs.Sheet.{Sheet}
-use Rattle.model.specs.Resource.{Resource, findResource, resourceCalendar}
+use Rattle.model.specs.Resource.{findResource, resourceCalendar}
 use Rattle.model.specs.Activity.{Activity, findActivity, activityCalendar, neededMs}
 use Rattle.model.specs.Schedule.{Assignment, assignments, resourceUnavailable, timeWindowViolation}
 use Rattle.definition.specs.Pieces.{assignedWith, runsOn}

@@ -1,8 +1,7 @@
 -- Check 9: `check_constraints` of scheduler/feasibility.rs.
 use Prim.Native.Nat.{ℕ}
-use mathlib.Core.Bool.{Bool, true, false, not, _&&_, _||_}
+use mathlib.Core.Bool.{Bool, false, not, _&&_, _||_}
 use mathlib.Core.List.{List, [], _∷_, _++_}
-use mathlib.Core.Option.{Option, none, some}
 use lib.ListN.{length}
 use lib.Dec.{eqb}
 use Rattle.loops.specs.Lists.{given, keep, head, option, each}
@@ -13,7 +12,7 @@ use Rattle.model.specs.Sheet.{Sheet}
 use Rattle.model.specs.Constraint.{Constraint, precedence, capacity, timeWindow, noOverlap, synchronize, constraintAt, members}
 use Rattle.model.specs.Schedule.{Assignment, assignmentsForActivityAll, timeWindowViolation, capacityExceeded, synchronizeViolation}
 use Rattle.definition.specs.CheckRequirements.{sameTime}
-use Rattle.definition.specs.ActivitySpan.{Span, activitySpan}
+use Rattle.definition.specs.ActivitySpan.{activitySpan}
 
 module _ {T : Type 0} (K : Clock T) (s : Sheet T) where
   -- the activity's first booking on the resource

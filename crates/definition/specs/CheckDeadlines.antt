@@ -1,6 +1,5 @@
 -- Check 8: `check_deadlines` of scheduler/feasibility.rs.
 use mathlib.Core.List.{List, []}
-use mathlib.Core.Option.{Option, none, some}
 use lib.Dec.{ltb}
 use Rattle.loops.specs.Lists.{given, option, each}
 use Rattle.calendar.specs.Clock.{Clock}

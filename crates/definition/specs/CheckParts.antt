@@ -1,7 +1,7 @@
 -- Check 3: `check_parts` of scheduler/feasibility.rs.
 use Prim.Native.Nat.{ℕ, _+_}
-use mathlib.Core.Bool.{Bool, true, false, cond, not, _&&_, _||_}
-use mathlib.Core.List.{List, [], _∷_, _++_, map, foldl}
+use mathlib.Core.Bool.{Bool, false, cond, not, _&&_, _||_}
+use mathlib.Core.List.{List, [], _∷_, _++_, foldl}
 use mathlib.Core.Option.{Option, none, some}
 use lib.ListN.{length}
 use lib.Dec.{eqb, ltb}
@@ -11,9 +11,9 @@ use Rattle.loops.specs.Lists.{given, keep, anyOf, head, option, isSome, isEmpty
 use Rattle.loops.specs.Ordered.{Entry, upsert, values}
 use Rattle.findings.specs.declared.Violation.{Violation}
 use Rattle.model.specs.Sheet.{Sheet}
-use Rattle.model.specs.Task.{Task, tasks}
+use Rattle.model.specs.Task.{tasks}
 use Rattle.model.specs.Activity.{Activity, Split, split, activitiesOf}
-use Rattle.model.specs.Schedule.{Part, Assignment, assignmentsForActivityAll, unknownActivity, durationTooShort}
+use Rattle.model.specs.Schedule.{Part, assignmentsForActivityAll, unknownActivity, durationTooShort}
 
 -- `parts`: the work of each index, the last where it was given more than once, in the order of the indices
 unfoldable pub partsOf : List Part → List (Entry ℤ ℕ)

@@ -1,19 +1,19 @@
 -- Check 4: `check_requirements` and `check_piece_requirements` of scheduler/feasibility.rs.
 use Prim.Native.Nat.{ℕ, zero, suc}
-use mathlib.Core.Bool.{Bool, true, false, cond, not, _&&_, _||_}
-use mathlib.Core.List.{List, [], _∷_, _++_, map, foldl}
-use mathlib.Core.Option.{Option, none, some}
+use mathlib.Core.Bool.{Bool, false, cond, not, _&&_, _||_}
+use mathlib.Core.List.{List, [], _∷_, _++_, foldl}
+use mathlib.Core.Option.{Option}
 use lib.ListN.{length}
 use lib.Dec.{eqb}
 use lib.IntN.{ℤ, pos}
 use lib.Signed.{ltZ}
 use Rattle.loops.specs.Numbers.{toNat}
-use Rattle.loops.specs.Lists.{given, anyOf, option, isEmpty, each, among}
+use Rattle.loops.specs.Lists.{given, anyOf, isEmpty, each, among}
 use Rattle.loops.specs.Ordered.{Entry, upsert, values}
 use Rattle.calendar.specs.Clock.{Clock, upTo}
 use Rattle.findings.specs.declared.Violation.{Violation}
 use Rattle.model.specs.Sheet.{Sheet}
-use Rattle.model.specs.Task.{Task, tasks}
+use Rattle.model.specs.Task.{tasks}
 use Rattle.model.specs.Resource.{resources, skills, companions}
 use Rattle.model.specs.Activity.{Activity, ResourceRequirement, activitiesOf, requirements, requiredSkills, isCandidate}
 use Rattle.model.specs.Schedule.{Assignment, assignmentsForActivityAll, requirementUnfilled, skillMismatch}

@@ -1,6 +1,6 @@
 -- Check 2: `check_time_only` of scheduler/feasibility.rs.
-use Prim.Native.Nat.{ℕ, _+_}
-use mathlib.Core.Bool.{Bool, true, false, cond, not, _&&_, _||_}
+use Prim.Native.Nat.{ℕ}
+use mathlib.Core.Bool.{Bool, cond, not, _&&_}
 use mathlib.Core.List.{List, [], _∷_, _++_}
 use mathlib.Core.Option.{Option, none, some}
 use lib.Dec.{eqb}
@@ -13,7 +13,7 @@ use Rattle.calendar.specs.Calendar.{Calendar, intervalFits, jointWorking}
 use Rattle.calendar.specs.Amount.{jointAvailableMs}
 use Rattle.findings.specs.declared.Violation.{Violation}
 use Rattle.model.specs.Sheet.{Sheet}
-use Rattle.model.specs.Task.{Task, tasks, findTask}
+use Rattle.model.specs.Task.{tasks, findTask}
 use Rattle.model.specs.Activity.{Activity, findActivity, activitiesOf, requirements, activityCalendar}
 use Rattle.resource_timing.specs.Durations.{totalMs}
 use Rattle.model.specs.Schedule.{TimeOnlySpan, spanAt, timeOnlyBelow, timeOnly, unknownActivity, durationTooShort, timeWindowViolation, earlyStart}

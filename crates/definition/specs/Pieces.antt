@@ -1,7 +1,7 @@
 -- scheduler/feasibility.rs: `piece_key`, `companions_among`, and what a piece runs on.
 use Prim.Native.Nat.{ℕ}
 use mathlib.Core.Bool.{Bool, true, false, not, _&&_}
-use mathlib.Core.List.{List, [], _∷_, map}
+use mathlib.Core.List.{List, map}
 use mathlib.Core.Option.{Option, none, some}
 use lib.Dec.{eqb}
 use lib.IntN.{ℤ}
@@ -9,7 +9,6 @@ use lib.Signed.{ltZ}
 use Rattle.loops.specs.Lists.{keep, anyOf, among, option}
 use Rattle.model.specs.Sheet.{Sheet}
 use Rattle.model.specs.Resource.{companions}
-use Rattle.model.specs.Activity.{Activity}
 use Rattle.model.specs.Schedule.{Part, Assignment, assignments}
 
 -- the part's index, none of the activity whole

@@ -15,13 +15,17 @@ use Rattle.loops.proofs.PlaceLaws.{any-same}
 use Rattle.loops.proofs.Walks.{fold-first, fold-next, stands-end}
 use Rattle.rows.specs.Cells.{rowCount, num, is}
 use Rattle.sheet.specs.Places.{placeOf}
-use Rattle.sheet.specs.inner.Index.{ownPlace, ownedBy}
+use Rattle.sheet.specs.declared.Found.{Found}
+use Rattle.sheet.specs.declared.Found.the-variants.{At}
+use Rattle.sheet.specs.inner.Found.{foundOf}
 use Rattle.sheet.specs.inner.Accepted.{Accepted}
+use Rattle.owners.specs.inner.Owners.{ownPlace, ownedBy}
 use Rattle.resource_timing.specs.declared.ResourceTiming.{ResourceTiming}
 use Rattle.resource_timing.specs.declared.Piece.{Piece}
 use Rattle.resource_timing.specs.declared.Timed.{Timed}
 use Rattle.resource_timing.specs.Durations.{TimedSoFar, start, timedOn, pieceTiming, pieceDuration, timed, timedDuration}
-use Rattle.resource_timing.specs.inner.Limits.{timedOf}
+use Rattle.resource_timing.specs.inner.Limits.{timedOf, timedWith, PieceAmounts}
+use Rattle.resource_timing.proofs.Laws.{timed-known}
 use Rattle.model.specs.Sheet.{sheet}
 use Rattle.model.specs.Activity.{pieceOf, timing, durationOn}
 use Rattle.model.specs.Schedule.{Assignment, assignmentAt, assignmentsBelow, assignments}
@@ -32,10 +36,10 @@ use Rattle.pieces.specs.inner.Bookings.{inPiece, names, holdsFor}
 use Rattle.pieces.specs.inner.Held.{heldAt}
 use Rattle.pieces.proofs.Chains.{piece-activity, piece-kind, piece-owned, pieces-same}
 use Rattle.pieces.proofs.Companions.{of-piece, held-among, held-booking}
-use Rattle.derived_times.specs.inner.Rows.{columnsOf, partAt, timedBy, timingOf, timedAt}
+use Rattle.derived_times.specs.inner.Rows.{columnsOf, partAt, timedBy, timingOf, timingPlace, timedAt}
 use Rattle.derived_times.specs.Times.{derived}
 use Rattle.derived_times.proofs.Finds.{timing-is}
-use Rattle.derived_times.proofs.Parts.{activity-id}
+use Rattle.derived_times.proofs.Parts.{activity-id, timing-row, row-amounts}
 
 each-map : {A B C : Type 0} (f : B → List C) (g : A → B) (l : List A) → each f (map g l) ≡ each (λ x. f (g x)) l
 unfolding each
@@ -144,6 +148,17 @@ module _ (rows : List ℤ) where
           → g ≡ timedAt rows k piece g j
       unfolding timedAt
       untimed-here p q f = rw (p, q, timing-at none p f)
+
+      -- the same, of what the code found
+      pub timed-found : {t t′ : Timed} {x : ResourceTiming} {r : Found} {i : ℕ} → t ≡ timedOf g → t′ ≡ timedWith t piece x → x ≡ timingOf rows i
+          → r ≡ At i → foundOf r ≡ timingPlace rows j → inPiece rows k j ≡ true → heldAt rows j ≡ false → Accepted rows → PieceAmounts piece
+          → t′ ≡ timedOf (timedAt rows k piece g j)
+      timed-found {t} {t′} {x} {r} {i} e u v w f p q acc a =
+          let z : firstPlace (timedBy rows (num rows j 1) (num rows j 3)) (rowCount rows) ≡ some i = timing-row rows j (piece-kind rows k j p) (sym (ap foundOf w) ∙ f) in
+          u
+          ∙ ap (λ y. timedWith y piece x) e
+          ∙ timed-known g piece x a (rw v (row-amounts rows acc j i z))
+          ∙ ap timedOf (ap (λ y. timedOn g (pieceTiming piece y)) v ∙ timed-here i p q z)
 
   -- ---- the whole derivation
 

@@ -1,14 +1,15 @@
 -- What a booking's piece is judged as, and how large the amounts of rows are. Assumes nothing.
-use Prim.Native.Nat.{ℕ, _<_, _≤_}
+use Prim.Native.Nat.{ℕ, _+_, _<_, _≤_}
 use mathlib.Core.Path.{_≡_, refl, sym, ap, ap₂, _∙_}
 use mathlib.Core.Bool.{Bool, Bool·beq, true, false, cond, _||_, true≢false}
 use mathlib.Core.List.{List}
 use mathlib.Core.Option.{Option, none, some}
 use native.Mathlib.Omega.{arith}
 use mir.Syntax.{w64}
-use mir.Val.{Fits}
-use lib.IntN.{ℤ, pos}
-use lib.Signed.{ltZ}
+use mir.Val.{SFits, toZ, ofZ}
+use mir.Facts.{toZ-ofZ}
+use lib.IntN.{ℤ}
+use lib.ListN.{getD, set, replicate}
 use lib.Ieee.{binary64, ofBits}
 use Rattle.loops.specs.Lists.{option}
 use Rattle.loops.specs.Search.{firstPlace}
@@ -18,17 +19,23 @@ use Rattle.loops.proofs.PlaceLaws.{found-at, place-same}
 use Rattle.rows.specs.Cells.{rowCount, cell, num, is}
 use Rattle.rows.specs.Ranges.{isNone}
 use Rattle.sheet.specs.Places.{named, placeOf}
-use Rattle.sheet.specs.inner.Index.{ownerKind, orEnd, ownPlace, ownedBy}
+use Rattle.sheet.specs.declared.Found.{Found}
+use Rattle.sheet.specs.declared.Found.the-variants.{At}
+use Rattle.sheet.specs.inner.Found.{foundOf}
+use Rattle.sheet.specs.inner.Index.{orEnd, storedPlace}
 use Rattle.sheet.specs.inner.Kept.{IsRow}
 use Rattle.sheet.specs.inner.Accepted.{Accepted}
 use Rattle.sheet.specs.Refusals.{lacks}
 use Rattle.sheet.proofs.Lookups.{placed, num-is}
+use Rattle.sheet.proofs.Keeping.{Keeping, keeping-start, keeping-turn, keeping-end, kept-at}
+use Rattle.owners.specs.inner.Owners.{ownerKind, ownPlace, ownedBy}
 use Rattle.resource_timing.specs.declared.ActivityDuration.{ActivityDuration}
+use Rattle.resource_timing.specs.declared.PartTimes.{PartTimes}
 use Rattle.resource_timing.specs.declared.ResourceTiming.the-variants.{Speed, Duration}
 use Rattle.resource_timing.specs.declared.Piece.the-variants.{Whole, InPart}
 use Rattle.resource_timing.specs.Durations.{partOf}
 use Rattle.resource_timing.specs.inner.Limits.{TimingAmounts}
-use Rattle.model.specs.Sheet.{sheet, nothing}
+use Rattle.model.specs.Sheet.{sheet}
 use Rattle.model.specs.Activity.{split, pieceOf}
 use Rattle.model.specs.inner.Records.{activityOf}
 use Rattle.model.proofs.RowLaws.{kind-is}
@@ -37,7 +44,7 @@ use Rattle.model.proofs.OwnedLaws.{of-activity, own-activity}
 use Rattle.pieces.specs.inner.Bookings.{names}
 use Rattle.pieces.proofs.Chains.{names-kind, place-never, unnamed}
 use Rattle.pieces.proofs.Companions.{both-parts}
-use Rattle.derived_times.specs.inner.Rows.{columnsOf, partAt, timedBy, timingOf, timingPlace, earlierOf}
+use Rattle.derived_times.specs.inner.Rows.{columnsOf, partAt, timedBy, timingOf, timingPlace, earlierOf, Timings}
 use Rattle.derived_times.specs.inner.Needs.{restAt, Times}
 use Rattle.derived_times.proofs.Finds.{splitOf, split-is, earlier-is}
 
@@ -109,6 +116,23 @@ module _ (rows : List ℤ) where
       unfolding pieceOf
       piece-part i q = rw (part-some acc k l h f, split-at (some i) (split-row i q))
 
+  -- the same, of what the code found
+  pub piece-found : (k o : ℕ) {x : ℤ} {b : Bool} {r : Found} {i work whole overhead : ℕ} {part : PartTimes} → part ≡ partOf (toZ w64 (ofZ w64 x)) work whole overhead
+      → x ≡ cell rows k 7 → SFits w64 x → work ≡ num rows k 8 → whole ≡ num rows o 5 → overhead ≡ num rows i 4 → b ≡ isNone (toZ w64 (ofZ w64 x)) → b ≡ false
+      → r ≡ At i → foundOf r ≡ firstPlace (ownedBy rows o 4) (rowCount rows)
+      → is rows k 0 23 ≡ true → placeOf rows 2 (num rows k 1) ≡ some o → Accepted rows → k < rowCount rows
+      → InPart part ≡ pieceOf (sheet rows) (activityOf rows o) (partAt rows k)
+  piece-found k o {i = i} p c s w a v q z t f h e acc l =
+      ap InPart (rw (toZ-ofZ s, c, w, a, v) at p) ∙ piece-part k o h e acc l (rw (toZ-ofZ s, c) at (sym q ∙ z)) i (sym (ap foundOf t) ∙ f)
+
+  module _ (k o : ℕ) (x : ℤ) (work whole overhead : ℕ) (part : PartTimes) (p : part ≡ partOf x work whole overhead) (h : is rows k 0 23 ≡ true)
+      (e : placeOf rows 2 (num rows k 1) ≡ some o) (acc : Accepted rows) where
+    pub work-amount : work ≡ num rows k 8 → part .«work_ms» ≤ 4000000000000
+    work-amount w = rw (p, w) (part-amounts k o h e acc .0)
+
+    pub whole-amount : whole ≡ num rows o 5 → part .«whole_ms» ≤ 4000000000000
+    whole-amount a = rw (p, a) (part-amounts k o h e acc .1)
+
   -- ---- amounts
 
   pub columns-are : (o : ℕ) {s p t : ℕ} → s ≡ num rows o 4 → p ≡ num rows o 5 → t ≡ num rows o 6
@@ -162,6 +186,26 @@ module _ (rows : List ℤ) where
       go : (i : ℕ) (b : Bool) → cond b (firstPlace (timedBy rows (num rows k 1) (num rows k 3)) (rowCount rows)) none ≡ some i → i < rowCount rows
       go i true e = found-at _ (rowCount rows) i e .0
       go i false e = let z : _≡_ {A = ℕ} 0 1 = cc in absurd (omega arith)
+
+  pub timing-found : (k : ℕ) {x : Option ℕ} → x ≡ timingPlace rows k → IsRow rows x
+  timing-found k e = rw e (timing-is-row k)
+
+  pub timing-kept : (k : ℕ) (t : List ℕ) {x : Option ℕ} → Timings rows t → k < rowCount rows → x ≡ storedPlace rows (getD t k 0) → x ≡ timingPlace rows k
+  timing-kept k t h l e = kept-at rows (timingPlace rows) k t h l (timing-is-row k) e
+
+  -- the rows below k have theirs
+  pub record TimingsBelow (k : ℕ) (t : List ℕ) : Type 0 where
+    pub kept : Keeping rows (timingPlace rows) k t
+
+  pub timings-start : TimingsBelow 0 (replicate 800 0)
+  timings-start = record { kept = keeping-start rows (timingPlace rows) }
+
+  pub timings-turn : (k : ℕ) {n : ℕ} {x : Option ℕ} {t t′ : List ℕ} → t′ ≡ set t k (orEnd rows x) → x ≡ timingPlace rows k → TimingsBelow k t → k < n → n ≡ rowCount rows
+      → rowCount rows ≤ 800 → TimingsBelow (k + 1) t′
+  timings-turn k q e h l z s = record { kept = keeping-turn rows (timingPlace rows) k (omega arith) e q (h .kept) }
+
+  pub timings-end : (k n : ℕ) {t : List ℕ} → n ≤ k → k ≤ n → n ≡ rowCount rows → rowCount rows ≤ 800 → TimingsBelow k t → Timings rows t
+  timings-end k n l u z s h = keeping-end rows (timingPlace rows) k n l u z s (h .kept)
 
   pub times-end : (k n : ℕ) (t : List ℕ) → n ≤ k → k ≤ n → n ≡ rowCount rows → rowCount rows ≤ 800 → Filled (restAt rows) k t → Times rows t
   times-end k n t l u z s h = record { short = s; at = λ j m. h .at j (omega arith); past = λ j m. h .rest j (omega arith) }

@@ -18,7 +18,6 @@ use Rattle.loops.proofs.SearchLaws.{first-hit, first-done}
 use Rattle.rows.specs.Cells.{rowCount, num, is}
 use Rattle.sheet.specs.Places.{placeOf}
 use Rattle.resource_timing.specs.declared.ActivityDuration.{ActivityDuration}
-use Rattle.resource_timing.specs.declared.Derived.{Derived}
 use Rattle.resource_timing.specs.declared.Derived.the-variants.{Within, TooLarge}
 use Rattle.resource_timing.specs.Durations.{totalMs}
 use Rattle.resource_timing.specs.inner.Limits.{within}

@@ -1,15 +1,15 @@
 // The derived times of the bookings, found once for a sheet, and refusal 6.
 ghost use mathlib.Core.Path.{_≡_};
-ghost use mathlib.Core.Option.{none, some};
-ghost use Prim.Native.Nat.{ℕ, _<_, _≤_};
-ghost use mathlib.Core.Bool.{Bool, true};
+ghost use mathlib.Core.Option.{some};
+ghost use Prim.Native.Nat.{_<_, _≤_};
+ghost use mathlib.Core.Bool.{true};
 ghost use lib.ListN.{set};
 ghost use Rattle.loops.specs.Lists.{anyOf};
 ghost use Rattle.loops.specs.Range.{fold};
 ghost use Rattle.rows.specs.Cells.{rowCount, num, is};
 ghost use Rattle.sheet.specs.Places.{placeOf};
 ghost use Rattle.sheet.specs.inner.Found.{foundOf};
-ghost use Rattle.sheet.specs.inner.Index.{ownPlace, Linked, Owned};
+ghost use Rattle.owners.specs.inner.Owners.{ownPlace, Linked, Owned};
 ghost use Rattle.refusals.specs.Refusals.{verdictOf};
 ghost use Rattle.sheet.specs.inner.Accepted.{Accepted};
 ghost use Rattle.resource_timing.specs.Durations.{TimedSoFar, start};
@@ -56,7 +56,7 @@ fn timing_row(rows: &[i64], links: &[u16; 1600], owned: &[u16; 8810], k: usize) 
     if !rows::is_at(rows, k, 0, 23) {
         return Found::Nothing;
     }
-    let Found::At(o) = sheet::activity_of(rows, links, k) else {
+    let Found::At(o) = owners::activity_of(rows, links, k) else {
         return Found::Nothing;
     };
     let a = rows::num_at(rows, k, 1);
@@ -126,7 +126,7 @@ fn piece_at(rows: &[i64], owned: &[u16; 8810], o: usize, k: usize) -> Piece
     if rows::is_none(index) {
         return Piece::Whole;
     }
-    let Found::At(i) = sheet::find_owned(rows, owned, o, 4) else {
+    let Found::At(i) = owners::find_owned(rows, owned, o, 4) else {
         return Piece::Whole;
     };
     let work = rows::num_at(rows, k, 8);
@@ -178,10 +178,10 @@ fn timed_of(
 {
     let n = rows::row_count(rows);
     let mut f = Timed::new();
-    let mut j = sheet::first_owned(rows, owned, o, 23);
+    let mut j = owners::first_owned(rows, owned, o, 23);
     while j < n {
         f = timed_on(rows, held, t, k, piece, f, j);
-        j = sheet::next_owned(rows, owned, o, 23, j);
+        j = owners::next_owned(rows, owned, o, 23, j);
     }
     f
 }
@@ -237,7 +237,7 @@ fn rest_at(
     ensures { λ r. ⌜ r ≡ restAt (now (rows .entry)) k ⌝ }
 {
     if rows::is_at(rows, k, 0, 23) {
-        let Found::At(o) = sheet::activity_of(rows, links, k) else {
+        let Found::At(o) = owners::activity_of(rows, links, k) else {
             return 0;
         };
         return rest_ms(duration_on(rows, owned, held, t, o, k));

@@ -4,16 +4,20 @@ use mathlib.Core.Path.{_≡_, refl, ap, sym, _∙_}
 use mathlib.Core.List.{List, _++_}
 use mathlib.Core.Option.{none, some}
 use native.Mathlib.Omega.{arith}
-use native.Mathlib.Nat.{mul-comm, zero-add}
+use native.Mathlib.Nat.{mul-comm}
 use lib.IntN.{ℤ}
 use lib.ListN.{length, take, drop}
-use lib.Seq.{take-at, sets, sets-eq}
+use lib.Seq.{take-at}
 use borrow.Author.Tests.{lt-ltb, le-ltb}
 use Rattle.calendar.specs.Clock.{clock}
 use Rattle.findings.specs.declared.Violation.{Violation}
 use Rattle.findings.specs.Findings.{flat}
 use Rattle.findings.specs.inner.Sink.{Sink, sink, emit}
-use Rattle.findings.proofs.SinkLaws.{emit-then, flat-length, count-fits, emit-whole}
+use Rattle.line_buffer.specs.declared.Handed.{Handed}
+use Rattle.line_buffer.specs.declared.Handed.the-variants.{Over, Full, Longer}
+use Rattle.line_buffer.specs.inner.Handing.{handed, afterHanding}
+use Rattle.line_buffer.proofs.Handing.{is-over, is-full, is-longer}
+use Rattle.findings.proofs.SinkLaws.{kept, emit-then, flat-length, count-fits, emit-whole}
 use Rattle.refusals.specs.declared.Verdict.{Verdict}
 use Rattle.refusals.specs.declared.Verdict.the-variants.{Fine, Refused}
 use Rattle.refusals.specs.Refusals.{Refusal, verdictOf}
@@ -51,10 +55,13 @@ module _ (rows o : List ℤ) where
   refused-sheet e h = record { ended = rw h (record { answered = refl; unchanged = refl }) }
 
   module _ (passed : sheetRefusal rows ≡ none) (o₀ : List ℤ) where
-    pub accepted-all : {x o′ : List ℤ} {k n : ℕ} → length o < 2 ^ 60 → sink x k ≡ emit (sink o₀ 0) (findings rows) → k ≤ length o / 4
-        → sink o′ n ≡ emit (sink o 0) (findings rows) → Checked rows o (Call·Accepted n) o′
+    pub accepted-all : {x o₁ o′ : List ℤ} {k n : ℕ} {r : Handed} → length o < 2 ^ 60 → sink x k ≡ emit (sink o₀ 0) (findings rows)
+        → r ≡ handed (length o / 4) (length x / 4) k → o₁ ≡ afterHanding r (k * 4) x o → r ≡ Longer → sink o′ n ≡ emit (sink o₁ 0) (findings rows)
+        → Checked rows o (Call·Accepted n) o′
     unfolding refusal
-    accepted-all short counted fits ran =
+    accepted-all {x = x} {k = k} short counted told left longer again =
+        let ran = again ∙ ap (λ l. emit (sink l 0) (findings rows)) (left ∙ ap (λ h. afterHanding h (k * 4) x o) longer) in
+        let fits : k ≤ length o / 4 = is-longer (length o / 4) (length x / 4) k told longer in
         let h : length (findings rows) ≤ length o / 4 = omega (arith, count-fits o₀ (findings rows) counted) in
         let whole = ran ∙ emit-whole o (findings rows) (omega arith) short in
         record {
@@ -68,31 +75,36 @@ module _ (rows o : List ℤ) where
         }
 
     -- the first pass held them all, and they were copied
-    pub accepted-copy : {x o′ : List ℤ} {k : ℕ} → length o < 2 ^ 60 → length o₀ ≡ 4096 → sink x k ≡ emit (sink o₀ 0) (findings rows)
-        → k ≤ length o / 4 → k ≤ 1024 → o′ ≡ sets o 0 (take (4 * k) x) → Checked rows o (Call·Accepted k) o′
+    pub accepted-copy : {x o′ : List ℤ} {k : ℕ} {r : Handed} → length o < 2 ^ 60 → length o₀ ≡ 4096 → sink x k ≡ emit (sink o₀ 0) (findings rows)
+        → r ≡ handed (length o / 4) (length x / 4) k → o′ ≡ afterHanding r (k * 4) x o → r ≡ Over → Checked rows o (Call·Accepted k) o′
     unfolding refusal
-    accepted-copy {x = x} {k = k} short room ran fits few copied =
+    accepted-copy {x = x} {k = k} short room ran told left over =
         let fs : List Violation = findings rows in
-        let n : k ≡ length fs = omega (arith, count-fits o₀ fs ran) in
-        let h : length fs ≤ length o / 4 = omega arith in
-        let whole : x ≡ flat fs ++ drop (length fs * 4) o₀ = ap (λ s. s .buf) (ran ∙ emit-whole o₀ fs (omega arith) (omega arith)) in
-        let first : take (4 * k) x ≡ flat fs = ap (take (4 * k)) whole ∙ take-at (flat fs) _ (4 * k) (flat-length fs ∙ ap (λ m. 4 * m) (sym n)) in
+        let fits = is-over (length o / 4) (length x / 4) k told over in
+        let n : k ≡ length fs = omega (arith, count-fits o₀ fs ran, fits .0) in
+        let h : length fs ≤ length o / 4 = omega (arith, fits .0) in
+        let held : length x ≡ 4096 = kept o₀ 0 (findings rows) ran ∙ room in
+        let whole : x ≡ flat fs ++ drop (length fs * 4) o₀ = ap (λ s. s .buf) (ran ∙ emit-whole o₀ fs (omega (arith, fits .1)) (omega arith)) in
+        let end : 4 * length fs ≡ k * 4 = omega arith in
+        let first : take (k * 4) x ≡ flat fs = ap (take (k * 4)) whole ∙ take-at (flat fs) _ (k * 4) (flat-length fs ∙ end) in
+        let copied = left ∙ ap (λ h. afterHanding h (k * 4) x o) over in
         record {
           ended = rw (passed, le-ltb (length o / 4) (length fs) h)
               (record {
                 lines = fs;
                 listed = in-order rows;
                 counted = ap Call·Accepted n;
-                buffer = copied ∙ ap (sets o 0) first ∙ sets-eq (flat fs) o 0 (omega (arith, flat-length fs)) ∙ ap (λ m. flat fs ++ drop m o) (zero-add _ ∙ flat-length fs);
+                buffer = copied ∙ ap (λ l. l ++ drop (k * 4) o) first ∙ ap (λ m. flat fs ++ drop m o) (sym end);
               });
         }
 
-    pub refused-full : {x : List ℤ} {k : ℕ} → length o < 2 ^ 60 → sink x k ≡ emit (sink o₀ 0) (findings rows) → length o / 4 < k
-        → Checked rows o (Call·Refused 7 0) o
+    pub refused-full : {x o′ : List ℤ} {k : ℕ} {r : Handed} → length o < 2 ^ 60 → sink x k ≡ emit (sink o₀ 0) (findings rows)
+        → r ≡ handed (length o / 4) (length x / 4) k → o′ ≡ afterHanding r (k * 4) x o → r ≡ Full → Checked rows o (Call·Refused 7 0) o′
     unfolding refusal
-    refused-full short counted over =
+    refused-full {x = x} {k = k} short counted told left full =
+        let over : length o / 4 < k = is-full (length o / 4) (length x / 4) k told full in
         let h : length o / 4 < length (findings rows) = omega (arith, count-fits o₀ (findings rows) counted) in
-        record { ended = rw (passed, lt-ltb (length o / 4) (length (findings rows)) h) (record { answered = refl; unchanged = refl }) }
+        record { ended = rw (passed, lt-ltb (length o / 4) (length (findings rows)) h) (record { answered = refl; unchanged = left ∙ ap (λ h. afterHanding h (k * 4) x o) full }) }
 
 -- ---- the refusals of the sheet, from what the two verdicts ensure
 

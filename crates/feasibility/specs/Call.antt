@@ -1,5 +1,5 @@
 -- The call `check_schedule`: what it answers for any rows and any lent buffer, and what it leaves in the buffer. Assumes nothing.
-use Prim.Native.Nat.{ℕ, _*_, _/_}
+use Prim.Native.Nat.{_*_, _/_}
 use mathlib.Core.Path.{_≡_}
 use mathlib.Core.Bool.{Bool, _&&_}
 use mathlib.Core.List.{List, _++_}

@@ -1,9 +1,6 @@
 // `check_schedule` of scheduler/feasibility.rs: refusals 1 to 7, the nine checks in call order, and what is written to the lent buffer.
-ghost use Prim.Native.Nat.{_*_, _≤_};
 ghost use mathlib.Core.Path.{_≡_};
-ghost use mathlib.Core.List.{_++_};
 ghost use mathlib.Core.Option.{none};
-ghost use lib.ListN.{length, take, drop};
 ghost use Rattle.calendar.specs.Clock.{clock};
 ghost use Rattle.findings.specs.inner.Sink.{sink, emit};
 ghost use Rattle.model.specs.Sheet.{sheet};
@@ -14,6 +11,7 @@ ghost use Rattle.check6_calendars.specs.inner.Lacking.{Lacking};
 ghost use Rattle.definition.specs.CheckSchedule.{beforeCapacity, afterCapacity, findings};
 ghost use Rattle.feasibility.specs.Refusals.{sheetRefusal};
 ghost use Rattle.feasibility.specs.Call.{Checked};
+use line_buffer::Handed;
 use refusals::Answer;
 use refusals::Verdict;
 
@@ -92,16 +90,21 @@ fn write_findings(
     let lacking = check6_calendars::lacking_of(rows, kinds, links, owned, need);
     let mut first = [0i64; 4096];
     let count = check_all(rows, kinds, links, owned, held, need, &lacking, &mut first);
-    if count > out.len() / 4 {
-        return Answer::Refused(refusals::FULL, 0);
+    let handed = line_buffer::hand_over(out, 4, count, &first);
+    match handed {
+        Handed::Over => Answer::Accepted(count),
+        Handed::Full => Answer::Refused(refusals::FULL, 0),
+        Handed::Longer => Answer::Accepted(check_all(
+            rows,
+            kinds,
+            links,
+            owned,
+            held,
+            need,
+            &lacking,
+            out,
+        )),
     }
-    if count <= 1024 {
-        let end = 4 * count;
-        line_buffer::store(out, 0, &first[..end]);
-        return Answer::Accepted(count);
-    }
-    let n = check_all(rows, kinds, links, owned, held, need, &lacking, out);
-    Answer::Accepted(n)
 }
 
 // Refusal 6, then the findings.

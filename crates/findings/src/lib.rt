@@ -1,6 +1,6 @@
 // Findings: the violations that the checks report, written to a lent buffer as lines of four numbers.
 ghost use mathlib.Core.Path.{_≡_};
-ghost use Prim.Native.Nat.{ℕ, _<_};
+ghost use Prim.Native.Nat.{_<_};
 ghost use Rattle.loops.specs.Lists.{given};
 ghost use Rattle.findings.specs.inner.Sink.{sink, put1, emit};
 

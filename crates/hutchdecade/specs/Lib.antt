@@ -1,1 +1,1 @@
-pub mod Outcome
+pub mod Call

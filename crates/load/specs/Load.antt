@@ -3,7 +3,7 @@
 use Prim.Native.Nat.{ℕ}
 use mathlib.Core.Bool.{Bool, cond, not, _&&_}
 use mathlib.Core.List.{List, []}
-use mathlib.Core.Option.{Option, none, some}
+use mathlib.Core.Option.{Option}
 use lib.Dec.{eqb}
 use lib.IntN.{ℤ, pos}
 use Rattle.loops.specs.Lists.{given, anyOf, last, option, each}
@@ -12,8 +12,8 @@ use Rattle.loops.specs.Range.{collect}
 use Rattle.loops.specs.Sums.{total, most}
 use Rattle.calendar.specs.Clock.{Clock}
 use Rattle.model.specs.Sheet.{Sheet}
-use Rattle.model.specs.Resource.{Resource, findResource}
-use Rattle.model.specs.Activity.{Activity, findActivity, usageOn}
+use Rattle.model.specs.Resource.{findResource}
+use Rattle.model.specs.Activity.{findActivity, usageOn}
 use Rattle.model.specs.Constraint.{Constraint, precedence, capacity, timeWindow, noOverlap, synchronize, constraints}
 use Rattle.model.specs.Schedule.{Assignment, assignmentAt, assignmentsBelow, assignments}
 

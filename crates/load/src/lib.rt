@@ -2,11 +2,11 @@
 //
 // Bookings are lent as numbers, three to a booking: start, end, units. A booking takes its units from its start on, up to its end and not with it.
 ghost use mathlib.Core.Path.{_≡_};
-ghost use mathlib.Core.Bool.{Bool, true, false};
-ghost use mathlib.Core.Option.{Option, none, some};
-ghost use Prim.Native.Nat.{ℕ, suc, _+_, _*_, _<_, _≤_, max};
+ghost use mathlib.Core.Bool.{true, false};
+ghost use mathlib.Core.Option.{none, some};
+ghost use Prim.Native.Nat.{suc, _+_, _*_, _<_, _≤_, max};
 ghost use lib.ListN.{length, getD};
-ghost use lib.IntN.{ℤ, pos};
+ghost use lib.IntN.{pos};
 ghost use lib.Signed.{ltZ};
 ghost use Rattle.loops.specs.Lists.{option};
 ghost use Rattle.loops.specs.Numbers.{maxZ, minZ};
@@ -16,8 +16,9 @@ ghost use Rattle.loops.specs.inner.Threes.{setThree};
 ghost use Rattle.rows.specs.Cells.{rowCount, cell, is};
 ghost use Rattle.sheet.specs.Places.{ofKind};
 ghost use Rattle.sheet.specs.inner.Found.{foundOf};
-ghost use Rattle.sheet.specs.inner.Index.{Kinds, Linked, Owned};
+ghost use Rattle.sheet.specs.inner.Index.{Kinds};
 ghost use Rattle.sheet.specs.Refusals.{refusalOf};
+ghost use Rattle.owners.specs.inner.Owners.{Linked, Owned};
 ghost use Rattle.model.specs.Sheet.{sheet};
 ghost use Rattle.model.specs.inner.Indexed.{Indexed};
 ghost use Rattle.model.specs.inner.Records.{assignmentOf};
@@ -35,10 +36,10 @@ fn usage_of(rows: &[i64], links: &[u16; 1600], owned: &[u16; 8810], k: usize) ->
     ensures value { λ r. ⌜ r ≡ usage (sheet (now (rows .entry))) (assignmentOf (now (rows .entry)) k) ⌝ }
     ensures bound { λ r. ⌜ r ≤ 1000000 ⌝ }
 {
-    let Found::At(a) = sheet::activity_of(rows, links, k) else {
+    let Found::At(a) = owners::activity_of(rows, links, k) else {
         return 1;
     };
-    let Found::At(x) = sheet::booked_resource(rows, links, k) else {
+    let Found::At(x) = owners::booked_resource(rows, links, k) else {
         return 1;
     };
     candidates::usage_on(rows, owned, a, x)

@@ -11,8 +11,9 @@ use lib.Dec.{eqb}
 use lib.IntN.{ℤ}
 use Rattle.rows.specs.Cells.{rowCount, num, is}
 use Rattle.sheet.specs.Places.{placeOf}
-use Rattle.sheet.specs.inner.Index.{ownerKind, ownerOf, ownerPlace, orEnd, ownPlace, ownedBy}
+use Rattle.sheet.specs.inner.Index.{orEnd}
 use Rattle.sheet.proofs.Lookups.{is-num, Named, placed}
+use Rattle.owners.specs.inner.Owners.{ownerKind, ownerOf, ownerPlace, ownPlace, ownedBy}
 
 module _ (rows : List ℤ) where
   some-is : {j k : ℕ} → _≡_ {A = Option ℕ} (some j) (some k) → j ≡ k

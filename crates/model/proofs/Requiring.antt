@@ -20,8 +20,9 @@ use Rattle.loops.proofs.RangeLaws.{collect-ext}
 use Rattle.loops.proofs.PlaceLaws.{place-only, any-same}
 use Rattle.rows.specs.Cells.{rowCount, cell, num, is}
 use Rattle.sheet.specs.Places.{placeOf, named, isNth, nthPlace, requirementPlace}
-use Rattle.sheet.specs.inner.Index.{ownerKind, ownerOf, ownerPlace, orEnd, ownPlace, ownedBy}
+use Rattle.sheet.specs.inner.Index.{orEnd}
 use Rattle.sheet.proofs.Lookups.{is-num, nth-at}
+use Rattle.owners.specs.inner.Owners.{ownerKind, ownerOf, ownerPlace, ownPlace, ownedBy}
 use Rattle.model.specs.Sheet.{sheet, rowAt}
 use Rattle.model.specs.inner.Records.{numAt, requirementOf}
 use Rattle.model.specs.Activity.{ResourceRequirement, requirementAt, namedFor, candidates}

@@ -3,7 +3,6 @@ use Prim.Native.Nat.{ℕ}
 use mathlib.Core.Path.{_≡_}
 use mathlib.Core.Bool.{true, false}
 use mathlib.Core.List.{List, [], _∷_}
-use mathlib.Core.Option.{none}
 use lib.Dec.{eqb}
 use lib.IntN.{ℤ, pos}
 use borrow.Author.Tests.{eqb-true}

@@ -2,12 +2,12 @@
 use Prim.Native.Nat.{ℕ, max}
 use mathlib.Core.Bool.{cond, _&&_}
 use mathlib.Core.List.{List, [], _∷_, map, foldl}
-use mathlib.Core.Option.{Option, none, some}
+use mathlib.Core.Option.{Option}
 use lib.Dec.{eqb}
 use lib.IntN.{ℤ}
 use Rattle.loops.specs.Lists.{given, head, keep, each, option}
 use Rattle.loops.specs.Range.{collect}
-use Rattle.calendar.specs.Calendar.{Window, Calendar}
+use Rattle.calendar.specs.Calendar.{Calendar}
 use Rattle.model.specs.Sheet.{Sheet, asInt, asNum, asInstant, with2, rowAt, rowsOfKind, columns2, columns3, columns4}
 
 pub record Resource : Type 0 where

@@ -1,10 +1,10 @@
 -- models/schedule.rs: bookings, time-only spans, and the violations that the checks report.
 use Prim.Native.Nat.{ℕ}
-use mathlib.Core.Bool.{Bool, true, false, cond}
-use mathlib.Core.List.{List, [], _∷_, _++_, map, foldl}
+use mathlib.Core.Bool.{cond}
+use mathlib.Core.List.{List, _++_, foldl}
 use mathlib.Core.Option.{Option, none, some}
 use lib.Dec.{eqb}
-use lib.IntN.{ℤ, pos}
+use lib.IntN.{ℤ}
 use Rattle.loops.specs.Numbers.{toNat}
 use Rattle.loops.specs.Lists.{given, head, keep, each}
 use Rattle.loops.specs.Range.{collect}

@@ -2,7 +2,7 @@
 ghost use mathlib.Core.Path.{_≡_};
 ghost use Prim.Native.Nat.{_≤_, _/_};
 ghost use lib.Dec.{T};
-ghost use lib.IntN.{ℤ, pos, natAbs};
+ghost use lib.IntN.{pos, natAbs};
 ghost use lib.Ieee.Positive.{num, den};
 ghost use Rattle.calendar.specs.Clock.{clock};
 ghost use Rattle.overlap.specs.Bounds.{ceilDiv, overlapOf, earliestStart, earliestEnd};

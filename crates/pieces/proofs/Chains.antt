@@ -17,8 +17,9 @@ use Rattle.rows.specs.Cells.{rowCount, num, is}
 use Rattle.sheet.specs.Places.{named, placeOf, activityPlace, resourcePlace}
 use Rattle.sheet.specs.Refusals.{isAbsent, lacks}
 use Rattle.sheet.specs.inner.Accepted.{Accepted}
-use Rattle.sheet.specs.inner.Index.{ownerKind, ownerOf, ownerPlace, orEnd, ownPlace, ownedBy}
+use Rattle.sheet.specs.inner.Index.{orEnd}
 use Rattle.sheet.proofs.Lookups.{is-num}
+use Rattle.owners.specs.inner.Owners.{ownerKind, ownerOf, ownerPlace, ownPlace, ownedBy}
 use Rattle.model.proofs.Accepting.{has-owner}
 use Rattle.pieces.specs.inner.Bookings.{inPiece, sameBooking, firstOn, names, holdsFor, keyAt}
 
@@ -244,6 +245,13 @@ module _ (rows : List ℤ) where
 pub first-kind : (rows : List ℤ) (j : ℕ) → firstOn rows j ≡ true → is rows j 0 23 ≡ true
 unfolding firstOn
 first-kind rows j h = and-left (is rows j 0 23) (not (anyBelow (sameBooking rows j) j)) h
+
+-- what the first booking of a resource holds, by its mark
+pub holds-at-first : (rows : List ℤ) (k j : ℕ) {r : Bool} → firstOn rows j ≡ true → r ≡ holdsFor rows k j → r ≡ (firstOn rows j && holdsFor rows k j)
+holds-at-first rows k j h e = rw h e
+
+pub holds-past-first : (rows : List ℤ) (k j : ℕ) → firstOn rows j ≡ false → false ≡ (firstOn rows j && holdsFor rows k j)
+holds-past-first rows k j h = rw h
 
 -- ---- the three tests of `holdsFor`, as they are made: the resource is another, it has the companion, the piece is the same
 

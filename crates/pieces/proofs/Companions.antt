@@ -133,3 +133,7 @@ module _ (rows : List ℤ) where
   pub held-none : (k : ℕ) → is rows k 0 23 ≡ false → heldAt rows k ≡ false
   unfolding heldAt anyOf
   held-none k h = rw (assignment-none rows k h)
+
+  -- the same, of what the code found
+  pub held-as : Accepted rows → (k : ℕ) {r : Bool} → k < rowCount rows → is rows k 0 23 ≡ true → r ≡ anyBelow (holdsFor rows k) (rowCount rows) → r ≡ heldAt rows k
+  held-as acc k l h e = e ∙ sym (held-booking acc k l h)

@@ -14,12 +14,11 @@ use mir.Facts.{toZ-ofZ}
 use borrow.Author.Tests.{ltb-true, ltb-false, leb-true, lt-ltb, le-ltb, eq-eqb, ne-eqb}
 use Rattle.loops.specs.Numbers.{toNat}
 use Rattle.loops.proofs.BoolLaws.{and-left, and-right, or-left}
-use Rattle.rows.specs.Cells.{is}
 use Rattle.rows.specs.Class.{n-c, n?-c}
 use Rattle.rows.specs.Ranges.{between, isNone, inRange, inClass}
 use Rattle.rows.proofs.Signed.{number-low, number-high}
 use Rattle.model.specs.Sheet.{number, nothing}
-use Rattle.model.specs.Schedule.{Part, asPart}
+use Rattle.model.specs.Schedule.{asPart}
 use Rattle.definition.specs.Pieces.{indexOf, beforeIndex, sameIndex}
 use Rattle.pieces.specs.inner.Bookings.{indexKey}
 

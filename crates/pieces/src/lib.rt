@@ -1,15 +1,16 @@
 // The pieces of the bookings, an activity or one of its parts, and who is held only as a companion: `piece_key` and `companions_among` of
 // scheduler/feasibility.rs. Each is found along chains of rows; who is held is found once for a sheet.
 ghost use mathlib.Core.Path.{_≡_};
-ghost use Prim.Native.Nat.{ℕ, _<_, _≤_};
-ghost use mathlib.Core.Bool.{Bool, true, cond, not, _&&_};
+ghost use Prim.Native.Nat.{_<_, _≤_};
+ghost use mathlib.Core.Bool.{true, cond, not, _&&_};
 ghost use lib.ListN.{set};
-ghost use Rattle.loops.specs.inner.Chain.{First, Blind};
+ghost use Rattle.loops.specs.inner.Chain.{Blind};
 ghost use Rattle.loops.specs.Search.{anyBelow, firstPlace};
 ghost use Rattle.rows.specs.Cells.{rowCount, num, is};
 ghost use Rattle.sheet.specs.inner.Found.{foundOf};
-ghost use Rattle.sheet.specs.inner.Index.{ownedBy, Kinds, Linked, Owned};
+ghost use Rattle.sheet.specs.inner.Index.{Kinds};
 ghost use Rattle.sheet.specs.inner.Accepted.{Accepted};
+ghost use Rattle.owners.specs.inner.Owners.{ownedBy, Linked, Owned};
 ghost use Rattle.pieces.specs.inner.Bookings.{indexKey, keyAt, inPiece, sameBooking, firstOn, Firsts, names, holdsFor};
 ghost use Rattle.pieces.specs.inner.Held.{heldAt, Held};
 use sheet::Found;
@@ -65,12 +66,12 @@ pub fn find_naming(rows: &[i64], owned: &[u16; 8810], o: usize, x: usize, a: u64
     ensures { λ r. ⌜ foundOf r ≡ firstPlace (names (now (rows .entry)) x a b) (rowCount (now (rows .entry))) ⌝ }
 {
     let n = rows::row_count(rows);
-    let mut i = sheet::first_owned(rows, owned, o, x);
+    let mut i = owners::first_owned(rows, owned, o, x);
     while i < n {
         if names_at(rows, x, a, b, i) {
             return Found::At(i);
         }
-        i = sheet::next_owned(rows, owned, o, x, i);
+        i = owners::next_owned(rows, owned, o, x, i);
     }
     Found::Nothing
 }
@@ -147,7 +148,7 @@ fn is_companion(rows: &[i64], links: &[u16; 1600], owned: &[u16; 8810], j: usize
     requires { ⌜ Accepted (now rows) × Linked (now rows) (now links) × Owned (now rows) (now owned) × (j < rowCount (now rows)) × (is (now rows) j 0 23 ≡ true) ⌝ }
     ensures { λ b. ⌜ b ≡ anyBelow (names (now (rows .entry)) 13 (num (now (rows .entry)) j 3) r) (rowCount (now (rows .entry))) ⌝ }
 {
-    let Found::At(o) = sheet::booked_resource(rows, links, j) else {
+    let Found::At(o) = owners::booked_resource(rows, links, j) else {
         return false;
     };
     let Found::At(_) = find_naming(rows, owned, o, 13, rows::num_at(rows, j, 3), r) else {

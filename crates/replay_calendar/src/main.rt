@@ -1,9 +1,11 @@
 // Replays the stored questions about calendar time. Each case that differs is named, and at the end is printed how many there were and how many
 // came out as expected. The numbers that a case gathers are windows, three to a window. The list is made by tools/cases/calendar_cases.py, which has
 // no calendar arithmetic in common with the library.
+ghost use Prim.Native.Nat.{_≤_};
+ghost use lib.ListN.{length};
 use calendar::WorkEnd;
-use stored_cases::Gathered;
-use stored_cases::Run;
+use stored_numbers::Gathered;
+use stored_run::Run;
 
 // An instant or an amount. The last four of 64 bits are spelled -4 to -1, for a list's numbers go only to 2^63 - 1.
 fn instant(z: i64) -> u64 {
@@ -134,43 +136,47 @@ fn question_passes(letter: u8, given: &[i64; 16], k: usize, numbers: &[i64], n: 
 
 // Whether the case of these lines comes out as the line that judges it says.
 fn passes(lines: &[u8], line: &[u8]) -> bool {
-    let mut given = stored_cases::few();
-    let mut numbers = stored_cases::sevens();
-    let Gathered::All(k) = stored_cases::judging_numbers(line, &mut given) else {
+    let mut given = stored_run::few();
+    let mut numbers = stored_run::sevens();
+    let Gathered::All(k) = stored_numbers::judging_numbers(line, &mut given) else {
         return false;
     };
-    let Gathered::All(n) = stored_cases::gather_numbers(lines, &mut numbers) else {
+    let Gathered::All(n) = stored_numbers::gather_numbers(lines, &mut numbers) else {
         return false;
     };
-    question_passes(stored_cases::letter_of(line), &given, k, &numbers, n)
+    question_passes(stored_lines::letter_of(line), &given, k, &numbers, n)
 }
 
 // ---- the list
 
-fn next_case(name: &[u8], list: &[u8], run: Run) -> Run {
+fn next_case(name: &[u8], list: &[u8], run: Run) -> Run
+    requires { ⌜ run .at ≤ length (now list) ⌝ }
+{
     let at = run.at;
-    if list.len() <= at {
-        return run;
-    }
-    let case = stored_cases::case_at(list, at);
+    let case = stored_lines::case_at(list, at);
     let line = case.line;
     let end = case.end;
-    let formed = stored_cases::all_formed(&list[at..end]);
-    let fine = passes(&list[at..line], &list[line..end]);
-    stored_cases::judged(run, formed, fine, case.next, name, list)
+    let formed = stored_lines::all_formed(stored_lines::between(list, at, end));
+    let fine = passes(
+        stored_lines::between(list, at, line),
+        stored_lines::between(list, line, end),
+    );
+    stored_run::judged(run, formed, fine, case.next, name, list)
 }
 
 // A list has no more cases than bytes.
 fn replay(name: &[u8], list: &[u8], before: Run) -> Run {
-    let mut run = stored_cases::next_list(before);
+    let mut run = stored_run::next_list(before);
     for k in 0..list.len() {
-        run = next_case(name, list, run);
+        if run.at < list.len() {
+            run = next_case(name, list, run);
+        }
     }
     run
 }
 
 fn main() {
-    let mut list = stored_cases::no_list();
-    let n = stored_cases::read_list(b"cases.txt", &mut list);
-    stored_cases::print_run(replay(b"cases.txt", &list[..n], stored_cases::no_cases()));
+    let mut list = stored_run::no_list();
+    let n = stored_run::read_list(b"cases.txt", &mut list);
+    stored_run::print_run(replay(b"cases.txt", &list[..n], stored_run::no_cases()));
 }

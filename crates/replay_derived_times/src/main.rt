@@ -1,9 +1,11 @@
 // Replays the stored cases of derived times. Each case that differs is named, and at the end is printed how many there were and how many came
 // out as expected.
+ghost use Prim.Native.Nat.{_≤_};
+ghost use lib.ListN.{length};
 ghost use Prim.Native.Nat.{_<_};
 ghost use Rattle.rows.specs.Cells.{rowCount};
-ghost use Rattle.sheet.specs.inner.Index.{Linked, Owned};
 ghost use Rattle.sheet.specs.inner.Accepted.{Accepted};
+ghost use Rattle.owners.specs.inner.Owners.{Linked, Owned};
 ghost use Rattle.pieces.specs.inner.Held.{Held};
 ghost use Rattle.derived_times.specs.inner.Rows.{Timings};
 use overlap::Overlap;
@@ -15,8 +17,8 @@ use resource_timing::ResourceTiming;
 use resource_timing::Timed;
 use rounding::Time;
 use sheet::Found;
-use stored_cases::Gathered;
-use stored_cases::Run;
+use stored_numbers::Gathered;
+use stored_run::Run;
 
 // A number that must be 0 or more; else one that no time and no float's bits reach.
 fn natural(z: i64) -> u64 {
@@ -96,7 +98,7 @@ fn derived_at(
     requires { ⌜ Accepted (now rows) × Linked (now rows) (now links) × Owned (now rows) (now owned) × Held (now rows) (now held) × Timings (now rows) (now t) × (k < rowCount (now rows)) ⌝ }
 {
     if rows::is_at(rows, k, 0, 23) {
-        let Found::At(o) = sheet::activity_of(rows, links, k) else {
+        let Found::At(o) = owners::activity_of(rows, links, k) else {
             return at;
         };
         return add_derived(
@@ -145,7 +147,7 @@ fn times_pass(rows: &[i64], expected: &[i64], m: usize, number: u64, place: u64)
     let Verdict::Fine = validation::index(rows, &mut kinds, &mut links, &mut owned) else {
         return false;
     };
-    let mut found = stored_cases::sevens();
+    let mut found = stored_run::sevens();
     let held = pieces::held_of(rows, &kinds, &links, &owned);
     derived_all(rows, &links, &owned, &held, &mut found);
     let need = derived_times::needs_of(rows, &links, &owned, &held);
@@ -258,19 +260,19 @@ fn overlap_is(bits: u64, lag: i64, start: u64, end: u64, first: i64, last: i64) 
 
 // Whether the case of these lines comes out as the line that judges it says.
 fn passes(lines: &[u8], line: &[u8]) -> bool {
-    let mut given = stored_cases::few();
-    let mut rows = stored_cases::sevens();
-    let mut expected = stored_cases::sevens();
-    let Gathered::All(k) = stored_cases::judging_numbers(line, &mut given) else {
+    let mut given = stored_run::few();
+    let mut rows = stored_run::sevens();
+    let mut expected = stored_run::sevens();
+    let Gathered::All(k) = stored_numbers::judging_numbers(line, &mut given) else {
         return false;
     };
-    let Gathered::All(n) = stored_cases::gather_numbers(lines, &mut rows) else {
+    let Gathered::All(n) = stored_numbers::gather_numbers(lines, &mut rows) else {
         return false;
     };
-    let Gathered::All(m) = stored_cases::gather_expected(lines, &mut expected) else {
+    let Gathered::All(m) = stored_numbers::gather_expected(lines, &mut expected) else {
         return false;
     };
-    match stored_cases::letter_of(line) {
+    match stored_lines::letter_of(line) {
         b'D' => k == 2 && sheet_case(&given, &rows, n, &expected, m),
         b'P' => k == 2 && product_case(&given, &rows, n),
         b'S' => k == 4 && share_case(&given),
@@ -279,30 +281,34 @@ fn passes(lines: &[u8], line: &[u8]) -> bool {
     }
 }
 
-fn next_case(name: &[u8], list: &[u8], run: Run) -> Run {
+fn next_case(name: &[u8], list: &[u8], run: Run) -> Run
+    requires { ⌜ run .at ≤ length (now list) ⌝ }
+{
     let at = run.at;
-    if list.len() <= at {
-        return run;
-    }
-    let case = stored_cases::case_at(list, at);
+    let case = stored_lines::case_at(list, at);
     let line = case.line;
     let end = case.end;
-    let formed = stored_cases::all_formed(&list[at..end]);
-    let fine = passes(&list[at..line], &list[line..end]);
-    stored_cases::judged(run, formed, fine, case.next, name, list)
+    let formed = stored_lines::all_formed(stored_lines::between(list, at, end));
+    let fine = passes(
+        stored_lines::between(list, at, line),
+        stored_lines::between(list, line, end),
+    );
+    stored_run::judged(run, formed, fine, case.next, name, list)
 }
 
 // A list has no more cases than bytes.
 fn replay(name: &[u8], list: &[u8], before: Run) -> Run {
-    let mut run = stored_cases::next_list(before);
+    let mut run = stored_run::next_list(before);
     for k in 0..list.len() {
-        run = next_case(name, list, run);
+        if run.at < list.len() {
+            run = next_case(name, list, run);
+        }
     }
     run
 }
 
 fn main() {
-    let mut list = stored_cases::no_list();
-    let n = stored_cases::read_list(b"cases.txt", &mut list);
-    stored_cases::print_run(replay(b"cases.txt", &list[..n], stored_cases::no_cases()));
+    let mut list = stored_run::no_list();
+    let n = stored_run::read_list(b"cases.txt", &mut list);
+    stored_run::print_run(replay(b"cases.txt", &list[..n], stored_run::no_cases()));
 }

@@ -1,7 +1,9 @@
 // Replays the stored calls. Each case that differs is named, and at the end is printed how many there were and how many came out as expected.
+ghost use Prim.Native.Nat.{_≤_};
+ghost use lib.ListN.{length};
 use refusals::Answer;
-use stored_cases::Gathered;
-use stored_cases::Run;
+use stored_numbers::Gathered;
+use stored_run::Run;
 
 fn number_at(numbers: &[i64], at: usize) -> i64 {
     if at < numbers.len() {
@@ -126,7 +128,7 @@ fn call_case(given: &[i64; 16], rows: &[i64], n: usize, expected: &[i64], m: usi
     if rows.len() < n {
         return false;
     }
-    let mut found = stored_cases::sevens();
+    let mut found = stored_run::sevens();
     call_passes(
         &rows[..n],
         expected,
@@ -140,56 +142,60 @@ fn call_case(given: &[i64; 16], rows: &[i64], n: usize, expected: &[i64], m: usi
 
 // Whether the case of these lines comes out as the line that judges it says.
 fn passes(lines: &[u8], line: &[u8]) -> bool {
-    let mut given = stored_cases::few();
-    let mut rows = stored_cases::sevens();
-    let mut expected = stored_cases::sevens();
-    let Gathered::All(k) = stored_cases::judging_numbers(line, &mut given) else {
+    let mut given = stored_run::few();
+    let mut rows = stored_run::sevens();
+    let mut expected = stored_run::sevens();
+    let Gathered::All(k) = stored_numbers::judging_numbers(line, &mut given) else {
         return false;
     };
-    let Gathered::All(n) = stored_cases::gather_numbers(lines, &mut rows) else {
+    let Gathered::All(n) = stored_numbers::gather_numbers(lines, &mut rows) else {
         return false;
     };
-    let Gathered::All(m) = stored_cases::gather_expected(lines, &mut expected) else {
+    let Gathered::All(m) = stored_numbers::gather_expected(lines, &mut expected) else {
         return false;
     };
-    stored_cases::letter_of(line) == b'C' && k == 3 && call_case(&given, &rows, n, &expected, m)
+    stored_lines::letter_of(line) == b'C' && k == 3 && call_case(&given, &rows, n, &expected, m)
 }
 
 // ---- the lists
 
-fn next_case(name: &[u8], list: &[u8], run: Run) -> Run {
+fn next_case(name: &[u8], list: &[u8], run: Run) -> Run
+    requires { ⌜ run .at ≤ length (now list) ⌝ }
+{
     let at = run.at;
-    if list.len() <= at {
-        return run;
-    }
-    let case = stored_cases::case_at(list, at);
+    let case = stored_lines::case_at(list, at);
     let line = case.line;
     let end = case.end;
-    let formed = stored_cases::all_formed(&list[at..end]);
-    let fine = passes(&list[at..line], &list[line..end]);
-    stored_cases::judged(run, formed, fine, case.next, name, list)
+    let formed = stored_lines::all_formed(stored_lines::between(list, at, end));
+    let fine = passes(
+        stored_lines::between(list, at, line),
+        stored_lines::between(list, line, end),
+    );
+    stored_run::judged(run, formed, fine, case.next, name, list)
 }
 
 // A list has no more cases than bytes.
 fn replay(name: &[u8], list: &[u8], before: Run) -> Run {
-    let mut run = stored_cases::next_list(before);
+    let mut run = stored_run::next_list(before);
     for k in 0..list.len() {
-        run = next_case(name, list, run);
+        if run.at < list.len() {
+            run = next_case(name, list, run);
+        }
     }
     run
 }
 
 fn replay_file(name: &[u8], before: Run) -> Run {
-    let mut list = stored_cases::no_list();
-    let n = stored_cases::read_list(name, &mut list);
+    let mut list = stored_run::no_list();
+    let n = stored_run::read_list(name, &mut list);
     replay(name, &list[..n], before)
 }
 
 fn main() {
-    let mut run = stored_cases::no_cases();
+    let mut run = stored_run::no_cases();
     run = replay_file(b"findings-1.txt", run);
     run = replay_file(b"findings-2.txt", run);
     run = replay_file(b"findings-3.txt", run);
     run = replay_file(b"findings-4.txt", run);
-    stored_cases::print_run(run);
+    stored_run::print_run(run);
 }

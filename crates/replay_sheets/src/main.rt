@@ -1,9 +1,11 @@
 // Replays the stored rows and texts. Each case that differs is named, and at the end is printed how many there were and how many came out as
 // expected.
+ghost use Prim.Native.Nat.{_≤_};
+ghost use lib.ListN.{length};
 use refusals::Answer;
 use refusals::Verdict;
-use stored_cases::Gathered;
-use stored_cases::Run;
+use stored_numbers::Gathered;
+use stored_run::Run;
 
 // The number at a place, among the first n of those gathered; 7 after them.
 fn expected_at(rows: &[i64], n: usize, i: usize) -> i64 {
@@ -52,7 +54,7 @@ fn text_case(given: &[i64; 16], bytes: &[u8], n: usize, rows: &[i64], numbers: u
     if bytes.len() < n {
         return false;
     }
-    let mut out = stored_cases::sevens();
+    let mut out = stored_run::sevens();
     text_passes(
         &bytes[..n],
         rows,
@@ -83,19 +85,19 @@ fn rows_case(given: &[i64; 16], rows: &[i64], n: usize) -> bool {
 
 // Whether the case of these lines comes out as the line that judges it says.
 fn passes(lines: &[u8], line: &[u8]) -> bool {
-    let mut given = stored_cases::few();
-    let mut bytes = stored_cases::no_bytes();
-    let mut rows = stored_cases::sevens();
-    let Gathered::All(k) = stored_cases::judging_numbers(line, &mut given) else {
+    let mut given = stored_run::few();
+    let mut bytes = stored_run::no_bytes();
+    let mut rows = stored_run::sevens();
+    let Gathered::All(k) = stored_numbers::judging_numbers(line, &mut given) else {
         return false;
     };
-    let Gathered::All(n) = stored_cases::gather_bytes(lines, &mut bytes) else {
+    let Gathered::All(n) = stored_bytes::gather_bytes(lines, &mut bytes) else {
         return false;
     };
-    let Gathered::All(m) = stored_cases::gather_numbers(lines, &mut rows) else {
+    let Gathered::All(m) = stored_numbers::gather_numbers(lines, &mut rows) else {
         return false;
     };
-    match stored_cases::letter_of(line) {
+    match stored_lines::letter_of(line) {
         b'T' => k == 3 && text_case(&given, &bytes, n, &rows, m),
         b'R' => k == 2 && rows_case(&given, &rows, m),
         _ => false,
@@ -104,30 +106,34 @@ fn passes(lines: &[u8], line: &[u8]) -> bool {
 
 // ---- the list
 
-fn next_case(name: &[u8], list: &[u8], run: Run) -> Run {
+fn next_case(name: &[u8], list: &[u8], run: Run) -> Run
+    requires { ⌜ run .at ≤ length (now list) ⌝ }
+{
     let at = run.at;
-    if list.len() <= at {
-        return run;
-    }
-    let case = stored_cases::case_at(list, at);
+    let case = stored_lines::case_at(list, at);
     let line = case.line;
     let end = case.end;
-    let formed = stored_cases::all_formed(&list[at..end]);
-    let fine = passes(&list[at..line], &list[line..end]);
-    stored_cases::judged(run, formed, fine, case.next, name, list)
+    let formed = stored_lines::all_formed(stored_lines::between(list, at, end));
+    let fine = passes(
+        stored_lines::between(list, at, line),
+        stored_lines::between(list, line, end),
+    );
+    stored_run::judged(run, formed, fine, case.next, name, list)
 }
 
 // A list has no more cases than bytes.
 fn replay(name: &[u8], list: &[u8], before: Run) -> Run {
-    let mut run = stored_cases::next_list(before);
+    let mut run = stored_run::next_list(before);
     for k in 0..list.len() {
-        run = next_case(name, list, run);
+        if run.at < list.len() {
+            run = next_case(name, list, run);
+        }
     }
     run
 }
 
 fn main() {
-    let mut list = stored_cases::no_list();
-    let n = stored_cases::read_list(b"cases.txt", &mut list);
-    stored_cases::print_run(replay(b"cases.txt", &list[..n], stored_cases::no_cases()));
+    let mut list = stored_run::no_list();
+    let n = stored_run::read_list(b"cases.txt", &mut list);
+    stored_run::print_run(replay(b"cases.txt", &list[..n], stored_run::no_cases()));
 }

@@ -1,5 +1,5 @@
 -- Which numbers a column of a class may hold. Assumes nothing.
-use Prim.Native.Nat.{ℕ, _^_, _-_}
+use Prim.Native.Nat.{_^_, _-_}
 use mathlib.Core.Bool.{Bool, true, false, _&&_, _||_}
 use lib.IntN.{ℤ, pos}
 use lib.Signed.{leZ}

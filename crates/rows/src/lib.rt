@@ -1,9 +1,9 @@
 // The rows of a sheet: ten numbers each, a kind, its columns, then zeros. What each kind's columns are stands in one table, which the
 // validation of rows and the text reader read.
 ghost use mathlib.Core.Path.{_≡_};
-ghost use mathlib.Core.Bool.{Bool, _&&_};
-ghost use Prim.Native.Nat.{ℕ, suc, _+_, _<_, _≤_};
-ghost use lib.IntN.{ℤ, pos, negsuc};
+ghost use mathlib.Core.Bool.{_&&_};
+ghost use Prim.Native.Nat.{suc, _+_, _<_};
+ghost use lib.IntN.{pos};
 ghost use lib.Dec.{eqb};
 ghost use lib.ListN.{getD};
 ghost use Rattle.loops.specs.Numbers.{toNat};

@@ -10,12 +10,19 @@ use Rattle.loops.proofs.StoreLaws.{Filled, filled-start, filled-turn}
 use Rattle.rows.specs.Cells.{rowCount}
 use Rattle.sheet.specs.inner.Index.{orEnd, storedPlace}
 use Rattle.sheet.specs.inner.Kept.{IsRow, Kept}
-use Rattle.sheet.proofs.Links.{stored}
-use Rattle.sheet.proofs.Tables.{below}
+use Rattle.sheet.proofs.Stored.{stored}
+use Rattle.sheet.proofs.Stored.{below}
 
 -- a place as it is kept
 pub kept-small : (rows : List ℤ) {x : Option ℕ} {i : ℕ} → rowCount rows ≤ 800 → IsRow rows x → i ≡ orEnd rows x → i ≤ 800
 kept-small rows {x} s w e = omega (arith, below rows x (w .within))
+
+pub kept-set : (rows : List ℤ) (x : Option ℕ) {i : ℕ} (k : ℕ) (t : List ℕ) {t′ : List ℕ} → i ≡ orEnd rows x → t′ ≡ set t k i → t′ ≡ set t k (orEnd rows x)
+kept-set rows x k t e q = rw e at q
+
+-- and as it is read
+pub kept-read : (rows : List ℤ) {x : Option ℕ} {i j : ℕ} → i ≡ j → x ≡ storedPlace rows i → x ≡ storedPlace rows j
+kept-read rows e q = q ∙ ap (storedPlace rows) e
 
 module _ (rows : List ℤ) (f : ℕ → Option ℕ) where
   -- the places of the rows below k

@@ -1,9 +1,5 @@
-pub mod Absent
 pub mod Groups
 pub mod Keeping
-pub mod Links
 pub mod Lookups
 pub mod Naming
-pub mod Numbers
-pub mod Owning
-pub mod Tables
+pub mod Stored

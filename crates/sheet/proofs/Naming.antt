@@ -1,14 +1,17 @@
 -- Laws of the table of kinds and names: its fill, and the chains by kind and column 1, which other pairs may share. Assumes nothing.
 use Prim.Native.Nat.{ℕ, suc, _+_, _-_, _<_, _≤_}
 use mathlib.Core.Path.{_≡_, refl, sym, _∙_}
-use mathlib.Core.Bool.{Bool, true, false, true≢false}
+use mathlib.Core.Bool.{Bool, true, false, not, true≢false, and-false, and-true}
 use mathlib.Core.List.{List}
 use native.Mathlib.Omega.{arith}
 use lib.IntN.{ℤ}
 use lib.ListN.{length, getD, set, replicate, length-replicate}
-use borrow.Author.Tests.{eq-eqb}
+use mir.Syntax.{w64}
+use mir.Val.{Fits}
+use borrow.Author.Tests.{eq-eqb, not-true, not-false}
 use Rattle.loops.specs.inner.Chain.{same, First, Stands, Blind, Links, part}
 use Rattle.loops.proofs.BoolLaws.{and-left, and-right}
+use Rattle.loops.proofs.ChainLaws.{fits}
 use Rattle.loops.proofs.TableLaws.{part-start, part-again, part-head, part-next, part-else-below, part-else-above, stores-size}
 use Rattle.rows.specs.Cells.{rowCount, num, is}
 use Rattle.sheet.specs.Places.{ofKind, named}
@@ -82,8 +85,17 @@ module _ (rows : List ℤ) (t : List ℕ) (h : Kinds rows t) where
   pub name-head : {r : ℕ} (x id : ℕ) → r ≡ nameHash x id → First (same (nameKey rows) (nameHash x id)) 0 (rowCount rows) (getD t (832 + (800 + r)) 0)
   name-head x id e = rw e (part-head (nameKey rows) 832 2048 (rowCount rows) t (nameHash x id) (832 + (800 + nameHash x id)) refl (h .names) (hash-below x id))
 
-  pub name-next : (k i : ℕ) → same (nameKey rows) k i ≡ true → i < rowCount rows → First (same (nameKey rows) k) (suc i) (rowCount rows) (getD t (832 + i) 0)
+  pub name-head-fits : {r : ℕ} (x id : ℕ) → r ≡ nameHash x id → Fits w64 (getD t (832 + (800 + r)) 0)
+  name-head-fits x id e = fits _ _ _ _ (name-head x id e) (h .short)
+
+  name-next : (k i : ℕ) → same (nameKey rows) k i ≡ true → i < rowCount rows → First (same (nameKey rows) k) (suc i) (rowCount rows) (getD t (832 + i) 0)
   name-next k i e l = part-next (nameKey rows) 832 2048 (rowCount rows) t k i (832 + i) refl (h .short) (h .names) e l
+
+  pub name-after : (k i : ℕ) → Stands (same (nameKey rows) k) (rowCount rows) i → i < rowCount rows → First (same (nameKey rows) k) (suc i) (rowCount rows) (getD t (832 + i) 0)
+  name-after k i s l = name-next k i (s .here l) l
+
+  pub name-after-fits : (k i : ℕ) → Stands (same (nameKey rows) k) (rowCount rows) i → i < rowCount rows → Fits w64 (getD t (832 + i) 0)
+  name-after-fits k i s l = fits _ _ _ _ (name-after k i s l) (h .short)
 
 -- ---- the pairs that share a chain
 
@@ -108,6 +120,15 @@ module _ (rows : List ℤ) (x id : ℕ) where
   pub pair-blind : (other : ℕ) → Blind (same (nameKey rows) (nameHash x id)) (namedPair rows x id other)
   unfolding namedPair
   pair-blind other = record { still = λ k e. rw (name-blind .still k e) }
+
+  module _ (other i : ℕ) {r : Bool} (e : r ≡ is rows i 2 other) where
+    pub no-pair : not r ≡ true → false ≡ namedPair rows x id other i
+    unfolding namedPair
+    no-pair f = rw (sym e ∙ not-true r f, and-false) refl
+
+    pub its-pair : {b : Bool} → not r ≡ false → b ≡ named rows x id i → b ≡ namedPair rows x id other i
+    unfolding namedPair
+    its-pair f q = rw (sym e ∙ not-false r f, and-true) q
 
 -- what an answer and the branch that it takes say of the test
 pub told : {r b v : Bool} → r ≡ b → r ≡ v → b ≡ v

@@ -1,13 +1,13 @@
 // When a task completes and when an activity runs, of models/schedule.rs and `activity_span` of scheduler/feasibility.rs.
 ghost use mathlib.Core.Path.{_≡_};
 ghost use mathlib.Core.Bool.{cond};
-ghost use mathlib.Core.Option.{Option, none, some};
-ghost use Prim.Native.Nat.{ℕ, _<_};
+ghost use mathlib.Core.Option.{none};
+ghost use Prim.Native.Nat.{_<_};
 ghost use lib.IntN.{pos};
 ghost use Rattle.calendar.specs.Clock.{clock};
 ghost use Rattle.loops.specs.Range.{fold};
 ghost use Rattle.loops.specs.inner.Chain.{onlyAt};
-ghost use Rattle.rows.specs.Cells.{rowCount, num};
+ghost use Rattle.rows.specs.Cells.{rowCount};
 ghost use Rattle.sheet.specs.Places.{ofKind};
 ghost use Rattle.sheet.specs.inner.Index.{Kinds};
 ghost use Rattle.model.specs.Sheet.{sheet};

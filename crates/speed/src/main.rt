@@ -14,7 +14,7 @@ use libc::STDIN_FILENO;
 use libc::STDOUT_FILENO;
 use refusals::Answer;
 use refusals::Verdict;
-use text::Number;
+use text_fields::Number;
 
 // Room for two lines and many texts. The promises give the lengths, which is all that lending an array as a slice asks.
 fn no_text() -> [u8; 400000]
@@ -37,7 +37,7 @@ fn no_findings() -> [i64; 4096]
 
 // The number that a line spells, 0 where it spells none.
 fn number_of(s: &[u8]) -> u64 {
-    match text::read_number(s) {
+    match text_fields::read_number(s) {
         Number::Value(z) => rows::nat(z),
         Number::Misspelt => 0,
     }
@@ -231,7 +231,7 @@ fn found_in(text: &[u8], part: u64, count: u64) -> usize {
 fn on_each(texts: &[u8], part: u64) -> usize {
     let mut rest = texts;
     loop {
-        let sheet = text::first_part(rest, b';');
+        let sheet = text_fields::first_part(rest, b';');
         let found = found_in(sheet, part, 1);
         let n = sheet.len();
         if rest.len() <= n {
@@ -260,9 +260,9 @@ fn main() {
     let mut input = no_text();
     let n = io::read_full(STDIN_FILENO, &mut input);
     let read = &input[..n];
-    let part = text::first_part(read, b'\n');
+    let part = text_fields::first_part(read, b'\n');
     let rest = after(read, part.len());
-    let count = text::first_part(rest, b'\n');
+    let count = text_fields::first_part(rest, b'\n');
     let found = found_by(after(rest, count.len()), number_of(part), number_of(count));
     io::print_decimal(STDOUT_FILENO, found as u64);
     io::write_all(STDOUT_FILENO, b"\n");

@@ -6,12 +6,11 @@ use lib.IntN.{ℤ, pos, negsuc}
 use lib.ListN.{drop}
 use Rattle.loops.specs.Lists.{allOf}
 use Rattle.rows.specs.Table.{width}
-use Rattle.text.specs.Parts.{parts}
-use Rattle.text.specs.Spelling.{digitsFrom, digitsOf, numberOf}
-use Rattle.text.specs.Line.{spelled, lineOf, rowOf}
+use Rattle.text_fields.specs.Parts.{parts}
+use Rattle.text_fields.specs.Spelling.{digitsFrom, digitsOf, numberOf}
+use Rattle.text_line.specs.Line.{spelled, lineOf, rowOf}
 use Rattle.text.specs.Text.{answerFrom, rowsOf, answerOf, rowsAfter}
 use Rattle.refusals.specs.declared.Answer.the-variants.{Accepted, Refused}
-use Rattle.text.specs.declared.Number.the-variants.{Value, Misspelt}
 
 -- the text of five lines in the rules, and its rows
 unfoldable sample : List ℕ
@@ -59,19 +58,3 @@ not-ended = refl
 unknown-kind : answerOf (50 ∷ 53 ∷ 10 ∷ []) 800 ≡ Refused 2 0
 unfolding width parts allOf digitsFrom digitsOf numberOf spelled lineOf answerFrom answerOf
 unknown-kind = refl
-
-largest : numberOf (57 ∷ 50 ∷ 50 ∷ 51 ∷ 51 ∷ 55 ∷ 50 ∷ 48 ∷ 51 ∷ 54 ∷ 56 ∷ 53 ∷ 52 ∷ 55 ∷ 55 ∷ 53 ∷ 56 ∷ 48 ∷ 55 ∷ []) ≡ Value (pos 9223372036854775807)
-unfolding digitsFrom digitsOf numberOf
-largest = refl
-
-too-large : numberOf (57 ∷ 50 ∷ 50 ∷ 51 ∷ 51 ∷ 55 ∷ 50 ∷ 48 ∷ 51 ∷ 54 ∷ 56 ∷ 53 ∷ 52 ∷ 55 ∷ 55 ∷ 53 ∷ 56 ∷ 48 ∷ 56 ∷ []) ≡ Misspelt
-unfolding digitsFrom digitsOf numberOf
-too-large = refl
-
-least : numberOf (45 ∷ 57 ∷ 50 ∷ 50 ∷ 51 ∷ 51 ∷ 55 ∷ 50 ∷ 48 ∷ 51 ∷ 54 ∷ 56 ∷ 53 ∷ 52 ∷ 55 ∷ 55 ∷ 53 ∷ 56 ∷ 48 ∷ 55 ∷ []) ≡ Value (negsuc 9223372036854775806)
-unfolding digitsFrom digitsOf numberOf
-least = refl
-
-too-small : numberOf (45 ∷ 57 ∷ 50 ∷ 50 ∷ 51 ∷ 51 ∷ 55 ∷ 50 ∷ 48 ∷ 51 ∷ 54 ∷ 56 ∷ 53 ∷ 52 ∷ 55 ∷ 55 ∷ 53 ∷ 56 ∷ 48 ∷ 56 ∷ []) ≡ Misspelt
-unfolding digitsFrom digitsOf numberOf
-too-small = refl

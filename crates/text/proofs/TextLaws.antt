@@ -13,18 +13,18 @@ use borrow.Author.Tests.{lt-ltb, le-ltb, ltb-true, eqb-true}
 use Rattle.loops.specs.Lists.{isEmpty}
 use Rattle.loops.specs.Numbers.{toNat}
 use Rattle.rows.specs.Table.{width}
-use Rattle.text.specs.Parts.{untilByte, parts}
-use Rattle.text.specs.Line.{byKind, fieldsOf, spelled, valueOf, lineOf, rowOf}
+use Rattle.text_fields.specs.Parts.{untilByte, parts}
+use Rattle.text_line.specs.Line.{byKind, fieldsOf, spelled, valueOf, lineOf, rowOf}
 use Rattle.text.specs.inner.Stored.{rowsRead, onRow}
 use Rattle.text.specs.Text.{answerFrom, rowsOf, rowsAfter, afterLine, answerOf}
-use Rattle.text.specs.declared.Line.{Line}
-use Rattle.text.specs.declared.Line.the-variants.{Row, Wrong}
+use Rattle.text_line.specs.declared.Line.{Line}
+use Rattle.text_line.specs.declared.Line.the-variants.{Row, Wrong}
 use Rattle.refusals.specs.declared.Answer.{Answer}
 use Rattle.refusals.specs.declared.Answer.the-variants.{Accepted, Refused}
 use Rattle.rows.proofs.Tables.{width-most}
-use Rattle.text.proofs.LineLaws.{no-row}
+use Rattle.text_line.proofs.LineLaws.{no-row}
 use Rattle.loops.proofs.StoreLaws.{sets-append}
-use Rattle.text.proofs.PartLaws.{up-within, parts-last, parts-more, parts-first, tail-is}
+use Rattle.text_fields.proofs.PartLaws.{up-within, parts-last, parts-more, parts-first, tail-is}
 
 -- ---- a row has ten numbers
 

@@ -1,16 +1,16 @@
 -- A text: lines, each ended by a line feed. It gives its rows, or it is refused: by 8, or at the first line that is refused by 9, 2, 9 (see
 -- Line) or, past the lent rows, 10. Assumes nothing.
-use Prim.Native.Nat.{ℕ, suc, _*_, _/_}
+use Prim.Native.Nat.{ℕ, suc, _*_}
 use mathlib.Core.Bool.{cond}
 use mathlib.Core.List.{List, [], _∷_, _++_}
 use lib.Dec.{ltb}
 use lib.ListN.{length, drop}
 use lib.IntN.{ℤ}
 use Rattle.loops.specs.Lists.{isEmpty}
-use Rattle.text.specs.Parts.{parts}
-use Rattle.text.specs.Line.{lineOf, rowOf}
-use Rattle.text.specs.declared.Line.{Line}
-use Rattle.text.specs.declared.Line.the-variants.{Row, Wrong}
+use Rattle.text_fields.specs.Parts.{parts}
+use Rattle.text_line.specs.Line.{lineOf, rowOf}
+use Rattle.text_line.specs.declared.Line.{Line}
+use Rattle.text_line.specs.declared.Line.the-variants.{Row, Wrong}
 use Rattle.refusals.specs.Refusals.{OVERLONG, MISSPELT, CROWDED}
 use Rattle.refusals.specs.declared.Answer.{Answer}
 use Rattle.refusals.specs.declared.Answer.the-variants.{Accepted, Refused}

@@ -14,7 +14,8 @@ use Rattle.loops.proofs.BoolLaws.{and-right, neither-right}
 use Rattle.loops.proofs.SearchLaws.{first-hit}
 use Rattle.loops.proofs.PlaceLaws.{or-none-left, or-none-right, first-none, if-none}
 use Rattle.rows.specs.Cells.{rowCount, num}
-use Rattle.sheet.specs.inner.Index.{Shaped, Kinds, Linked, Owned}
+use Rattle.sheet.specs.inner.Index.{Shaped, Kinds}
+use Rattle.owners.specs.inner.Owners.{Linked, Owned}
 use Rattle.refusals.specs.Refusals.{Refusal, refuse, verdictOf}
 use Rattle.sheet.specs.Refusals.{misshapen, knownKind, outOfRange, columnFault, refusalOf}
 use Rattle.refusals.specs.declared.Verdict.{Verdict}

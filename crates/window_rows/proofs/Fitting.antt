@@ -15,7 +15,7 @@ use Rattle.calendar.specs.Calendar.{Calendar, intervalFits}
 use Rattle.calendar.specs.Layout.{windowOf}
 use Rattle.calendar.specs.inner.Fit.{fitOf}
 use Rattle.rows.specs.Cells.{rowCount, num}
-use Rattle.sheet.specs.inner.Index.{ownedBy}
+use Rattle.owners.specs.inner.Owners.{ownedBy}
 use Rattle.model.specs.Sheet.{sheet}
 use Rattle.model.specs.Resource.{windows}
 use Rattle.window_rows.specs.inner.Laid.{Holder, windowHere}

@@ -26,7 +26,7 @@ use Rattle.calendar.specs.Calendar.{Window, Calendar}
 use Rattle.calendar.specs.Layout.{windowsIn, windowAt, windowOf, windowsOf, calendarOf}
 use Rattle.rows.specs.Cells.{rowCount, num, is}
 use Rattle.sheet.specs.Places.{placeOf}
-use Rattle.sheet.specs.inner.Index.{ownerKind, ownedBy}
+use Rattle.owners.specs.inner.Owners.{ownerKind, ownedBy}
 use Rattle.model.specs.Sheet.{sheet}
 use Rattle.model.specs.Resource.{windows}
 use Rattle.model.proofs.OwnedLaws.{of-activity, of-resource}

@@ -21,8 +21,8 @@ use Rattle.rows.specs.Class.{resource-c}
 use Rattle.rows.specs.Cells.{rowCount, num, is}
 use Rattle.sheet.specs.inner.Accepted.{Accepted}
 use Rattle.sheet.specs.Places.{placeOf}
-use Rattle.sheet.specs.inner.Index.{ownedBy}
 use Rattle.sheet.specs.Refusals.{lacks}
+use Rattle.owners.specs.inner.Owners.{ownedBy}
 use Rattle.model.specs.Sheet.{sheet, with2, rowAt}
 use Rattle.model.specs.inner.Records.{numAt, timeAt}
 use Rattle.model.specs.Resource.{windows}

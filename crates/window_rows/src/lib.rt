@@ -1,6 +1,6 @@
 // The windows of a resource or of an activity: whether they hold an interval, and laid out for the calendar functions.
 ghost use mathlib.Core.Path.{_≡_};
-ghost use Prim.Native.Nat.{ℕ, _+_, _<_, _≤_};
+ghost use Prim.Native.Nat.{_+_, _<_, _≤_};
 ghost use lib.IntN.{pos};
 ghost use lib.ListN.{length};
 ghost use Rattle.calendar.specs.Clock.{clock};
@@ -8,7 +8,7 @@ ghost use Rattle.calendar.specs.Calendar.{intervalFits};
 ghost use Rattle.loops.specs.Search.{countBelow};
 ghost use Rattle.loops.specs.inner.Threes.{setThree};
 ghost use Rattle.rows.specs.Cells.{rowCount, num};
-ghost use Rattle.sheet.specs.inner.Index.{Owned, ownedBy};
+ghost use Rattle.owners.specs.inner.Owners.{Owned, ownedBy};
 ghost use Rattle.model.specs.Sheet.{sheet};
 ghost use Rattle.model.specs.Resource.{windows};
 ghost use Rattle.window_rows.specs.inner.Laid.{Holder, windowHere, Laid};
@@ -52,11 +52,11 @@ pub fn gather_windows(
 {
     let n = rows::row_count(rows);
     let mut to = at;
-    let mut k = sheet::first_owned(rows, owned, o, x);
+    let mut k = owners::first_owned(rows, owned, o, x);
     while k < n {
         add_window(rows, k, w, to);
         to += 1;
-        k = sheet::next_owned(rows, owned, o, x, k);
+        k = owners::next_owned(rows, owned, o, x, k);
     }
     to
 }
@@ -82,10 +82,10 @@ pub fn interval_fits(rows: &[i64], owned: &[u16; 8810], o: usize, x: usize, a: u
 {
     let n = rows::row_count(rows);
     let mut fit = Fit::over(a, e);
-    let mut k = sheet::first_owned(rows, owned, o, x);
+    let mut k = owners::first_owned(rows, owned, o, x);
     while k < n {
         fit = fit.add(window_of(rows, k));
-        k = sheet::next_owned(rows, owned, o, x, k);
+        k = owners::next_owned(rows, owned, o, x, k);
     }
     fit.fits()
 }

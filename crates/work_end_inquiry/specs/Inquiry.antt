@@ -1,8 +1,7 @@
 -- The work-end inquiry: when work ends that is started on a resource. Assumes nothing.
-use Prim.Native.Nat.{ℕ}
 use mathlib.Core.Bool.{Bool, cond, not, _&&_}
 use mathlib.Core.List.{List, [], _∷_}
-use mathlib.Core.Option.{Option, none, some}
+use mathlib.Core.Option.{Option}
 use lib.IntN.{ℤ, pos}
 use Rattle.loops.specs.Numbers.{toNat}
 use Rattle.loops.specs.Lists.{option}

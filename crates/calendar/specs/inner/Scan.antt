@@ -1,7 +1,7 @@
 -- What one pass over a calendar's windows finds at an instant t: whether it works, and until when that cannot change.
 -- The contracts of inner functions speak of it; no public contract does.
 use Prim.Native.Nat.{ℕ, max}
-use mathlib.Core.Bool.{Bool, true, false, _&&_, _||_, cond}
+use mathlib.Core.Bool.{Bool, true, _&&_, _||_, cond}
 use mathlib.Core.List.{List, foldl}
 use lib.IntN.{pos}
 use lib.Dec.{eqb, ltb}

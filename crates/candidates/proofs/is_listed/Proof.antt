@@ -8,7 +8,7 @@ use Rattle.loops.specs.Search.{anyBelow}
 use Rattle.loops.proofs.SearchLaws.{any-hit}
 use Rattle.loops.proofs.Walks.{any-first, any-next, any-end}
 use Rattle.rows.specs.Cells.{rowCount}
-use Rattle.sheet.specs.inner.Index.{ownedBy}
+use Rattle.owners.specs.inner.Owners.{ownedBy}
 use Rattle.candidates.proofs.Uses.{lists, lists-blind, lists-test, listed-are}
 use Rattle.candidates.proofs.is_listed.Statement.{statement}
 use Rattle.candidates.proofs.is_listed.Tie as tie

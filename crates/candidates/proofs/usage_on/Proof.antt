@@ -8,8 +8,8 @@ use Rattle.loops.specs.inner.Chain.{Stands}
 use Rattle.loops.specs.Search.{firstPlace}
 use Rattle.loops.proofs.Walks.{seek-first, seek-next, seek-end, seek-hit}
 use Rattle.rows.specs.Cells.{rowCount}
-use Rattle.sheet.specs.inner.Index.{ownedBy}
 use Rattle.sheet.proofs.Lookups.{placed}
+use Rattle.owners.specs.inner.Owners.{ownedBy}
 use Rattle.candidates.proofs.usage_on.Statement.{statement}
 use Rattle.candidates.proofs.usage_on.Tie as tie
 

@@ -1,6 +1,6 @@
 use mathlib.Core.Path.{sym, ap, _∙_}
 use Rattle.sheet.specs.inner.Found.{foundOf}
-use Rattle.sheet.proofs.Links.{books}
+use Rattle.owners.proofs.Links.{books}
 use Rattle.check1_assignments.proofs.Judging.{known-told, unknown-told}
 use borrow.Author.Needs.{needs}
 use Rattle.check1_assignments.proofs.check_assignment.Statement.{statement}

@@ -1,5 +1,4 @@
-use native.Mathlib.Omega.{arith}
-use Rattle.check1_assignments.proofs.Placing.{activity-named, activity-place, activity-kind}
+use Rattle.check1_assignments.proofs.Placing.{activity-within, activity-place, activity-kind}
 use Rattle.check1_assignments.proofs.Judging.{judged-told}
 use borrow.Author.Needs.{needs}
 use Rattle.check1_assignments.proofs.check_judged.Statement.{statement}
@@ -15,7 +14,7 @@ add-is-over : tie.Need-add-is-over
 add-is-over c = search needs
 
 is-over-requires : tie.Need-is-over-requires
-is-over-requires c κs = ((c .before .before .pre .0), (c .before .before .pre .2), activity-place _ _ _ (c .before .before .pre .5), omega (arith, (c .uses-before .ensures .1)))
+is-over-requires c κs = search (needs, activity-place)
 
 tell-requires : tie.Need-tell-requires
 tell-requires c κs = search needs
@@ -36,10 +35,10 @@ tell-requires-3 : tie.Need-tell-requires-3
 tell-requires-3 c κs = search needs
 
 is-early-in-task-requires : tie.Need-is-early-in-task-requires
-is-early-in-task-requires c κs = ((c .before .before .before .before .before .before .before .before .before .before .before .before .before .before .before .before .pre .1), activity-named _ _ _ (c .before .before .before .before .before .before .before .before .before .before .before .before .before .before .before .before .pre .5) .within, activity-kind _ _ _ (c .before .before .before .before .before .before .before .before .before .before .before .before .before .before .before .before .pre .5))
+is-early-in-task-requires c κs = search (needs, activity-within, activity-kind)
 
 tell-requires-4 : tie.Need-tell-requires-4
-tell-requires-4 c κs = (c .before .before .before .before .before .before .before .before .before .before .before .before .before .before .before .before .id-at .ensures .1)
+tell-requires-4 c κs = search needs
 
 same-length : tie.Need-same-length
 same-length c = search needs

@@ -1,5 +1,4 @@
-use mathlib.Core.Path.{sym, ap, _∙_}
-use Rattle.sheet.specs.inner.Found.{foundOf}
+use Rattle.check1_assignments.proofs.Judging.{no-task, its-task}
 use borrow.Author.Needs.{needs}
 use Rattle.check1_assignments.proofs.is_early_in_task.Statement.{statement}
 use Rattle.check1_assignments.proofs.is_early_in_task.Tie as tie
@@ -14,13 +13,13 @@ enum-told : tie.Need-enum-told
 enum-told c = search needs
 
 returns : tie.Need-returns
-returns c = rw (sym (c .before .before .task-of .ensures) ∙ ap foundOf (c .enum-told .given .1))
+returns c = search (needs, no-task)
 
 is-early-requires : tie.Need-is-early-requires
 is-early-requires c κs = search needs
 
 returns-2 : tie.Need-returns-2
-returns-2 c = rw (sym (c .before .before .before .before .task-of .ensures) ∙ ap foundOf (c .before .before .t .given .1)) (c .is-early .ensures)
+returns-2 c = search (needs, its-task)
 
 pub is-early-in-task-spec : {M : Type 1} → statement M
 is-early-in-task-spec = tie.close (tie.spec task-of-requires enum-known-t enum-told returns is-early-requires returns-2)

@@ -6,8 +6,8 @@ use Rattle.loops.specs.Range.{fold}
 use Rattle.loops.specs.inner.Chain.{Stands, onlyAt}
 use Rattle.loops.proofs.Walks.{fold-first, fold-end, quiet-only, only-next}
 use Rattle.rows.specs.Cells.{rowCount}
-use Rattle.sheet.specs.inner.Index.{ownedBy}
 use Rattle.sheet.proofs.Lookups.{placed}
+use Rattle.owners.specs.inner.Owners.{ownedBy}
 use Rattle.pieces.proofs.Chains.{owned-kind}
 use Rattle.check1_assignments.proofs.Summing.{addAt, quantity-key, raised-to, offset-to, sum-step, quantities-are}
 use borrow.Author.Needs.{needs}

@@ -7,7 +7,7 @@ use Rattle.loops.specs.inner.Chain.{Stands}
 use Rattle.loops.proofs.SearchLaws.{counted-le}
 use Rattle.loops.proofs.PlaceLaws.{count-first, count-next}
 use Rattle.rows.specs.Cells.{rowCount}
-use Rattle.sheet.specs.inner.Index.{ownedBy}
+use Rattle.owners.specs.inner.Owners.{ownedBy}
 use Rattle.check1_assignments.specs.inner.Bookings.{takesUnit}
 use Rattle.check1_assignments.proofs.Placing.{activity-named, owned-booking, first-upto}
 use Rattle.check1_assignments.proofs.Counting.{takes-blind, uses-end}

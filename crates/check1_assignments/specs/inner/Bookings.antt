@@ -3,7 +3,7 @@ use Prim.Native.Nat.{ℕ, _<_}
 use mathlib.Core.Path.{_≡_}
 use mathlib.Core.Bool.{Bool, true, not, _&&_}
 use mathlib.Core.List.{List, map, foldl}
-use mathlib.Core.Option.{Option, some}
+use mathlib.Core.Option.{some}
 use lib.IntN.{ℤ, pos, _+ℤ_}
 use Rattle.loops.specs.Lists.{anyOf}
 use Rattle.rows.specs.Cells.{rowCount, num, is}

@@ -1,25 +1,19 @@
 use borrow.Author.Needs.{needs}
 use Rattle.check2_time_only.proofs.Told.{first-told}
-use Rattle.check2_time_only.proofs.Spans.{is-activity}
-use native.Mathlib.Omega.{arith}
-use Prim.Native.Nat.{ℕ}
-use mathlib.Core.Path.{refl}
-use mathlib.Core.Logic.{inl}
+use Rattle.check2_time_only.proofs.Spans.{is-activity, is-below, up-to, own-windows}
 use lib.ListN.{length-replicate}
-use Rattle.sheet.proofs.Lookups.{placed}
-use Rattle.model.proofs.Finds.{found-self}
 use Rattle.window_rows.proofs.WindowRows.{all-fit}
 use Rattle.check2_time_only.proofs.check_first.Statement.{statement}
 use Rattle.check2_time_only.proofs.check_first.Tie as tie
 
 gather-windows-requires : tie.Need-gather-windows-requires
-gather-windows-requires c κs = let h = placed _ _ _ _ (c .before .pre .4) .within in ((c .before .pre .1), omega (arith, h), inl (refl, found-self _ _ _ _ (c .before .pre .4)), length-replicate {A = ℕ} 2400 0, all-fit _ _ _ (c .before .pre .1 .short))
+gather-windows-requires c κs = search (needs, up-to, own-windows, all-fit, length-replicate)
 
 is-short-requires : tie.Need-is-short-requires
-is-short-requires c κs = ((c .before .before .before .pre .2), is-activity _ _ _ (c .before .before .before .pre .4), (c .before .before .before .pre .3), (c .before .gather-windows .ensures .0 .size), (c .before .gather-windows .ensures .0 .calendar))
+is-short-requires c κs = search (needs, is-activity)
 
 is-outside-requires : tie.Need-is-outside-requires
-is-outside-requires c κs = ((c .before .before .before .gather-windows .ensures .0 .size), (c .before .before .before .gather-windows .ensures .0 .calendar))
+is-outside-requires c κs = search needs
 
 instant-at-requires : tie.Need-instant-at-requires
 instant-at-requires c κs = search needs
@@ -28,7 +22,7 @@ is-early-requires : tie.Need-is-early-requires
 is-early-requires c κs = search needs
 
 task-release-requires : tie.Need-task-release-requires
-task-release-requires c κs = ((c .before .before .before .before .before .before .before .before .pre .0), placed _ _ _ _ (c .before .before .before .before .before .before .before .before .pre .4) .within, is-activity _ _ _ (c .before .before .before .before .before .before .before .before .pre .4))
+task-release-requires c κs = search (needs, is-below, is-activity)
 
 is-early-requires-2 : tie.Need-is-early-requires-2
 is-early-requires-2 c κs = search needs

@@ -9,7 +9,7 @@ use Rattle.findings.specs.inner.Sink.{sink, emit}
 use Rattle.findings.proofs.SinkLaws.{kept}
 use Rattle.findings.proofs.Reports.{emit-first, emit-next, emit-end}
 use Rattle.rows.specs.Cells.{rowCount}
-use Rattle.sheet.specs.inner.Index.{ownedBy}
+use Rattle.owners.specs.inner.Owners.{ownedBy}
 use Rattle.check2_time_only.proofs.check_task.Statement.{statement}
 use Rattle.check2_time_only.proofs.check_task.Tie as tie
 

@@ -10,8 +10,8 @@ use Rattle.loops.proofs.SearchLaws.{any-hit}
 use Rattle.loops.proofs.PlaceLaws.{any-less}
 use Rattle.loops.proofs.Walks.{any-first, any-next}
 use Rattle.rows.specs.Cells.{rowCount}
-use Rattle.sheet.specs.inner.Index.{ownedBy}
 use Rattle.sheet.proofs.Lookups.{placed}
+use Rattle.owners.specs.inner.Owners.{ownedBy}
 use Rattle.check2_time_only.proofs.is_seen.Statement.{statement}
 use Rattle.check2_time_only.proofs.is_seen.Tie as tie
 

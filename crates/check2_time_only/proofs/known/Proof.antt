@@ -1,7 +1,7 @@
 use mathlib.Core.Path.{sym, ap, ap₂, _∙_}
 use mathlib.Core.Bool.{_&&_}
 use Rattle.sheet.specs.inner.Found.{foundOf}
-use Rattle.sheet.proofs.Links.{spans}
+use Rattle.owners.proofs.Links.{spans}
 use Rattle.check2_time_only.proofs.Spans.{unknown, linked-self, known-here, known-not, known-held}
 use borrow.Author.Needs.{needs}
 use Rattle.check2_time_only.proofs.known.Statement.{statement}

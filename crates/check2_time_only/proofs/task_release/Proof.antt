@@ -1,5 +1,4 @@
-use mathlib.Core.Path.{sym, ap, _∙_}
-use Rattle.sheet.specs.inner.Found.{foundOf}
+use Rattle.check2_time_only.proofs.Told.{no-task, its-task}
 use borrow.Author.Needs.{needs}
 use Rattle.check2_time_only.proofs.task_release.Statement.{statement}
 use Rattle.check2_time_only.proofs.task_release.Tie as tie
@@ -14,13 +13,13 @@ enum-told : tie.Need-enum-told
 enum-told c = search needs
 
 returns : tie.Need-returns
-returns c = rw (sym (c .before .before .task-of .ensures) ∙ ap foundOf (c .enum-told .given .1))
+returns c = search (needs, no-task)
 
 instant-at-requires : tie.Need-instant-at-requires
 instant-at-requires c κs = search needs
 
 returns-2 : tie.Need-returns-2
-returns-2 c = rw (sym (c .before .before .before .before .task-of .ensures) ∙ ap foundOf (c .before .before .t .given .1)) (c .instant-at .ensures)
+returns-2 c = search (needs, its-task)
 
 pub task-release-spec : {M : Type 1} → statement M
 task-release-spec = tie.close (tie.spec task-of-requires enum-known-t enum-told returns instant-at-requires returns-2)

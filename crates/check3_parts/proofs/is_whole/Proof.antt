@@ -4,7 +4,7 @@ use mathlib.Core.Path.{_≡_}
 use mathlib.Core.Bool.{false}
 use Rattle.loops.specs.inner.Chain.{Stands}
 use Rattle.rows.specs.Cells.{rowCount}
-use Rattle.sheet.specs.inner.Index.{ownedBy}
+use Rattle.owners.specs.inner.Owners.{ownedBy}
 use Rattle.loops.specs.Search.{anyBelow}
 use Rattle.loops.proofs.SearchLaws.{any-hit}
 use Rattle.loops.proofs.Walks.{any-first, any-next, any-end}

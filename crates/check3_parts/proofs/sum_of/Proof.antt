@@ -4,7 +4,7 @@ use native.Mathlib.Omega.{arith}
 use mathlib.Core.Path.{_≡_}
 use Rattle.loops.specs.inner.Chain.{Stands}
 use Rattle.rows.specs.Cells.{rowCount}
-use Rattle.sheet.specs.inner.Index.{ownedBy}
+use Rattle.owners.specs.inner.Owners.{ownedBy}
 use Rattle.definition.specs.CheckParts.{partsOf}
 use Rattle.check3_parts.specs.inner.Booked.{partsBelow, measureOf, measured}
 use Rattle.check3_parts.proofs.Sums.{sum-first, sum-next, sum-end}

@@ -4,7 +4,7 @@ use native.Mathlib.Omega.{arith}
 use mathlib.Core.Path.{_≡_}
 use Rattle.loops.specs.inner.Chain.{Stands}
 use Rattle.rows.specs.Cells.{rowCount, cell}
-use Rattle.sheet.specs.inner.Index.{ownedBy}
+use Rattle.owners.specs.inner.Owners.{ownedBy}
 use Rattle.definition.specs.CheckParts.{workOf}
 use Rattle.check3_parts.specs.inner.Booked.{decoded, partsBelow}
 use Rattle.check3_parts.proofs.Works.{work-first, work-turn, work-end, not-past}

@@ -1,7 +1,7 @@
 -- The parts of an activity's bookings, by row: o is the row of the activity, x that of its split. Assumes nothing.
-use Prim.Native.Nat.{ℕ, zero, suc, _+_}
+use Prim.Native.Nat.{ℕ, zero, suc}
 use mathlib.Core.Bool.{Bool, cond, not, _&&_, _||_}
-use mathlib.Core.List.{List, [], _∷_}
+use mathlib.Core.List.{List, []}
 use mathlib.Core.Option.{Option, none, some}
 use lib.Dec.{eqb, ltb}
 use lib.IntN.{ℤ, pos}
@@ -14,7 +14,7 @@ use Rattle.loops.specs.Sums.{total}
 use Rattle.loops.specs.inner.Chain.{only}
 use Rattle.rows.specs.Cells.{rowCount, cell, num}
 use Rattle.rows.specs.Ranges.{isNone}
-use Rattle.sheet.specs.inner.Index.{ownedBy}
+use Rattle.owners.specs.inner.Owners.{ownedBy}
 use Rattle.findings.specs.declared.Violation.{Violation}
 use Rattle.model.specs.Sheet.{sheet}
 use Rattle.model.specs.inner.Records.{activityOf}

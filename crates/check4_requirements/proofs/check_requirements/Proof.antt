@@ -1,14 +1,9 @@
-use Rattle.loops.specs.inner.Chain.{Stands, only}
-use Rattle.loops.specs.Range.{collect}
 use Rattle.rows.specs.Cells.{rowCount}
-use mathlib.Core.Path.{_≡_, ap, _∙_}
+use mathlib.Core.Path.{ap, _∙_}
 use Prim.Native.Nat.{_-_}
 use native.Mathlib.Omega.{arith}
 use Rattle.findings.specs.inner.Sink.{sink, emit}
-use Rattle.findings.proofs.SinkLaws.{kept}
-use Rattle.findings.proofs.Reports.{emit-first, emit-end}
-use Rattle.loops.proofs.Walks.{silent-only}
-use Rattle.check4_requirements.proofs.Along.{emit-turn}
+use Rattle.check4_pieces.proofs.Along.{Reporting, reported}
 use Rattle.check4_requirements.specs.inner.ByRow.{checkTask}
 use Rattle.sheet.specs.Places.{ofKind}
 use Rattle.check4_requirements.proofs.Whole.{by-rows}
@@ -17,7 +12,7 @@ use Rattle.check4_requirements.proofs.check_requirements.Statement.{sta
 use Rattle.check4_requirements.proofs.check_requirements.Tie as tie
 
 abbrev Inv-loop : tie.InvT-loop
-Inv-loop rows kinds links owned held out₀ n end m₀ t₀ out m t = Stands (ofKind rows 1) (rowCount rows) t × (sink out m ≡ emit (sink out₀ n) (collect (only (ofKind rows 1) (checkTask rows)) t))
+Inv-loop rows kinds links owned held out₀ n end m₀ t₀ out m t = Reporting (ofKind rows 1) (checkTask rows) (rowCount rows) (sink out₀ n) t (sink out m)
 
 abbrev μ-loop : tie.MeasureT-loop
 μ-loop rows kinds links owned held out₀ n end m₀ t₀ out m t = end - t
@@ -29,10 +24,10 @@ first-of-requires : tie.Need-first-of-requires Inv-loop μ-loop
 first-of-requires c κs = ((c .before .pre .0 .by-kind), omega arith)
 
 loop-holds : tie.Need-loop-holds Inv-loop μ-loop
-loop-holds c = (search needs, emit-first _ _ (c .first-of .ensures) (silent-only _ _))
+loop-holds c = search reported
 
 check-task-requires : tie.Need-check-task-requires Inv-loop μ-loop
-check-task-requires c κs = ((c .before .before .before .before .before .pre .0 .linked), (c .before .before .before .before .before .pre .0 .by-owner), (c .before .before .loop .inv .0 .high), (c .before .before .before .before .before .pre .1))
+check-task-requires c κs = ((c .before .before .before .before .before .pre .0 .linked), (c .before .before .before .before .before .pre .0 .by-owner), (c .before .before .loop .inv .stands .high), (c .before .before .before .before .before .pre .1))
 
 next-of-requires : tie.Need-next-of-requires Inv-loop μ-loop
 next-of-requires c κs = search needs
@@ -41,13 +36,13 @@ loop-less : tie.Need-loop-less Inv-loop μ-loop
 loop-less c = search needs
 
 loop-again : tie.Need-loop-again Inv-loop μ-loop
-loop-again c = (search needs, emit-turn _ _ _ (c .next-of .ensures) (c .before .before .before .before .loop-test .taken) (c .before .before .before .before .before .before .before .row-count .ensures) ((c .before .before .before .before .before .loop .inv .0)) ((c .before .before .before .before .before .loop .inv .1)) (c .before .before .check-task .ensures))
+loop-again c = search (reported, c .before .before .before .before .before .loop .inv)
 
 same-length : tie.Need-same-length Inv-loop μ-loop
-same-length c = kept _ _ _ ((c .before .loop .inv .1))
+same-length c = search reported
 
 returns : tie.Need-returns Inv-loop μ-loop
-returns c = emit-end _ _ _ _ _ (c .loop-test .left) (c .before .before .before .row-count .ensures) ((c .before .loop .inv .0)) ((c .before .loop .inv .1)) ∙ ap (emit _) (by-rows _ ((c .before .before .before .before .pre .0)))
+returns c = search reported ∙ ap (emit _) (by-rows _ (c .before .before .before .before .pre .0))
 
 pub check-requirements-spec : {M : Type 1} → statement M
 check-requirements-spec = tie.close (tie.spec Inv-loop μ-loop row-count-requires first-of-requires loop-holds check-task-requires next-of-requires loop-less loop-again same-length returns)

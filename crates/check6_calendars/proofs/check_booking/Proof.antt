@@ -1,6 +1,6 @@
 use mathlib.Core.Path.{sym, ap, _∙_}
 use Rattle.sheet.specs.inner.Found.{foundOf}
-use Rattle.sheet.proofs.Links.{books}
+use Rattle.owners.proofs.Links.{books}
 use Rattle.check6_calendars.proofs.Booking.{absent-told, external-told, known-told}
 use Rattle.check6_calendars.proofs.Resumable.{lacks-is}
 use borrow.Author.Needs.{needs}

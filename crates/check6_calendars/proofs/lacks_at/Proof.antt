@@ -1,7 +1,7 @@
 use borrow.Author.Tests.{not-true, not-false}
 use mathlib.Core.Path.{sym, ap, _∙_}
 use Rattle.sheet.specs.inner.Found.{foundOf}
-use Rattle.sheet.proofs.Links.{books}
+use Rattle.owners.proofs.Links.{books}
 use Rattle.check6_calendars.proofs.Resumable.{lacks-none, lacks-absent, lacks-external, lacks-is, lacks-found}
 use borrow.Author.Needs.{needs}
 use Rattle.check6_calendars.proofs.lacks_at.Statement.{statement}

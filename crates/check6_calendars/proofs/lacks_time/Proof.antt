@@ -1,4 +1,3 @@
-use native.Mathlib.Omega.{arith}
 use lib.ListN.{length-replicate}
 use lib.Seq.{length-take-le}
 use mathlib.Core.Path.{sym}
@@ -26,10 +25,10 @@ mul-cs : tie.Need-mul-cs
 mul-cs c = search needs
 
 array-share-prefix-cs : tie.Need-array-share-prefix-cs
-array-share-prefix-cs c = omega (arith, (c .before .before .before .lay-calendars .ensures .few), (c .before .before .before .lay-calendars .ensures .pairs-size))
+array-share-prefix-cs c = search needs
 
 slice-aggregate-is-uncovered : tie.Need-slice-aggregate-is-uncovered
-slice-aggregate-is-uncovered c = sym (length-take-le _ _ (omega (arith, (c .before .before .before .before .lay-calendars .ensures .few), (c .before .before .before .before .lay-calendars .ensures .pairs-size))))
+slice-aggregate-is-uncovered c = sym (length-take-le _ _ (search needs))
 
 slice-aggregate-is-uncovered-2 : tie.Need-slice-aggregate-is-uncovered-2
 slice-aggregate-is-uncovered-2 c = search needs

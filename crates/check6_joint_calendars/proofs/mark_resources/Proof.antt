@@ -3,8 +3,8 @@ use Prim.Native.Nat.{_-_}
 use native.Mathlib.Omega.{arith}
 use Rattle.loops.specs.inner.Chain.{Stands}
 use Rattle.rows.specs.Cells.{rowCount}
-use Rattle.sheet.specs.inner.Index.{ownedBy}
 use Rattle.sheet.proofs.Lookups.{placed}
+use Rattle.owners.specs.inner.Owners.{ownedBy}
 use Rattle.check6_joint_calendars.specs.inner.Taken.{Marked}
 use Rattle.check6_joint_calendars.proofs.Marking.{mark-first, mark-next, mark-end}
 use Rattle.check6_joint_calendars.proofs.mark_resources.Statement.{statement}

@@ -15,7 +15,7 @@ use Rattle.calendar.specs.Calendar.{Calendar}
 use Rattle.calendar.specs.Layout.{calendarOf, calendarsOf}
 use Rattle.rows.specs.Cells.{rowCount, num, is}
 use Rattle.sheet.specs.Places.{ofKind}
-use Rattle.sheet.specs.inner.Index.{ownPlace, ownedBy}
+use Rattle.owners.specs.inner.Owners.{ownPlace, ownedBy}
 use Rattle.model.specs.Sheet.{sheet}
 use Rattle.model.specs.Resource.{windows}
 use Rattle.window_rows.specs.inner.Laid.{calendarNumbers}

@@ -7,7 +7,7 @@ use Rattle.loops.specs.inner.Chain.{Stands}
 use Rattle.loops.proofs.SearchLaws.{any-hit}
 use Rattle.loops.proofs.Walks.{any-first, any-next, any-end}
 use Rattle.rows.specs.Cells.{rowCount, num}
-use Rattle.sheet.specs.inner.Index.{ownedBy}
+use Rattle.owners.specs.inner.Owners.{ownedBy}
 use Rattle.check7_early_piece.specs.inner.Reached.{unreachedAt}
 use Rattle.check7_early_piece.proofs.Judged.{judged-blind, judged-here, judged-not, stands-owned}
 use Rattle.check7_early_piece.proofs.any_unreached.Statement.{statement}

@@ -8,7 +8,7 @@ use Rattle.findings.specs.inner.Sink.{sink, emit}
 use Rattle.findings.proofs.SinkLaws.{kept}
 use Rattle.findings.proofs.Reports.{emit-first, emit-next, emit-end}
 use Rattle.rows.specs.Cells.{rowCount, num}
-use Rattle.sheet.specs.inner.Index.{ownedBy}
+use Rattle.owners.specs.inner.Owners.{ownedBy}
 use Rattle.check7_end_to_start.proofs.Told.{activityTold, activity-silent, activity-told, activities-all, task-at, stands-activity}
 use Rattle.check7_end_to_start.proofs.check_all_predecessors.Statement.{statement}
 use Rattle.check7_end_to_start.proofs.check_all_predecessors.Tie as tie

@@ -2,12 +2,11 @@
 use Prim.Native.Nat.{ℕ}
 use mathlib.Core.Bool.{Bool, false}
 use mathlib.Core.List.{List}
-use mathlib.Core.Option.{Option}
 use lib.IntN.{ℤ}
 use Rattle.loops.specs.Lists.{option}
 use Rattle.calendar.specs.Clock.{clock}
 use Rattle.model.specs.Sheet.{sheet}
-use Rattle.definition.specs.ActivitySpan.{Span, activitySpan}
+use Rattle.definition.specs.ActivitySpan.{activitySpan}
 
 -- `after` starts before `delay` after `before` ends; both have a span
 unfoldable pub startsEarly : List ℤ → ℕ → ℕ → ℤ → Bool

@@ -7,7 +7,7 @@ use Rattle.loops.specs.Range.{fold}
 use Rattle.loops.specs.inner.Chain.{Stands, onlyAt}
 use Rattle.loops.proofs.Walks.{fold-first, fold-end, quiet-only, only-next}
 use Rattle.rows.specs.Cells.{rowCount, num}
-use Rattle.sheet.specs.inner.Index.{ownedBy}
+use Rattle.owners.specs.inner.Owners.{ownedBy}
 use Rattle.model.specs.Sheet.{sheet}
 use Rattle.definition.specs.CheckPrecedence.{runsOnAll}
 use Rattle.check7_transport.proofs.Longest.{toStep, to-turn, to-is}

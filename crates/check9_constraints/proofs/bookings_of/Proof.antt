@@ -1,9 +1,8 @@
 use borrow.Author.Needs.{needs}
 use Prim.Native.Nat.{_-_, _≤_}
-use native.Mathlib.Omega.{arith}
-use Rattle.sheet.proofs.Keeping.{Keeping, keeping-start, keeping-turn, keeping-end}
+use Rattle.sheet.proofs.Keeping.{Keeping, keeping-start, keeping-end}
 use Rattle.check9_constraints.specs.inner.Bookings.{memberBooking}
-use Rattle.check9_constraints.proofs.Pairs.{booking-row}
+use Rattle.check9_constraints.proofs.Pairs.{booking-found, booking-turn}
 use Rattle.check9_constraints.proofs.bookings_of.Statement.{statement}
 use Rattle.check9_constraints.proofs.bookings_of.Tie as tie
 
@@ -17,13 +16,13 @@ row-count-requires : tie.Need-row-count-requires Inv-loop μ-loop
 row-count-requires c κs = search needs
 
 loop-holds : tie.Need-loop-holds Inv-loop μ-loop
-loop-holds c = (search needs, keeping-start _ _)
+loop-holds c = search (needs, keeping-start)
 
 member-booking-requires : tie.Need-member-booking-requires Inv-loop μ-loop
 member-booking-requires c κs = search needs
 
 keep-place-requires : tie.Need-keep-place-requires Inv-loop μ-loop
-keep-place-requires c κs = ((c .before .before .before .before .before .pre .short), omega (arith, (c .before .before .loop-test .taken), (c .before .before .before .before .row-count .ensures), (c .before .before .before .before .before .pre .short)), rw (c .before .member-booking .ensures) (booking-row _ _ _ _))
+keep-place-requires c κs = search (needs, booking-found)
 
 add-k : tie.Need-add-k Inv-loop μ-loop
 add-k c = search needs
@@ -32,10 +31,10 @@ loop-less : tie.Need-loop-less Inv-loop μ-loop
 loop-less c = search needs
 
 loop-again : tie.Need-loop-again Inv-loop μ-loop
-loop-again c = (search needs, keeping-turn _ _ _ (omega (arith, (c .before .before .before .loop-test .taken), (c .before .before .before .before .before .row-count .ensures), (c .before .before .before .before .before .before .pre .short))) (c .before .before .member-booking .ensures) (c .keep-place .ensures) (c .before .before .before .before .loop .inv .1))
+loop-again c = search (needs, booking-turn)
 
 returns : tie.Need-returns Inv-loop μ-loop
-returns c = keeping-end _ _ _ _ (c .loop-test .left) (c .before .loop .inv .0) (c .before .before .row-count .ensures) (c .before .before .before .pre .short) (c .before .loop .inv .1)
+returns c = search (needs, keeping-end)
 
 pub bookings-of-spec : {M : Type 1} → statement M
 bookings-of-spec =

@@ -2,13 +2,12 @@
 use Prim.Native.Nat.{ℕ}
 use mathlib.Core.Bool.{Bool, false, _||_}
 use mathlib.Core.List.{List}
-use mathlib.Core.Option.{Option}
 use lib.IntN.{ℤ, pos}
 use Rattle.loops.specs.Lists.{option}
 use Rattle.calendar.specs.Clock.{clock}
 use Rattle.rows.specs.Cells.{num}
 use Rattle.model.specs.Sheet.{sheet}
-use Rattle.definition.specs.ActivitySpan.{Span, activitySpan}
+use Rattle.definition.specs.ActivitySpan.{activitySpan}
 
 -- the activity of the window in row k runs outside it
 unfoldable pub outsideAt : List ℤ → ℕ → Bool

@@ -2,8 +2,7 @@ use mathlib.Core.Path.{sym, ap, _∙_}
 use borrow.Author.Needs.{sfits-of}
 use mir.Facts.{toZ-ofZ}
 use Rattle.sheet.specs.inner.Found.{foundOf}
-use Rattle.resource_timing.specs.declared.Piece.the-variants.{InPart}
-use Rattle.derived_times.proofs.Parts.{piece-whole, activity-below, piece-part, part-amounts, piece-unsplit}
+use Rattle.derived_times.proofs.Parts.{piece-whole, activity-below, piece-found, work-amount, whole-amount, piece-unsplit}
 use borrow.Author.Needs.{needs}
 use Rattle.derived_times.proofs.piece_at.Statement.{statement}
 use Rattle.derived_times.proofs.piece_at.Tie as tie
@@ -42,7 +41,7 @@ part-of-requires : tie.Need-part-of-requires
 part-of-requires c κs = search needs
 
 returns-3 : tie.Need-returns-3
-returns-3 c = let e = rw (toZ-ofZ (sfits-of (c .before .before .before .before .before .before .before .before .before .before .cell-at .ok)), (c .before .before .before .before .before .before .before .before .before .before .cell-at .ensures), (c .before .before .before .num-at .ensures), (c .before .before .num-at2 .ensures), (c .before .num-at3 .ensures)) at (c .part-of .ensures) in (ap InPart e ∙ piece-part _ _ _ ((c .before .before .before .before .before .before .before .before .before .before .before .pre .3)) ((c .before .before .before .before .before .before .before .before .before .before .before .pre .4)) ((c .before .before .before .before .before .before .before .before .before .before .before .pre .0)) ((c .before .before .before .before .before .before .before .before .before .before .before .pre .2)) (rw (toZ-ofZ (sfits-of (c .before .before .before .before .before .before .before .before .before .before .cell-at .ok)), (c .before .before .before .before .before .before .before .before .before .before .cell-at .ensures)) at (sym (c .before .before .before .before .before .before .before .before .before .is-none .ensures) ∙ (c .before .before .before .before .before .before .before .before .if1 .left))) _ (sym (ap foundOf ((c .before .before .before .before .before .i .given .1))) ∙ (c .before .before .before .before .before .before .before .find-owned .ensures)), rw e (part-amounts _ _ _ ((c .before .before .before .before .before .before .before .before .before .before .before .pre .3)) ((c .before .before .before .before .before .before .before .before .before .before .before .pre .4)) ((c .before .before .before .before .before .before .before .before .before .before .before .pre .0))))
+returns-3 c = (search (needs, piece-found), search (needs, work-amount, whole-amount))
 
 pub piece-at-spec : {M : Type 1} → statement M
 piece-at-spec =

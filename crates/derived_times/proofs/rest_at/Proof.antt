@@ -1,6 +1,6 @@
 use mathlib.Core.Path.{sym, ap, _∙_}
 use Rattle.sheet.specs.inner.Found.{foundOf}
-use Rattle.sheet.proofs.Links.{books}
+use Rattle.owners.proofs.Links.{books}
 use Rattle.derived_times.specs.inner.Needs.{restMs}
 use Rattle.derived_times.proofs.Refusing.{rest-most, rest-known, rest-unknown, rest-none}
 use borrow.Author.Needs.{needs}

@@ -2,7 +2,7 @@ use borrow.Author.Needs.{needs}
 use Rattle.derived_times.specs.inner.Rows.{timedAt}
 use Rattle.resource_timing.specs.Durations.{start}
 use Rattle.resource_timing.specs.inner.Limits.{timedOf}
-use Rattle.sheet.specs.inner.Index.{ownedBy}
+use Rattle.owners.specs.inner.Owners.{ownedBy}
 use Rattle.rows.specs.Cells.{rowCount}
 use Rattle.loops.specs.Range.{fold}
 use Rattle.loops.specs.inner.Chain.{Stands}

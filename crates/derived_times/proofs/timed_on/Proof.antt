@@ -1,11 +1,10 @@
 use mathlib.Core.Path.{sym, ap, _∙_}
 use Rattle.sheet.specs.inner.Found.{foundOf}
-use Rattle.resource_timing.specs.Durations.{timedOn, pieceTiming}
-use Rattle.resource_timing.specs.inner.Limits.{timedOf, timedWith}
-use Rattle.resource_timing.proofs.Laws.{timed-known}
+use Rattle.resource_timing.specs.inner.Limits.{timedOf}
+use Rattle.sheet.proofs.Naming.{told}
 use Rattle.pieces.proofs.Chains.{piece-kind}
-use Rattle.derived_times.proofs.Derivation.{held-aside, timed-here, untimed-here, not-of-piece}
-use Rattle.derived_times.proofs.Parts.{row-amounts, timing-row}
+use Rattle.derived_times.proofs.Derivation.{held-aside, timed-found, untimed-here, not-of-piece}
+use Rattle.derived_times.proofs.Parts.{timing-row}
 use borrow.Author.Needs.{needs}
 use Rattle.derived_times.proofs.timed_on.Statement.{statement}
 use Rattle.derived_times.proofs.timed_on.Tie as tie
@@ -38,7 +37,7 @@ on-requires : tie.Need-on-requires
 on-requires c κs = search needs
 
 returns-3 : tie.Need-returns-3
-returns-3 c = λ g e. (c .on .ensures) ∙ ap (λ t. timedWith t (c .before .before .before .before .before .before .before .before .before .before .args .piece) (c .before .timing-at .result)) e ∙ timed-known g (c .before .before .before .before .before .before .before .before .before .before .args .piece) (c .before .timing-at .result) (c .before .before .before .before .before .before .before .before .before .before .pre .3) (rw (c .before .timing-at .ensures) (row-amounts _ ((c .before .before .before .before .before .before .before .before .before .before .pre .0)) _ _ (timing-row _ _ (piece-kind _ _ _ (sym (c .before .before .before .before .before .before .before .before .before .in-piece .ensures) ∙ (c .before .before .before .before .before .before .before .before .if1 .taken))) (sym (ap foundOf ((c .before .before .before .i .given .1))) ∙ (c .before .before .before .before .before .timing-of .ensures))))) ∙ ap timedOf (ap (λ t. timedOn g (pieceTiming ((c .before .before .before .before .before .before .before .before .before .before .args .piece)) t)) (c .before .timing-at .ensures) ∙ timed-here _ _ _ g _ _ (sym (c .before .before .before .before .before .before .before .before .before .in-piece .ensures) ∙ (c .before .before .before .before .before .before .before .before .if1 .taken)) (sym (c .before .before .before .before .before .before .before .is-marked .ensures) ∙ (c .before .before .before .before .before .before .if2 .left)) (timing-row _ _ (piece-kind _ _ _ (sym (c .before .before .before .before .before .before .before .before .before .in-piece .ensures) ∙ (c .before .before .before .before .before .before .before .before .if1 .taken))) (sym (ap foundOf ((c .before .before .before .i .given .1))) ∙ (c .before .before .before .before .before .timing-of .ensures))))
+returns-3 c = λ g e. search (needs, timed-found, told)
 
 returns-4 : tie.Need-returns-4
 returns-4 c = λ g e. e ∙ ap timedOf (not-of-piece _ _ _ g _ (sym (c .before .in-piece .ensures) ∙ (c .if1 .left)))

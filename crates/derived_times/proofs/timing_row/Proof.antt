@@ -2,9 +2,9 @@ use mathlib.Core.Path.{refl, sym, ap, _∙_}
 use native.Mathlib.Omega.{arith}
 use borrow.Author.Tests.{not-true, not-false}
 use Rattle.sheet.specs.inner.Found.{foundOf}
-use Rattle.sheet.specs.inner.Index.{ownerKind}
-use Rattle.sheet.proofs.Links.{books}
 use Rattle.sheet.proofs.Lookups.{placed}
+use Rattle.owners.specs.inner.Owners.{ownerKind}
+use Rattle.owners.proofs.Links.{books}
 use Rattle.pieces.proofs.Chains.{timings-blind}
 use Rattle.derived_times.proofs.Parts.{row-none, row-unknown, row-earlier}
 use borrow.Author.Needs.{needs}

@@ -2,7 +2,7 @@
 use Prim.Native.Nat.{ℕ, _+_, _^_, _<_, _≤_}
 use mathlib.Core.Path.{_≡_}
 use mathlib.Core.List.{List, [], _∷_}
-use mathlib.Core.Option.{Option, some}
+use mathlib.Core.Option.{some}
 use lib.IntN.{ℤ}
 use lib.ListN.{getD}
 use Rattle.loops.specs.Lists.{head, option}

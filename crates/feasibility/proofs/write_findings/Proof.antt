@@ -1,7 +1,5 @@
-use mathlib.Core.Path.{refl, sym}
+use mathlib.Core.Path.{refl}
 use native.Mathlib.Omega.{arith}
-use lib.ListN.{length-take}
-use lib.Seq.{length-take-le}
 use Rattle.feasibility.proofs.Top.{accepted-all, accepted-copy, refused-full}
 use borrow.Author.Needs.{needs}
 use Rattle.feasibility.proofs.write_findings.Statement.{statement}
@@ -16,35 +14,41 @@ slice-aggregate-check-all c = search needs
 check-all-requires : tie.Need-check-all-requires
 check-all-requires c κs = search needs
 
-returns : tie.Need-returns
-returns c = refused-full _ _ (c .before .before .before .before .before .before .pre .3) _ (omega (arith, (c .before .before .before .before .before .before .good .1 .1 .1 .1 .1 .1 .0))) (c .before .before .check-all .ensures) (c .if1 .taken)
+slice-aggregate-hand-over : tie.Need-slice-aggregate-hand-over
+slice-aggregate-hand-over c = search needs
 
-mul-end : tie.Need-mul-end
-mul-end c = search needs
+hand-over-requires : tie.Need-hand-over-requires
+hand-over-requires c κs = search needs
 
-array-share-prefix-first : tie.Need-array-share-prefix-first
-array-share-prefix-first c = search needs
+enum-told : tie.Need-enum-told
+enum-told c = search needs
 
-slice-aggregate-store : tie.Need-slice-aggregate-store
-slice-aggregate-store c = sym (length-take-le _ _ (omega (arith, c .before .before .before .before .first2 .given)))
+enum-told-2 : tie.Need-enum-told-2
+enum-told-2 c = search needs
 
-store-requires : tie.Need-store-requires
-store-requires c κs = simp length-take (omega arith)
-
-same-length : tie.Need-same-length
-same-length c = search needs
-
-returns-2 : tie.Need-returns-2
-returns-2 c = accepted-copy _ _ (c .before .before .before .before .before .before .before .before .before .before .before .pre .3) _ (omega (arith, (c .before .before .before .before .before .before .before .before .before .before .before .good .1 .1 .1 .1 .1 .1 .0))) refl (c .before .before .before .before .before .before .before .check-all .ensures) (c .before .before .before .before .before .if1 .left) (c .before .before .before .before .if2 .taken) (c .before .store .ensures)
+enum-told-3 : tie.Need-enum-told-3
+enum-told-3 c = search needs
 
 check-all-requires-2 : tie.Need-check-all-requires-2
 check-all-requires-2 c κs = search needs
 
+same-length : tie.Need-same-length
+same-length c = search needs
+
+returns : tie.Need-returns
+returns c = accepted-copy _ _ (c .before .before .before .before .before .before .before .before .before .before .before .pre .3) _ (omega (arith, (c .before .before .before .before .before .before .before .before .before .before .before .good .1 .1 .1 .1 .1 .1 .0))) refl (c .before .before .before .before .before .before .before .check-all .ensures) (c .before .before .before .hand-over .ensures .0) (c .before .before .before .hand-over .ensures .1) (c .enum-told .given .1)
+
 same-length-2 : tie.Need-same-length-2
 same-length-2 c = search needs
 
+returns-2 : tie.Need-returns-2
+returns-2 c = refused-full _ _ (c .before .before .before .before .before .before .before .before .before .before .before .pre .3) _ (omega (arith, (c .before .before .before .before .before .before .before .before .before .before .before .good .1 .1 .1 .1 .1 .1 .0))) (c .before .before .before .before .before .before .before .check-all .ensures) (c .before .before .before .hand-over .ensures .0) (c .before .before .before .hand-over .ensures .1) (c .enum-told2 .given .1)
+
+same-length-3 : tie.Need-same-length-3
+same-length-3 c = search needs
+
 returns-3 : tie.Need-returns-3
-returns-3 c = accepted-all _ _ (c .before .before .before .before .before .before .before .before .before .before .before .pre .3) _ (omega (arith, (c .before .before .before .before .before .before .before .before .before .before .before .good .1 .1 .1 .1 .1 .1 .0))) (c .before .before .before .before .before .before .before .check-all .ensures) (c .before .before .before .before .before .if1 .left) (c .before .check-all2 .ensures)
+returns-3 c = accepted-all _ _ (c .before .before .before .before .before .before .before .before .before .before .before .before .before .before .before .pre .3) _ (omega (arith, (c .before .before .before .before .before .before .before .before .before .before .before .before .before .before .before .good .1 .1 .1 .1 .1 .1 .0))) (c .before .before .before .before .before .before .before .before .before .before .before .check-all .ensures) (c .before .before .before .before .before .before .before .hand-over .ensures .0) (c .before .before .before .before .before .before .before .hand-over .ensures .1) (c .before .before .before .before .enum-told3 .given .1) (c .before .check-all2 .ensures)
 
 pub write-findings-spec : {M : Type 1} → statement M
 write-findings-spec =
@@ -53,13 +57,15 @@ write-findings-spec =
     lacking-of-requires
     slice-aggregate-check-all
     check-all-requires
-    returns
-    mul-end
-    array-share-prefix-first
-    slice-aggregate-store
-    store-requires
-    same-length
-    returns-2
+    slice-aggregate-hand-over
+    hand-over-requires
+    enum-told
+    enum-told-2
+    enum-told-3
     check-all-requires-2
+    same-length
+    returns
     same-length-2
+    returns-2
+    same-length-3
     returns-3)

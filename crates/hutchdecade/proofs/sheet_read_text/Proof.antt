@@ -1,5 +1,5 @@
 use mathlib.Core.Path.{ap, _∙_}
-use Rattle.hutchdecade.specs.Outcome.{ofAnswer}
+use Rattle.outcomes.specs.Outcome.{ofAnswer}
 use borrow.Author.Needs.{needs}
 use Rattle.hutchdecade.proofs.sheet_read_text.Statement.{statement}
 use Rattle.hutchdecade.proofs.sheet_read_text.Tie as tie

@@ -1,5 +1,5 @@
 use mathlib.Core.Path.{ap, _∙_}
-use Rattle.hutchdecade.specs.Outcome.{ofRefusal}
+use Rattle.outcomes.specs.Outcome.{ofRefusal}
 use borrow.Author.Needs.{needs}
 use Rattle.hutchdecade.proofs.sheet_validate.Statement.{statement}
 use Rattle.hutchdecade.proofs.sheet_validate.Tie as tie

@@ -4,7 +4,7 @@ use mir.Syntax.{w64}
 use mir.ValLaws.{toZ-ofZ}
 use mathlib.Core.Path.{_≡_, ap, _∙_}
 use Rattle.work_end_inquiry.specs.Inquiry.{inquiry}
-use Rattle.hutchdecade.specs.Outcome.{ofInquiry}
+use Rattle.outcomes.specs.Outcome.{ofInquiry}
 use borrow.Author.Needs.{needs}
 use Rattle.hutchdecade.proofs.sheet_work_end.Statement.{statement}
 use Rattle.hutchdecade.proofs.sheet_work_end.Tie as tie

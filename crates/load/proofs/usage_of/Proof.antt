@@ -1,6 +1,6 @@
 use mathlib.Core.Path.{sym, ap, _∙_}
 use Rattle.sheet.specs.inner.Found.{foundOf}
-use Rattle.sheet.proofs.Links.{books}
+use Rattle.owners.proofs.Links.{books}
 use native.Mathlib.Omega.{arith}
 use Rattle.model.proofs.Finds.{found-self}
 use Rattle.load.proofs.Usages.{unknown-activity, unknown-resource, known-usage}

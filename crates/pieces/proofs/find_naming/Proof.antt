@@ -1,7 +1,7 @@
 use borrow.Author.Needs.{needs}
 use Rattle.pieces.proofs.Chains.{found-here, found-none}
 use Rattle.pieces.specs.inner.Bookings.{names}
-use Rattle.sheet.specs.inner.Index.{ownedBy}
+use Rattle.owners.specs.inner.Owners.{ownedBy}
 use Rattle.rows.specs.Cells.{rowCount}
 use Rattle.loops.proofs.Walks.{any-first, any-next}
 use Rattle.loops.specs.Search.{anyBelow}

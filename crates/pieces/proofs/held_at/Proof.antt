@@ -1,5 +1,6 @@
-use mathlib.Core.Path.{sym, _∙_}
-use Rattle.pieces.proofs.Companions.{held-booking, held-none}
+use mathlib.Core.Path.{sym}
+use Rattle.pieces.proofs.Companions.{held-as, held-none}
+use Rattle.sheet.proofs.Naming.{told}
 use borrow.Author.Needs.{needs}
 use Rattle.pieces.proofs.held_at.Statement.{statement}
 use Rattle.pieces.proofs.held_at.Tie as tie
@@ -11,10 +12,10 @@ is-held-requires : tie.Need-is-held-requires
 is-held-requires c κs = search needs
 
 returns : tie.Need-returns
-returns c = (c .is-held .ensures) ∙ sym (held-booking _ ((c .before .before .before .pre .0)) _ ((c .before .before .before .pre .5)) (sym (c .before .before .is-at .ensures) ∙ (c .before .if1 .taken)))
+returns c = search (needs, held-as, told)
 
 returns-2 : tie.Need-returns-2
-returns-2 c = sym (held-none _ _ (sym (c .before .is-at .ensures) ∙ (c .if1 .left)))
+returns-2 c = sym (search (needs, held-none, told))
 
 pub held-at-spec : {M : Type 1} → statement M
 held-at-spec = tie.close (tie.spec is-at-requires is-held-requires returns returns-2)

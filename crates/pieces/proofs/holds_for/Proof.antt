@@ -10,7 +10,7 @@ is-at-requires : tie.Need-is-at-requires
 is-at-requires c κs = search needs
 
 returns : tie.Need-returns
-returns c = holds-itself _ _ _ (c .before .before .num-at .ensures) (c .before .is-at .ensures) (c .if1 .taken)
+returns c = search (needs, holds-itself)
 
 is-companion-requires : tie.Need-is-companion-requires
 is-companion-requires c κs = search needs
@@ -19,10 +19,10 @@ in-piece-requires : tie.Need-in-piece-requires
 in-piece-requires c κs = search needs
 
 returns-2 : tie.Need-returns-2
-returns-2 c = holds-companion _ _ _ (c .before .before .before .before .before .num-at .ensures) (c .before .before .before .before .is-at .ensures) (c .before .before .before .if1 .left) (c .before .before .is-companion .ensures) (c .before .if2 .taken) (c .in-piece .ensures)
+returns-2 c = search (needs, holds-companion)
 
 returns-3 : tie.Need-returns-3
-returns-3 c = holds-no-companion _ _ _ (c .before .before .before .before .num-at .ensures) (c .before .before .before .is-at .ensures) (c .before .before .if1 .left) (c .before .is-companion .ensures) (c .if2 .left)
+returns-3 c = search (needs, holds-no-companion)
 
 pub holds-for-spec : {M : Type 1} → statement M
 holds-for-spec =

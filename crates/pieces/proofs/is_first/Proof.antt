@@ -2,16 +2,18 @@ use borrow.Author.Needs.{needs}
 use Rattle.pieces.specs.inner.Bookings.{sameBooking}
 use Rattle.pieces.proofs.Chains.{same-blind, not-first, is-first}
 use Rattle.sheet.specs.Places.{named}
+use Rattle.sheet.proofs.Naming.{told}
 use Rattle.rows.specs.Cells.{rowCount}
 use Rattle.loops.proofs.Walks.{any-first, any-next}
 use Rattle.loops.specs.Search.{anyBelow}
 use Rattle.loops.specs.inner.Chain.{Stands}
 use mathlib.Core.Bool.{false}
 use Prim.Native.Nat.{_-_}
-use native.Mathlib.Omega.{arith}
-use mathlib.Core.Path.{_≡_, sym, _∙_}
+use mathlib.Core.Path.{_≡_}
 use Rattle.pieces.proofs.is_first.Statement.{statement}
 use Rattle.pieces.proofs.is_first.Tie as tie
+
+ruleset walk = (needs, any-first, any-next, same-blind, told)
 
 abbrev Inv-loop : tie.InvT-loop
 Inv-loop rows kinds k activity j₀ j = Stands (named rows 23 activity) (rowCount rows) j × (anyBelow (sameBooking rows k) j ≡ false)
@@ -26,25 +28,25 @@ first-named-requires : tie.Need-first-named-requires Inv-loop μ-loop
 first-named-requires c κs = search needs
 
 loop-holds : tie.Need-loop-holds Inv-loop μ-loop
-loop-holds c = (search needs, any-first _ (c .first-named .ensures) (same-blind _ _ (c .before .num-at .ensures)))
+loop-holds c = search walk
 
 is-same-requires : tie.Need-is-same-requires Inv-loop μ-loop
 is-same-requires c κs = search needs
 
 returns : tie.Need-returns Inv-loop μ-loop
-returns c = not-first _ _ _ (c .before .before .loop-test .taken) (sym (c .before .is-same .ensures) ∙ (c .if1 .taken))
+returns c = search (walk, not-first)
 
 next-named-requires : tie.Need-next-named-requires Inv-loop μ-loop
-next-named-requires c κs = ((c .before .before .before .before .before .before .pre .0), (c .before .before .before .loop .inv .0), omega (arith, (c .before .before .loop-test .taken), (c .before .before .before .before .before .before .pre .1)))
+next-named-requires c κs = search needs
 
 loop-less : tie.Need-loop-less Inv-loop μ-loop
 loop-less c = search needs
 
 loop-again : tie.Need-loop-again Inv-loop μ-loop
-loop-again c = (search needs, any-next _ (c .next-named .ensures) (same-blind _ _ (c .before .before .before .before .before .before .num-at .ensures)) (c .before .before .before .before .loop .inv .1) (sym (c .before .before .is-same .ensures) ∙ (c .before .if1 .left)))
+loop-again c = search walk
 
 returns-2 : tie.Need-returns-2 Inv-loop μ-loop
-returns-2 c = is-first _ _ _ (c .loop-test .left) ((c .before .loop .inv .1))
+returns-2 c = search (needs, is-first)
 
 pub is-first-spec : {M : Type 1} → statement M
 is-first-spec =

@@ -2,16 +2,18 @@ use borrow.Author.Needs.{needs}
 use Rattle.loops.proofs.SearchLaws.{any-hit}
 use Rattle.pieces.proofs.Chains.{firstHolds, first-blind, firsts-enough}
 use Rattle.sheet.specs.Places.{named}
+use Rattle.sheet.proofs.Naming.{told}
 use Rattle.rows.specs.Cells.{rowCount}
 use Rattle.loops.proofs.Walks.{any-first, any-next, any-end}
 use Rattle.loops.specs.Search.{anyBelow}
 use Rattle.loops.specs.inner.Chain.{Stands}
 use mathlib.Core.Bool.{false}
 use Prim.Native.Nat.{_-_}
-use native.Mathlib.Omega.{arith}
-use mathlib.Core.Path.{_≡_, sym, _∙_}
+use mathlib.Core.Path.{_≡_, _∙_}
 use Rattle.pieces.proofs.is_held.Statement.{statement}
 use Rattle.pieces.proofs.is_held.Tie as tie
+
+ruleset walk = (needs, any-first, any-next, first-blind, told)
 
 abbrev Inv-loop : tie.InvT-loop
 Inv-loop rows kinds links owned firsts k n activity j₀ j = Stands (named rows 23 activity) (rowCount rows) j × (anyBelow (firstHolds rows k) j ≡ false)
@@ -29,13 +31,13 @@ first-named-requires : tie.Need-first-named-requires Inv-loop μ-loop
 first-named-requires c κs = search needs
 
 loop-holds : tie.Need-loop-holds Inv-loop μ-loop
-loop-holds c = (search needs, any-first _ (c .first-named .ensures) (first-blind _ _ (c .before .num-at .ensures)))
+loop-holds c = search walk
 
 first-holds-requires : tie.Need-first-holds-requires Inv-loop μ-loop
-first-holds-requires c κs = ((c .before .before .before .before .before .pre .0), (c .before .before .before .before .before .pre .2), (c .before .before .before .before .before .pre .3), (c .before .before .before .before .before .pre .4), omega (arith, (c .loop-test .taken), (c .before .before .before .before .row-count .ensures)))
+first-holds-requires c κs = search needs
 
 returns : tie.Need-returns Inv-loop μ-loop
-returns c = any-hit _ _ _ _ (c .before .before .loop-test .taken) (c .before .before .before .before .before .before .row-count .ensures) (sym (c .before .first-holds .ensures) ∙ (c .if1 .taken)) ∙ firsts-enough _ _
+returns c = search (walk, any-hit) ∙ firsts-enough _ _
 
 next-named-requires : tie.Need-next-named-requires Inv-loop μ-loop
 next-named-requires c κs = search needs
@@ -44,10 +46,10 @@ loop-less : tie.Need-loop-less Inv-loop μ-loop
 loop-less c = search needs
 
 loop-again : tie.Need-loop-again Inv-loop μ-loop
-loop-again c = (search needs, any-next _ (c .next-named .ensures) (first-blind _ _ (c .before .before .before .before .before .before .num-at .ensures)) (c .before .before .before .before .loop .inv .1) (sym (c .before .before .first-holds .ensures) ∙ (c .before .if1 .left)))
+loop-again c = search walk
 
 returns-2 : tie.Need-returns-2 Inv-loop μ-loop
-returns-2 c = any-end _ _ _ _ (c .loop-test .left) (c .before .before .before .before .row-count .ensures) ((c .before .loop .inv .0)) ((c .before .loop .inv .1)) ∙ firsts-enough _ _
+returns-2 c = search (needs, any-end) ∙ firsts-enough _ _
 
 pub is-held-spec : {M : Type 1} → statement M
 is-held-spec =

@@ -1,6 +1,6 @@
 use mathlib.Core.Path.{sym, ap, _∙_}
 use Rattle.sheet.specs.inner.Found.{foundOf}
-use Rattle.sheet.proofs.Links.{books}
+use Rattle.owners.proofs.Links.{books}
 use borrow.Author.Needs.{needs}
 use Rattle.replay_derived_times.proofs.derived_at.Statement.{statement}
 use Rattle.replay_derived_times.proofs.derived_at.Tie as tie

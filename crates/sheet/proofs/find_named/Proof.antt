@@ -1,6 +1,6 @@
 use mathlib.Core.Path.{_∙_}
 use Rattle.sheet.specs.Places.{placeOf}
-use Rattle.sheet.proofs.Links.{stored-first}
+use Rattle.sheet.proofs.Stored.{stored-first}
 use borrow.Author.Needs.{needs}
 use Rattle.sheet.proofs.find_named.Statement.{statement}
 use Rattle.sheet.proofs.find_named.Tie as tie

@@ -1,7 +1,6 @@
 use borrow.Author.Needs.{needs}
-use native.Mathlib.Omega.{arith}
-use Rattle.loops.proofs.ChainLaws.{fits}
-use Rattle.sheet.proofs.Naming.{hash-below, name-head}
+use Rattle.sheet.specs.inner.Index.{nameHash}
+use Rattle.sheet.proofs.Naming.{name-head, name-head-fits}
 use Rattle.sheet.proofs.first_hashed.Statement.{statement}
 use Rattle.sheet.proofs.first_hashed.Tie as tie
 
@@ -9,22 +8,26 @@ name-key-requires : tie.Need-name-key-requires
 name-key-requires c κs = search needs
 
 add-result : tie.Need-add-result
-add-result c = record { fits = let h = hash-below (c .before .args .x) (c .before .args .id) in omega (arith, (c .name-key .ensures)) }
+unfolding nameHash
+add-result c = search needs
 
 add-result-2 : tie.Need-add-result-2
-add-result-2 c = record { fits = let h = hash-below (c .before .args .x) (c .before .args .id) in omega (arith, (c .name-key .ensures)) }
+unfolding nameHash
+add-result-2 c = search needs
 
 mul-result : tie.Need-mul-result
-mul-result c = record { fits = let h = hash-below (c .before .args .x) (c .before .args .id) in omega (arith, (c .name-key .ensures)) }
+unfolding nameHash
+mul-result c = search needs
 
 element-copy-out-result : tie.Need-element-copy-out-result
-element-copy-out-result c = let h = hash-below (c .before .args .x) (c .before .args .id) in omega (arith, (c .name-key .ensures))
+unfolding nameHash
+element-copy-out-result c = search needs
 
 cast-result : tie.Need-cast-result
-cast-result c = fits _ _ _ _ (name-head _ _ (c .before .before .pre .0) (c .before .before .args .x) (c .before .before .args .id) (c .before .name-key .ensures)) (c .before .before .pre .0 .short)
+cast-result c = search (needs, name-head-fits)
 
 returns : tie.Need-returns
-returns c = name-head _ _ (c .before .before .pre .0) (c .before .before .args .x) (c .before .before .args .id) (c .before .name-key .ensures)
+returns c = search (needs, name-head)
 
 pub first-hashed-spec : {M : Type 1} → statement M
 first-hashed-spec =

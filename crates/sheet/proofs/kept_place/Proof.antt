@@ -1,5 +1,4 @@
-use mathlib.Core.Path.{ap, _∙_}
-use Rattle.sheet.specs.inner.Index.{storedPlace}
+use Rattle.sheet.proofs.Keeping.{kept-read}
 use borrow.Author.Needs.{needs}
 use Rattle.sheet.proofs.kept_place.Statement.{statement}
 use Rattle.sheet.proofs.kept_place.Tie as tie
@@ -17,7 +16,7 @@ found-at-requires : tie.Need-found-at-requires
 found-at-requires c κs = search needs
 
 returns : tie.Need-returns
-returns c = (c .found-at .ensures) ∙ ap (storedPlace _) (c .before .wide .ensures)
+returns c = search (needs, kept-read)
 
 pub kept-place-spec : {M : Type 1} → statement M
 kept-place-spec = tie.close (tie.spec mul-wide element-copy-out-wide wide-requires found-at-requires returns)

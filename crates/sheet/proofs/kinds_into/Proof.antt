@@ -13,14 +13,14 @@ abbrev μ-loop : tie.MeasureT-loop
 row-count-requires : tie.Need-row-count-requires Inv-loop μ-loop
 row-count-requires c κs = search needs
 
-cast-clear : tie.Need-cast-clear Inv-loop μ-loop
-cast-clear c = record { fits = omega (arith, (c .before .before .pre .0 .short), (c .before .row-count .ensures)) }
+cast-clear-table : tie.Need-cast-clear-table Inv-loop μ-loop
+cast-clear-table c = record { fits = omega (arith, (c .before .before .pre .0 .short), (c .before .row-count .ensures)) }
 
-clear-requires : tie.Need-clear-requires Inv-loop μ-loop
-clear-requires c κs = search needs
+clear-table-requires : tie.Need-clear-table-requires Inv-loop μ-loop
+clear-table-requires c κs = search needs
 
 loop-holds : tie.Need-loop-holds Inv-loop μ-loop
-loop-holds c = filled-start _ _ (c .before .before .row-count .ensures) ((c .before .before .before .pre .0)) _ ((c .before .before .before .pre .1)) (c .clear .ensures)
+loop-holds c = filled-start _ _ (c .before .before .row-count .ensures) ((c .before .before .before .pre .0)) _ ((c .before .before .before .pre .1)) (c .clear-table .ensures)
 
 sub-i : tie.Need-sub-i Inv-loop μ-loop
 sub-i c = search needs
@@ -56,8 +56,8 @@ kinds-into-spec =
     Inv-loop
     μ-loop
     row-count-requires
-    cast-clear
-    clear-requires
+    cast-clear-table
+    clear-table-requires
     loop-holds
     sub-i
     num-at-requires

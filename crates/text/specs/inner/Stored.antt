@@ -4,9 +4,9 @@ use mathlib.Core.Bool.{cond}
 use mathlib.Core.List.{List, [], _∷_, _++_}
 use lib.Dec.{ltb}
 use lib.IntN.{ℤ}
-use Rattle.text.specs.Line.{lineOf, rowOf}
-use Rattle.text.specs.declared.Line.{Line}
-use Rattle.text.specs.declared.Line.the-variants.{Row, Wrong}
+use Rattle.text_line.specs.Line.{lineOf, rowOf}
+use Rattle.text_line.specs.declared.Line.{Line}
+use Rattle.text_line.specs.declared.Line.the-variants.{Row, Wrong}
 
 abbrev pub onRow : Line → List ℤ → List ℤ
 onRow Row zs = zs

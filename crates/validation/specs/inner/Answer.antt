@@ -2,12 +2,13 @@
 use Prim.Native.Nat.{ℕ}
 use mathlib.Core.Path.{_≡_}
 use mathlib.Core.List.{List}
-use mathlib.Core.Option.{Option, none, some}
+use mathlib.Core.Option.{Option, none}
 use lib.IntN.{ℤ}
 use lib.ListN.{length}
 use Rattle.loops.specs.Search.{orElse, first}
 use Rattle.rows.specs.Cells.{rowCount}
-use Rattle.sheet.specs.inner.Index.{Kinds, Linked, Owned}
+use Rattle.sheet.specs.inner.Index.{Kinds}
+use Rattle.owners.specs.inner.Owners.{Linked, Owned}
 use Rattle.refusals.specs.Refusals.{MISSHAPEN, Refusal, refuse, verdictOf}
 use Rattle.sheet.specs.Refusals.{misshapen, columnFault, ownerFault, repeatFault, refusalOf}
 use Rattle.refusals.specs.declared.Verdict.{Verdict}

@@ -1,0 +1,49 @@
+use Rattle.line_buffer.proofs.Handing.{handed-full, handed-longer, handed-over, lines-within, stored-first}
+use mathlib.Core.Path.{sym}
+use native.Mathlib.Omega.{arith}
+use lib.ListN.{length-take}
+use lib.Seq.{length-take-le}
+use borrow.Author.Needs.{needs}
+use Rattle.line_buffer.proofs.hand_over.Statement.{statement}
+use Rattle.line_buffer.proofs.hand_over.Tie as tie
+
+div-if1 : tie.Need-div-if1
+div-if1 c = search needs
+
+returns : tie.Need-returns
+returns c = search (needs, handed-full)
+
+div-if2 : tie.Need-div-if2
+div-if2 c = search needs
+
+returns-2 : tie.Need-returns-2
+returns-2 c = search (needs, handed-longer)
+
+mul-end : tie.Need-mul-end
+mul-end c = let h = lines-within _ _ _ (c .before .if1 .left) in search needs
+
+slice-aggregate-store : tie.Need-slice-aggregate-store
+slice-aggregate-store c = sym (length-take-le _ _ (lines-within _ _ _ (c .before .before .if2 .left)))
+
+store-requires : tie.Need-store-requires
+store-requires c κs = let h = lines-within _ _ _ (c .before .before .before .if1 .left) in simp length-take (omega arith)
+
+same-length : tie.Need-same-length
+same-length c = search needs
+
+returns-3 : tie.Need-returns-3
+returns-3 c = search (needs, handed-over, stored-first, lines-within)
+
+pub hand-over-spec : {M : Type 1} → statement M
+hand-over-spec =
+    tie.close
+    (tie.spec
+    div-if1
+    returns
+    div-if2
+    returns-2
+    mul-end
+    slice-aggregate-store
+    store-requires
+    same-length
+    returns-3)

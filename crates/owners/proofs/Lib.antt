@@ -1,0 +1,4 @@
+pub mod Absent
+pub mod Links
+pub mod Owning
+pub mod Tables

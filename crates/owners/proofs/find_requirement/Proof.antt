@@ -1,0 +1,66 @@
+use borrow.Author.Needs.{needs}
+use Rattle.sheet.proofs.Lookups.{nth-blind, self-blind, nth-here, nth-other}
+use Rattle.sheet.specs.Places.{named, isNth, nthPlace}
+use Rattle.rows.specs.Cells.{rowCount}
+use Rattle.loops.proofs.SearchLaws.{counted-le}
+use Rattle.loops.proofs.PlaceLaws.{count-first, count-next}
+use Rattle.loops.proofs.Walks.{seek-first, seek-next, seek-end, seek-hit}
+use Rattle.loops.specs.Search.{firstPlace, countBelow}
+use Rattle.loops.specs.inner.Chain.{Stands}
+use native.Mathlib.Omega.{arith}
+use mathlib.Core.Option.{none}
+use mathlib.Core.Path.{_≡_}
+use Prim.Native.Nat.{_-_}
+use Rattle.owners.proofs.find_requirement.Statement.{statement}
+use Rattle.owners.proofs.find_requirement.Tie as tie
+
+abbrev Inv-loop : tie.InvT-loop
+Inv-loop rows kinds activity m n seen₀ i₀ seen i = Stands (named rows 5 activity) (rowCount rows) i × (seen ≡ countBelow (named rows 5 activity) i) × (firstPlace (isNth (named rows 5 activity) m) i ≡ none)
+
+abbrev μ-loop : tie.MeasureT-loop
+μ-loop rows kinds activity m n seen₀ i₀ seen i = n - i
+
+row-count-requires : tie.Need-row-count-requires Inv-loop μ-loop
+row-count-requires c κs = search needs
+
+first-named-requires : tie.Need-first-named-requires Inv-loop μ-loop
+first-named-requires c κs = search needs
+
+loop-holds : tie.Need-loop-holds Inv-loop μ-loop
+loop-holds c = (search needs, count-first _ (c .first-named .ensures) (self-blind _), seek-first _ (c .first-named .ensures) (nth-blind _ (self-blind _)))
+
+returns : tie.Need-returns Inv-loop μ-loop
+unfolding nthPlace
+returns c = seek-hit _ _ _ _ (c .before .loop-test .taken) (c .before .before .before .before .row-count .ensures) (c .before .before .loop .inv .2) (nth-here _ _ _ (c .before .before .loop .inv .1) ((c .before .before .loop .inv .0 .here) (omega (arith, (c .before .loop-test .taken), (c .before .before .before .before .row-count .ensures)))) (c .if1 .taken))
+
+add-seen : tie.Need-add-seen Inv-loop μ-loop
+add-seen c = let h = counted-le _ _ (c .before .before .loop .inv .1) in record { fits = omega (arith, (c .before .loop-test .taken), (c .before .before .before .before .row-count .ensures), (c .before .before .before .before .before .pre .short)) }
+
+next-named-requires : tie.Need-next-named-requires Inv-loop μ-loop
+next-named-requires c κs = search needs
+
+loop-less : tie.Need-loop-less Inv-loop μ-loop
+loop-less c = search needs
+
+loop-again : tie.Need-loop-again Inv-loop μ-loop
+loop-again c = (search needs, count-next _ (c .next-named .ensures) (self-blind _) (c .before .before .before .loop .inv .1) (rw ((c .before .before .before .loop .inv .0 .here) (omega (arith, (c .before .before .loop-test .taken), (c .before .before .before .before .before .row-count .ensures))))), seek-next _ (c .next-named .ensures) (nth-blind _ (self-blind _)) (c .before .before .before .loop .inv .2) (nth-other _ _ _ (c .before .before .before .loop .inv .1) ((c .before .before .before .loop .inv .0 .here) (omega (arith, (c .before .before .loop-test .taken), (c .before .before .before .before .before .row-count .ensures)))) (c .before .if1 .left)))
+
+returns-2 : tie.Need-returns-2 Inv-loop μ-loop
+unfolding nthPlace
+returns-2 c = seek-end _ _ _ _ (c .loop-test .left) (c .before .before .before .row-count .ensures) (c .before .loop .inv .0) (c .before .loop .inv .2)
+
+pub find-requirement-spec : {M : Type 1} → statement M
+find-requirement-spec =
+    tie.close
+    (tie.spec
+    Inv-loop
+    μ-loop
+    row-count-requires
+    first-named-requires
+    loop-holds
+    returns
+    add-seen
+    next-named-requires
+    loop-less
+    loop-again
+    returns-2)

@@ -1,0 +1,22 @@
+use Rattle.loops.proofs.StoreLaws.{wrote-past}
+use borrow.Author.Needs.{needs}
+use Rattle.stored_bytes.proofs.put_byte.Statement.{statement}
+use Rattle.stored_bytes.proofs.put_byte.Tie as tie
+
+slice-write-out : tie.Need-slice-write-out
+slice-write-out c = search needs
+
+add-result : tie.Need-add-result
+add-result c = search needs
+
+same-length : tie.Need-same-length
+same-length c = search needs
+
+returns : tie.Need-returns
+returns c = search needs
+
+returns-2 : tie.Need-returns-2
+returns-2 c = wrote-past _ _ _ (c .before .pre) (c .if1 .left)
+
+pub put-byte-spec : {M : Type 1} → statement M
+put-byte-spec = tie.close (tie.spec slice-write-out add-result same-length returns returns-2)

@@ -1,4 +1,0 @@
-pub mod Line
-pub mod Case
-pub mod Yet
-pub mod Gives

@@ -1,0 +1,118 @@
+-- Laws of a list's lines and their fields, which are looked at from the first on. Assumes nothing.
+use Prim.Native.Nat.{ℕ, suc, _+_, _-_, _≤_, _<_, min}
+use mathlib.Core.Bool.{Bool, true, false, _&&_}
+use mathlib.Core.List.{List, [], _∷_}
+use mathlib.Core.Path.{_≡_, sym, ap, _∙_}
+use native.Mathlib.Omega.{arith}
+use native.Mathlib.Decide.{decLt}
+use borrow.Author.Tests.{lt-ltb, le-ltb}
+use lib.Dec.{ltb}
+use lib.ListN.{length, take, drop, length-drop}
+use lib.Seq.{drop-drop}
+use Rattle.loops.specs.Lists.{allOf}
+use Rattle.text_fields.specs.Parts.{untilByte, parts}
+use Rattle.text_fields.proofs.PartLaws.{up-within, parts-last, parts-more, parts-first, tail-is}
+use Rattle.stored_lines.specs.inner.Line.{isJudging}
+use Rattle.stored_lines.specs.inner.Case.{gatheringLength, judgingAt, CaseAt}
+
+-- the parts of what is left, where its first part is f and more follows: those of what follows it, as a slice goes to the end
+module _ (b : ℕ) (rest f : List ℕ) (e : f ≡ untilByte b rest) where
+  pub first-more : length f < length rest → parts b rest ≡ f ∷ parts b (take (length rest - (length f + 1)) (drop (length f + 1) rest))
+  first-more h = rw (tail-is (length f + 1) rest, e) (parts-more b rest (rw e at h))
+
+  pub first-last : length rest ≤ length f → parts b rest ≡ f ∷ []
+  first-last h = rw e (parts-last b rest (omega (arith, up-within b rest, rw e at h)))
+
+  -- a test of each of them: true of the first, false of it, true of the last
+  module _ (p : List ℕ → Bool) where
+    pub all-more : p f ≡ true → length f < length rest → allOf p (parts b rest) ≡ allOf p (parts b (take (length rest - (length f + 1)) (drop (length f + 1) rest)))
+    unfolding allOf
+    all-more t h = ap (allOf p) (first-more h) ∙ rw t
+
+    pub all-last : p f ≡ true → length rest ≤ length f → allOf p (parts b rest) ≡ true
+    unfolding allOf
+    all-last t h = ap (allOf p) (first-last h) ∙ rw t
+
+    pub all-not : p f ≡ false → allOf p (parts b rest) ≡ false
+    unfolding allOf
+    all-not t = let q = parts-first b rest in ap (allOf p) (q .1) ∙ rw (sym e, t)
+
+  -- whether they are fewer than so many, t: one less of what follows, where more follows; the last is fewer than two
+  module _ (n : ℕ) {t : Bool} (now : ltb (length (parts b rest)) (n + 1) ≡ t) (k : 0 < n) where
+    pub short-more : length f < length rest → ltb (length (parts b (take (length rest - (length f + 1)) (drop (length f + 1) rest)))) (n - 1 + 1) ≡ t
+    short-more h = go (decLt (length left) n) ∙ now
+      where
+        left : List (List ℕ)
+        left = parts b (take (length rest - (length f + 1)) (drop (length f + 1) rest))
+
+        one : length (parts b rest) ≡ suc (length left)
+        one = ap length (first-more h)
+
+        go : Dec (length left < n) → ltb (length left) (n - 1 + 1) ≡ ltb (length (parts b rest)) (n + 1)
+        go (yes l) = rw (lt-ltb (length (parts b rest)) (n + 1) (omega (arith, one)), lt-ltb (length left) (n - 1 + 1) (omega arith))
+        go (no l) = rw (le-ltb (length (parts b rest)) (n + 1) (omega (arith, one)), le-ltb (length left) (n - 1 + 1) (omega arith))
+
+    pub short-last : length rest ≤ length f → true ≡ t
+    short-last h =
+        let one : length (parts b rest) ≡ 1 = ap length (first-last h) in
+        sym (lt-ltb (length (parts b rest)) (n + 1) (omega (arith, one))) ∙ now
+
+-- there is one at least
+pub short-none : (b : ℕ) (rest : List ℕ) (n : ℕ) {t : Bool} → ltb (length (parts b rest)) (n + 1) ≡ t → n ≤ 0 → false ≡ t
+short-none b rest n now h =
+    let q = parts-first b rest in
+    let some : length (parts b rest) ≡ suc (length (q .0)) = ap length (q .1) in
+    sym (le-ltb (length (parts b rest)) (n + 1) (omega (arith, some))) ∙ now
+
+-- both tests hold: the code looks at the second where the first holds
+pub both : {a b p q : Bool} → a ≡ p → a ≡ true → b ≡ q → b ≡ (p && q)
+both {q = q} e t f = f ∙ ap (λ (x : Bool). x && q) (sym t ∙ e)
+
+pub not-both : {a p : Bool} (q : Bool) → a ≡ p → a ≡ false → a ≡ (p && q)
+not-both q e t = t ∙ ap (λ (x : Bool). x && q) (sym t ∙ e)
+
+-- where the first line from a place on judges; where it does not, and is the last, or others follow; past the end
+module _ (list : List ℕ) (at : ℕ) (f : List ℕ) (e : f ≡ untilByte 10 (take (length list - at) (drop at list))) where
+  as-drop : f ≡ untilByte 10 (drop at list)
+  as-drop = e ∙ ap (untilByte 10) (tail-is at list)
+
+  pub judges-here : at < length list → isJudging f ≡ true → at ≡ judgingAt list at
+  unfolding gatheringLength
+  judges-here h t =
+      let q = parts-first 10 (drop at list) in
+      let z : gatheringLength (parts 10 (drop at list)) ≡ 0 = ap gatheringLength (q .1) ∙ rw (sym as-drop, t) in
+      omega (arith, z)
+
+  pub judges-nowhere : isJudging f ≡ false → length list - at ≤ length f → length list ≡ judgingAt list at
+  unfolding gatheringLength
+  judges-nowhere t h =
+      let k : length (drop at list) ≤ length f = simp length-drop (omega arith) in
+      let z : gatheringLength (parts 10 (drop at list)) ≡ length f + 1 + 0 = ap gatheringLength (first-last 10 (drop at list) f as-drop k) ∙ rw t in
+      omega (arith, z)
+
+  pub judges-later : isJudging f ≡ false → length f < length list - at → judgingAt list at ≡ judgingAt list (at + (length f + 1))
+  unfolding gatheringLength
+  judges-later t h =
+      let k : length (drop at list) ≡ length list - at = simp length-drop in
+      let m : length (untilByte 10 (drop at list)) < length (drop at list) = omega (arith, ap length as-drop, k) in
+      let p = parts-more 10 (drop at list) m in
+      let d : drop (length f + 1) (drop at list) ≡ drop (at + (length f + 1)) list = drop-drop (length f + 1) at list in
+      let z : gatheringLength (parts 10 (drop at list)) ≡ length f + 1 + gatheringLength (parts 10 (drop (at + (length f + 1)) list)) =
+      ap gatheringLength p ∙ rw (sym as-drop, t, d) in
+      omega (arith, z)
+
+pub judges-past : (list : List ℕ) (at : ℕ) → length list ≤ at → length list ≡ judgingAt list at
+judges-past list at h = omega arith
+
+-- the case from a place on, where f is the line that judges it
+module _ (list : List ℕ) (at line : ℕ) (f : List ℕ) (p : line ≡ judgingAt list at) (e : f ≡ untilByte 10 (take (length list - line) (drop line list))) where
+  as-line : f ≡ untilByte 10 (drop line list)
+  as-line = e ∙ ap (untilByte 10) (tail-is line list)
+
+  pub line-within : line + length f ≤ length list
+  line-within =
+      let k : length (drop line list) ≡ length list - line = simp length-drop in
+      omega (arith, p, ap length as-line, up-within 10 (drop line list), k)
+
+  pub case-found : (next : ℕ) → next ≡ min (line + length f + 1) (length list) → CaseAt list at (record { line = line; end = line + length f; next = next })
+  case-found next q = record { line = p; end = ap (λ (g : List ℕ). line + length g) as-line; next = q }

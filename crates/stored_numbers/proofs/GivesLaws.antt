@@ -1,0 +1,72 @@
+-- Laws of what a case's lines give, and the fields of a line, from the first on. Assumes nothing.
+use Prim.Native.Nat.{ℕ, _+_, _-_, _≤_, _<_}
+use mathlib.Core.Bool.{Bool, true, false, cond}
+use mathlib.Core.List.{List, [], _∷_, _++_, map, append-nil}
+use mathlib.Core.Path.{_≡_, refl, sym, ap, _∙_}
+use borrow.Author.Tests.{eq-eqb, ne-eqb}
+use lib.Dec.{eqb}
+use lib.ListN.{length, take, drop}
+use Rattle.loops.specs.Lists.{each}
+use Rattle.text_fields.specs.Parts.{untilByte, parts}
+use Rattle.text_line.specs.Line.{rowOf}
+use Rattle.stored_lines.specs.inner.Line.{letter, count, piece}
+use Rattle.stored_lines.proofs.LineLaws.{first-more, first-last}
+use Rattle.stored_numbers.specs.inner.Numbers.{times, numbersIn, numbersOf, expectedOf}
+use Rattle.stored_numbers.specs.inner.Gives.{pieceAs, lineGives}
+
+-- where the first part of what is left is f, and more follows; where it is the last
+module _ (b : ℕ) (rest f : List ℕ) (e : f ≡ untilByte b rest) where
+  module _ {B : Type 0} (g : List ℕ → B) where
+    pub map-more : length f < length rest → map g (parts b rest) ≡ (g f ∷ []) ++ map g (parts b (take (length rest - (length f + 1)) (drop (length f + 1) rest)))
+    map-more h = ap (map g) (first-more b rest f e h)
+
+    pub map-last : length rest ≤ length f → map g (parts b rest) ≡ g f ∷ []
+    map-last h = ap (map g) (first-last b rest f e h)
+
+  -- what each of them gives
+  module _ {B : Type 0} (g : List ℕ → List B) where
+    pub each-more : length f < length rest → each g (parts b rest) ≡ g f ++ each g (parts b (take (length rest - (length f + 1)) (drop (length f + 1) rest)))
+    unfolding each
+    each-more h = ap (each g) (first-more b rest f e h)
+
+    pub each-last : length rest ≤ length f → each g (parts b rest) ≡ g f
+    unfolding each
+    each-last h = ap (each g) (first-last b rest f e h) ∙ append-nil (g f)
+
+-- what a line gives, by its letter
+module _ (plain rows : ℕ) (l : List ℕ) {x n : ℕ} {s : List ℕ} (e : x ≡ letter l) where
+  pub gives-plain : x ≡ plain → n ≡ count l → s ≡ piece l → times n (pieceAs false s) ≡ lineGives plain rows l
+  unfolding lineGives
+  gives-plain t p q = rw (sym e, eq-eqb x plain t, p, q)
+
+  pub gives-rows : (x ≡ plain → ⊥) → x ≡ rows → n ≡ count l → s ≡ piece l → times n (pieceAs true s) ≡ lineGives plain rows l
+  unfolding lineGives
+  gives-rows d t p q = rw (sym e, ne-eqb x plain d, eq-eqb x rows t, p, q)
+
+module _ (l : List ℕ) {x : ℕ} (e : x ≡ letter l) where
+  pub gives-none : (plain rows : ℕ) → (x ≡ plain → ⊥) → (x ≡ rows → ⊥) → [] ≡ lineGives plain rows l
+  unfolding lineGives
+  gives-none plain rows d t = rw (sym e, ne-eqb x plain d, ne-eqb x rows t)
+
+each-same : {B : Type 0} (f g : List ℕ → List B) → ((l : List ℕ) → f l ≡ g l) → (ls : List (List ℕ)) → each f ls ≡ each g ls
+unfolding each
+each-same f g h [] = refl
+each-same f g h (l ∷ ls) = rw (h l, each-same f g h ls)
+
+plain-or-rows : (l : List ℕ) → lineGives 110 114 l ≡ numbersOf l
+unfolding lineGives numbersOf pieceAs
+plain-or-rows l = refl
+
+pub all-numbers : (ls : List (List ℕ)) → each (lineGives 110 114) ls ≡ each numbersOf ls
+all-numbers ls = each-same (lineGives 110 114) numbersOf plain-or-rows ls
+
+once : {A : Type 0} (t : Bool) (a b c : A) → cond t a (cond t b c) ≡ cond t a c
+once true a b c = refl
+once false a b c = refl
+
+plain-only : (l : List ℕ) → lineGives 101 101 l ≡ expectedOf l
+unfolding lineGives expectedOf pieceAs
+plain-only l = once (eqb (letter l) 101) (times (count l) (numbersIn (piece l))) (times (count l) (rowOf (piece l))) []
+
+pub all-expected : (ls : List (List ℕ)) → each (lineGives 101 101) ls ≡ each expectedOf ls
+all-expected ls = each-same (lineGives 101 101) expectedOf plain-only ls

@@ -1,0 +1,2 @@
+pub mod PutLaws
+pub mod GivesLaws

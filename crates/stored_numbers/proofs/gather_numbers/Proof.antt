@@ -1,0 +1,21 @@
+use Rattle.stored_numbers.proofs.GivesLaws.{all-numbers}
+use Rattle.loops.proofs.StoreLaws.{wrote-as}
+use Rattle.stored_numbers.proofs.PutLaws.{told-all}
+use borrow.Author.Needs.{needs}
+use Rattle.stored_numbers.proofs.gather_numbers.Statement.{statement}
+use Rattle.stored_numbers.proofs.gather_numbers.Tie as tie
+
+put-lines-requires : tie.Need-put-lines-requires
+put-lines-requires c κs = search needs
+
+told-requires : tie.Need-told-requires
+told-requires c κs = search needs
+
+same-length : tie.Need-same-length
+same-length c = search needs
+
+returns : tie.Need-returns
+returns c = let w = wrote-as (all-numbers _) (c .before .before .put-lines .ensures) in (told-all _ w (c .told .ensures), w .buffer)
+
+pub gather-numbers-spec : {M : Type 1} → statement M
+gather-numbers-spec = tie.close (tie.spec put-lines-requires told-requires same-length returns)

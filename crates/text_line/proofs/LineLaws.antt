@@ -1,0 +1,86 @@
+-- Laws of a line's kind and of its row. Assumes nothing.
+use Prim.Native.Nat.{ℕ, suc, _+_, _-_, _≤_, _<_}
+use mathlib.Core.Bool.{Bool, true, false, cond, not, and-false, false≢true}
+use mathlib.Core.List.{List, [], _∷_, map}
+use mathlib.Core.Path.{_≡_, refl, sym, ap, _∙_}
+use native.Mathlib.Omega.{arith}
+use native.Mathlib.Numerals.{add-one}
+use lib.Dec.{ltb, eqb}
+use lib.ListN.{length, getD, set, replicate, length-map}
+use lib.Seq.{sets}
+use Rattle.loops.proofs.StoreLaws.{sets-append}
+use lib.IntN.{ℤ, pos}
+use mir.Syntax.{w64}
+use mir.Val.{SFits, toZ, ofZ}
+use mir.Facts.{toZ-ofZ}
+use borrow.Author.Tests.{lt-ltb, le-ltb}
+use Rattle.loops.specs.Numbers.{toNat}
+use Rattle.rows.specs.Table.{width}
+use Rattle.text_line.specs.Line.{byKind, byFields, fieldsOf, spelled, held, valueOf, lineOf, rowOf}
+use Rattle.text_fields.specs.Parts.{untilByte}
+use Rattle.text_fields.specs.Spelling.{numberOf}
+use Rattle.text_fields.specs.declared.Number.{Number}
+use Rattle.text_fields.proofs.PartLaws.{parts-first}
+use Rattle.text_line.specs.declared.Line.the-variants.{Row, Wrong}
+
+-- a line that is misspelt, or whose kind is empty
+pub fields-bad : (good : Bool) (kind : List ℕ) (n : ℕ) → not good ≡ true → Wrong 9 ≡ byFields good kind n
+fields-bad true kind n e = absurd (false≢true e)
+fields-bad false kind n e = refl
+
+pub fields-empty : (good : Bool) (kind : List ℕ) (n : ℕ) → length kind ≡ 0 → Wrong 9 ≡ byFields good kind n
+fields-empty good [] n e = rw (and-false good)
+fields-empty good (x ∷ kind) n e = absurd (omega arith)
+
+fields-kind : (good : Bool) (kind : List ℕ) (n : ℕ) → not good ≡ false → (length kind ≡ 0 → ⊥) → byKind (toNat (valueOf kind)) n ≡ byFields good kind n
+fields-kind true [] n e h = absurd (h refl)
+fields-kind true (x ∷ kind) n e h = refl
+fields-kind false kind n e h = absurd (false≢true (sym e))
+
+-- else its kind decides, which the code reads as k
+module _ (good : Bool) (kind : List ℕ) (n : ℕ) {k : ℕ} {v : ℤ} {m : Number} (g : not good ≡ false) (h : length kind ≡ 0 → ⊥)
+    (f : SFits w64 v) (e : k ≡ toNat (toZ w64 (ofZ w64 v))) (q : v ≡ held m) (r : m ≡ numberOf kind) where
+  by-kind : byKind k n ≡ byFields good kind n
+  by-kind = ap (λ (k : ℕ). byKind k n) ((rw (toZ-ofZ f) at e) ∙ ap toNat (q ∙ ap held r)) ∙ fields-kind good kind n g h
+
+  pub kind-low : k < 1 → Wrong 2 ≡ byFields good kind n
+  kind-low l = sym (rw (le-ltb 0 k (omega arith))) ∙ by-kind
+
+  pub kind-high : 24 < k → Wrong 2 ≡ byFields good kind n
+  kind-high l = sym (rw (le-ltb k 25 (omega arith), and-false (ltb 0 k))) ∙ by-kind
+
+  counted : 1 ≤ k → k ≤ 24 → cond (eqb n (suc (width k))) Row (Wrong 9) ≡ byFields good kind n
+  counted a b = sym (rw (lt-ltb 0 k (omega arith), lt-ltb k 25 (omega arith))) ∙ by-kind
+
+  pub kind-row : 1 ≤ k → k ≤ 24 → {w : Bool} → w ≡ eqb n (suc (width k)) → w ≡ true → Row ≡ byFields good kind n
+  kind-row a b u t = rw (← u, t) at counted a b
+
+  pub kind-count : 1 ≤ k → k ≤ 24 → {w : Bool} → w ≡ eqb n (suc (width k)) → w ≡ false → Wrong 9 ≡ byFields good kind n
+  kind-count a b u t = rw (← u, t) at counted a b
+
+-- zeros, stored one after the other
+pub zero-more : (rows : List ℤ) (i to : ℕ) → i < to → sets (set rows i (pos 0)) (i + 1) (replicate (to - (i + 1)) (pos 0)) ≡ sets rows i (replicate (to - i) (pos 0))
+zero-more rows i to h = let e : to - i ≡ suc (to - (i + 1)) = omega arith in rw (e, add-one i)
+
+pub zero-end : (rows : List ℤ) (i to : ℕ) → to ≤ i → sets rows i (replicate (to - i) (pos 0)) ≡ rows
+zero-end rows i to h = let e : to - i ≡ 0 = omega arith in rw e
+
+-- a line by its first field
+pub line-judged : (l f : List ℕ) (good : Bool) (n : ℕ) → good ≡ spelled (fieldsOf l) → f ≡ untilByte 44 l → n ≡ length (fieldsOf l) → byFields good f n ≡ lineOf l
+unfolding lineOf
+line-judged l f good n s e q =
+    let p = parts-first 44 l in
+    let k : f ≡ getD (fieldsOf l) 0 [] = rw (p .1) e in
+    rw (s, ← k, ← q)
+
+pub no-row : {ℓ : ℕ} → Wrong ℓ ≡ Row → ⊥
+no-row e = let z : _≡_ {A = ℕ} 0 1 = cc in omega arith
+
+-- the fields' numbers and then zeros are the row
+pub row-stored : (l : List ℕ) (rows : List ℤ) (base n : ℕ) → n ≡ length (fieldsOf l)
+    → sets (sets rows base (map valueOf (fieldsOf l))) (base + n) (replicate ((base + 10) - (base + n)) (pos 0)) ≡ sets rows base (rowOf l)
+unfolding rowOf
+row-stored l rows base n q =
+    let e : (base + 10) - (base + n) ≡ 10 - length (fieldsOf l) = omega arith in
+    let h : n ≡ length (map valueOf (fieldsOf l)) = q ∙ sym (length-map (fieldsOf l) valueOf) in
+    rw (e, h) (sets-append rows base (map valueOf (fieldsOf l)) (replicate (10 - length (fieldsOf l)) (pos 0)))
