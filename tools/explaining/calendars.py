@@ -104,7 +104,8 @@ def in_no_window(calendar, row):
     after = min((w for w in ordered if w.start >= row.end), key=lambda w: w.start, default=None)
     near = [f"the window before it closes at {before.end} ({line(before)})"] if before else []
     near += [f"the next opens at {after.start} ({line(after)})"] if after else []
-    return f"No window of {calendar.owner} is open then: " + " and ".join(near or [f"its windows are on {lines(ordered)}"]) + "."
+    hint = " It is the only window: was a closure meant (1 in the column closed)?" if len(calendar.opens) == 1 and not calendar.closures else ""
+    return f"No window of {calendar.owner} is open then: " + " and ".join(near or [f"its windows are on {lines(ordered)}"]) + "." + hint
 
 
 def missed_window(calendar, w, row):

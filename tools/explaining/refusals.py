@@ -186,7 +186,7 @@ def twice(rows, row):
             9: "the timing of activity {0} on resource {1}", 10: "the timing of activity {0} on resource {1}",
             14: "the transport from resource {0} to {1}"}[row.kind].format(row[2], row[3] if len(row) > 3 else "")
     words = f"{what[0].upper() + what[1:]} stands on {line(before)} already."
-    return Explained(row.place, words + (" The later row is refused; leave one of them away, or give it another id." if row.kind in OWNERS else " Leave one of them away."),
+    return Explained(row.place, words + (" The later row is refused: delete one of them, or give it another id." if row.kind in OWNERS else " Delete one of them."),
                      None, [before.place])
 
 

@@ -10,11 +10,11 @@ Fault = collections.namedtuple("Fault", "words at")  # at: the byte of the line 
 
 MISTYPED = [  # a pattern for a whole field, and what is wrong with it
     (rb'".*"?|\'.*\'?|.*"', "is in quotes: numbers are typed bare"),
-    (rb"\+\d+", "has a plus sign: leave it away"),
+    (rb"\+\d+", "has a plus sign: leave it out"),
     (rb"-0+", "is minus zero: type 0"),
     (rb"-", "is a minus without digits; none is an empty field"),
-    (rb"-?0\d+", "has a leading zero: leave it away"),
-    (rb"-?\d{1,3}([_' .]\d{3}){2,}|-?\d{1,3}([_' ]\d{3})+", "has marks between its digits: leave them away"),
+    (rb"-?0\d+", "has a leading zero: leave it out"),
+    (rb"-?\d{1,3}([_' .]\d{3}){2,}|-?\d{1,3}([_' ]\d{3})+", "has marks between its digits: leave them out"),
     (rb"-?\d*\.\d*", "has a decimal point: numbers are whole, times are whole milliseconds"),
     (rb"-?\d+(\.\d+)?[eE][+-]?\d+", "has an exponent, as spreadsheets write large numbers: type all its digits"),
     (rb"-?\d{19,}", "is too large: a number lies above -2^63 and below 2^63"),
@@ -49,7 +49,7 @@ def at_the_edges(line, is_ended, place):
     if line.endswith(b"\r"):
         yield Fault("The line ends with a carriage return before its line feed: save the text with line feeds alone.", len(line.rstrip(b"\r")))
     if not is_ended and line:
-        yield Fault("The last line has no line feed at its end.", len(line))
+        yield Fault("The last line has no line feed at its end: was the file cut? If nothing is missing, press Enter there and save.", len(line))
 
 
 def not_a_row(line):
@@ -57,11 +57,11 @@ def not_a_row(line):
     if line.startswith((b"\xff\xfe", b"\xfe\xff")) or line[1:2] == b"\0":
         return "The text is saved as UTF-16: save it as plain ASCII."
     if line.strip(b" \t") == b"":
-        return "The line is empty: leave it away. Each line is a row." if line == b"" else "The line has only blanks: leave it away."
+        return "The line is empty: delete it. Each line is a row." if line == b"" else "The line has only blanks: delete it."
     if line.lstrip(b" \t").startswith((b"#", b"//", b";", b"--", b"%", b"/*", b"!")):
-        return "The line is a remark, and a sheet has none: leave it away."
+        return "The line is a remark, and a sheet has none: delete it."
     if re.match(rb'[ \t"]*[A-Za-z]', line):
-        return "The line begins with a word, not with the number of a kind: a header, a title or a remark. Leave it away."
+        return "The line begins with a word, not with the number of a kind: a header, a title or a remark. Delete it."
     for mark, name in ((b";", "semicolons"), (b"\t", "tabs"), (b"|", "bars")):
         if mark in line and line.count(mark) >= line.count(b","):
             return f"The fields are parted by {name}: type commas."
@@ -89,7 +89,7 @@ def wrong_fields(line, start):
     if blanks:
         what = "tabs" if b"\t" in line and b" " not in line else "blanks"
         where = f"field {blanks[0][0]}" if len(blanks) == 1 else f"fields {listed([number for number, _ in blanks])}"
-        yield Fault(f"There are {what} in {where}: leave them away.", blanks[0][1])
+        yield Fault(f"There are {what} in {where}: delete them.", blanks[0][1])
 
 
 def kind_of(fields):

@@ -42,9 +42,9 @@ def index_outside(activity, split, counts):
     wrong = [b for b in counts.values() if not 0 <= b.part_index < split.max_parts]
     if wrong:
         allowed = f"0 to {split.max_parts - 1}" if split.max_parts > 1 else "0 alone" if split.max_parts == 1 else "none"
-        words = f"Activity {activity.id} is booked with the part indices {listed(sorted(counts))}; its max parts are {split.max_parts} ({line(split)}), which allows {allowed}."
+        words = f"Activity {activity.id} is booked with part {'index' if len(counts) == 1 else 'indices'} {listed(sorted(counts))}; its max parts are {split.max_parts} ({line(split)}), which allows {allowed}."
         because = [outside(b, split) for b in wrong]
-        yield Reason("part index outside", activity.id, wrong[0], words, because, list(counts.values()))
+        yield Reason("part index outside", activity.id, wrong[0], words, because, [split, *counts.values()])
 
 
 def outside(booking, split):
