@@ -18,10 +18,7 @@ use Rattle.loops.specs.inner.Chain.{Silent}
 use Rattle.loops.proofs.NumberLaws.{shorter}
 use Rattle.rows.specs.Cells.{rowCount, cell, num, is}
 use Rattle.rows.specs.Class.{t?-c}
-use Rattle.sheet.specs.declared.Found.{Found}
-use Rattle.sheet.specs.declared.Found.the-variants.{At, Nothing}
-use Rattle.sheet.specs.Places.{ofKind, placeOf, taskPlace}
-use Rattle.sheet.specs.inner.Found.{foundOf}
+use Rattle.sheet.specs.Places.{ofKind, placeOf}
 use Rattle.calendar.specs.Clock.{clock}
 use Rattle.findings.specs.declared.Violation.{Violation}
 use Rattle.findings.specs.inner.Sink.{Sink, emit}
@@ -41,13 +38,6 @@ use Rattle.check1_assignments.specs.inner.Bookings.{Booked}
 
 module _ (rows : List ℤ) where
   -- ---- releases
-
-  module _ (id : ℕ) (late : ℕ → Bool) {f : Found} where
-    pub no-task : foundOf f ≡ taskPlace rows id → f ≡ Nothing → false ≡ option (taskPlace rows id) false late
-    no-task e g = rw (sym e ∙ ap foundOf g)
-
-    pub its-task : {r : Bool} {t : ℕ} → foundOf f ≡ taskPlace rows id → f ≡ At t → r ≡ late t → r ≡ option (taskPlace rows id) false late
-    its-task e g h = rw (sym e ∙ ap foundOf g) h
 
   early-cell : (b : Assignment ℤ) (s : ℕ) → b .start ≡ pos s → (x : ℤ)
       → earlyAssignment clock (sheet rows) b (asInstant (read t?-c x)) ≡ given (ltb s (toNat x)) (earlyStart 1 (b .activity))

@@ -16,6 +16,7 @@ use Rattle.loops.specs.inner.Chain.{Stands, Blind}
 use Rattle.loops.proofs.ListLaws.{any-collect}
 use Rattle.loops.proofs.RangeLaws.{collect-ext}
 use Rattle.loops.proofs.PlaceLaws.{any-same}
+use Rattle.loops.proofs.NumberLaws.{eqb-swap}
 use Rattle.rows.specs.Cells.{rowCount, num, is}
 use Rattle.sheet.specs.declared.Found.the-variants.{At, Nothing}
 use Rattle.sheet.specs.Places.{placeOf}
@@ -28,7 +29,7 @@ use Rattle.model.specs.inner.Records.{activityOf, requirementOf, spanOf}
 use Rattle.model.proofs.RowLaws.{span-row, span-none}
 use Rattle.model.proofs.OwnedLaws.{of-activity}
 use Rattle.model.proofs.Finds.{find-activity, found-self}
-use Rattle.model.proofs.Requiring.{eqb-swap, requirement-by, none-given}
+use Rattle.model.proofs.Requiring.{requirement-by, none-given}
 use Rattle.window_rows.specs.inner.Laid.{Holder}
 use Rattle.definition.specs.CheckTimeOnly.{known, seen}
 use Rattle.check2_time_only.specs.inner.Known.{Known}

@@ -21,7 +21,7 @@ use Rattle.loops.proofs.NumberLaws.{shorter}
 use Rattle.rows.specs.Cells.{rowCount, num, is}
 use Rattle.sheet.specs.declared.Found.{Found}
 use Rattle.sheet.specs.declared.Found.the-variants.{At, Nothing}
-use Rattle.sheet.specs.Places.{ofKind, placeOf, taskPlace}
+use Rattle.sheet.specs.Places.{ofKind, placeOf}
 use Rattle.sheet.specs.inner.Found.{foundOf}
 use Rattle.sheet.specs.Refusals.{refusalOf}
 use Rattle.sheet.proofs.Lookups.{placed}
@@ -97,13 +97,6 @@ module _ (rows : List ℤ) (a k : ℕ) where
     outside-plain q h s e g = rw (sym q ∙ h) (ap not (rw (c, s, e) at g))
 
   -- ---- releases
-
-  module _ (release : ℕ → Option ℤ) {f : Found} where
-    pub no-task : foundOf f ≡ taskPlace rows (num rows a 2) → f ≡ Nothing → none ≡ option (taskPlace rows (num rows a 2)) none release
-    no-task e g = rw (sym e ∙ ap foundOf g)
-
-    pub its-task : {x : Option ℤ} {t : ℕ} → foundOf f ≡ taskPlace rows (num rows a 2) → f ≡ At t → x ≡ release t → x ≡ option (taskPlace rows (num rows a 2)) none release
-    its-task e g h = rw (sym e ∙ ap foundOf g) h
 
   early-is : (x : Option ℤ)
       → given (option x false (λ y. ltZ (pos (num rows k 3)) y)) (earlyStart 2 (num rows k 1)) ≡ earlySpan clock (sheet rows) (spanOf rows k) x

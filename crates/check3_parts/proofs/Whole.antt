@@ -1,39 +1,35 @@
 -- Check 3 by rows is check 3. Assumes nothing.
-use Prim.Native.Nat.{ℕ, suc, _<_}
+use Prim.Native.Nat.{ℕ, _<_}
 use mathlib.Core.Path.{_≡_, refl, ap, ap₂, sym, _∙_}
 use mathlib.Core.Bool.{Bool, Bool·beq, true, false, cond, not, _&&_, true≢false, or-false}
 use mathlib.Core.List.{List, [], _∷_, _++_, append-nil}
 use mathlib.Core.Option.{none, some}
-use native.Mathlib.Omega.{arith}
 use lib.Dec.{eqb}
 use lib.IntN.{ℤ}
 use Rattle.loops.specs.Numbers.{toNat}
 use Rattle.loops.specs.Lists.{given, anyOf, head, option, isSome, isEmpty, each}
 use Rattle.loops.specs.Range.{collect}
 use Rattle.loops.specs.Search.{someIf, firstPlace}
-use Rattle.loops.specs.inner.Chain.{First, Stands, only}
+use Rattle.loops.specs.inner.Chain.{only}
 use Rattle.loops.proofs.RangeLaws.{collect-ext}
 use Rattle.loops.proofs.ListLaws.{each-collect, each-keep, any-keep, any-collect, head-collect}
 use Rattle.loops.proofs.PlaceLaws.{any-same}
-use Rattle.loops.proofs.Walks.{silent-only}
-use Rattle.findings.specs.declared.Violation.{Violation}
 use Rattle.findings.specs.inner.Sink.{Sink, emit}
 use Rattle.findings.proofs.SinkLaws.{emit-then, emit-none}
-use Rattle.findings.proofs.Reports.{emit-next}
 use Rattle.rows.specs.Cells.{rowCount, cell, num, is}
 use Rattle.rows.specs.Ranges.{isNone}
 use Rattle.sheet.specs.Places.{ofKind, placeOf}
 use Rattle.sheet.specs.inner.Accepted.{Accepted}
 use Rattle.owners.specs.inner.Owners.{ownerKind, ownedBy}
 use Rattle.model.specs.Sheet.{number, nothing, sheet, rowAt}
-use Rattle.model.specs.inner.Records.{numAt, intAt, taskOf, activityOf}
+use Rattle.model.specs.inner.Records.{numAt, intAt, activityOf}
 use Rattle.model.specs.inner.Indexed.{Indexed}
-use Rattle.model.specs.Task.{Task, taskAt, tasks}
-use Rattle.model.specs.Activity.{Activity, Split, split, activityAt, activities, activitiesOf}
+use Rattle.model.specs.Activity.{Split, split}
 use Rattle.model.specs.Schedule.{Part, Assignment, asPart, assignmentAt, assignmentsBelow, assignments, assignmentsForActivityAll}
-use Rattle.model.proofs.RowLaws.{kind-is, task-row, task-none, activity-row, activity-none, assignment-row, assignment-none}
+use Rattle.model.proofs.RowLaws.{kind-is, assignment-row, assignment-none}
 use Rattle.model.proofs.Accepting.{accepted, found-again}
-use Rattle.model.proofs.OwnedLaws.{of-task, of-activity}
+use Rattle.model.proofs.OwnedLaws.{of-activity}
+use Rattle.model.proofs.Tasks.{tasks-by-rows}
 use Rattle.model.proofs.Finds.{first-same, first-placed}
 use Rattle.pieces.proofs.Companions.{both-parts}
 use Rattle.definition.specs.CheckParts.{partsOf, twoWorks, checkPartsOf, partsBooked, wholeBooked, checkSplit, checkActivityParts, checkParts}
@@ -169,56 +165,10 @@ module _ (rows : List ℤ) (acc : Accepted rows) where
         sym (ap (emit s) (ap (λ y. option y [] (checkSplit (sheet rows) (activityOf rows o)))
         (split-is ∙ ap (λ y. option y none (λ k. some (splitOf rows k))) (sym f))) ∙ emit-none s)
 
-  -- ---- a task
-
-  module _ (t : ℕ) (l : t < rowCount rows) (h : is rows t 0 1 ≡ true) where
-    task-found : placeOf rows 1 (num rows t 1) ≡ some t
-    task-found = found-again rows acc t 1 l refl h
-
-    checkIn : Activity ℤ → List Violation
-    checkIn a = cond (eqb (a .task) (num rows t 1)) (checkActivityParts (sheet rows) a) []
-
-    activity-at : (o : ℕ) → o < rowCount rows → each checkIn (activityAt (sheet rows) o) ≡ only (ownedBy rows t 2) (activityFindings rows) o
-    unfolding only checkIn each
-    activity-at o m = go (is rows o 0 2) refl ∙ ap (λ b. cond b (activityFindings rows o) []) (sym (of-task rows 2 t (num rows t 1) (unfold ownerKind in refl) task-found o))
-      where
-        go : (b : Bool) → is rows o 0 2 ≡ b → each checkIn (activityAt (sheet rows) o) ≡ cond (is rows o 0 2 && is rows o 2 (num rows t 1)) (activityFindings rows o) []
-        go true e = ap (each checkIn) (activity-row rows o e) ∙ append-nil (checkIn (activityOf rows o))
-            ∙ (unfold is in ap (λ b. cond (b && is rows o 2 (num rows t 1)) (activityFindings rows o) []) (sym e))
-        go false e = ap (each checkIn) (activity-none rows o e) ∙ ap (λ b. cond (b && is rows o 2 (num rows t 1)) (activityFindings rows o) []) (sym e)
-
-    task-is : each (checkActivityParts (sheet rows)) (activitiesOf (sheet rows) (num rows t 1)) ≡ taskFindings rows t
-    unfolding activitiesOf activities taskFindings checkIn
-    task-is =
-        each-keep (checkActivityParts (sheet rows)) (λ a. eqb (a .task) (num rows t 1)) (collect (activityAt (sheet rows)) (rowCount rows))
-        ∙ each-collect checkIn (activityAt (sheet rows)) (rowCount rows)
-        ∙ collect-ext _ _ (rowCount rows) activity-at
-
-  abbrev perTask : Task ℤ → List Violation
-  perTask t = each (checkActivityParts (sheet rows)) (activitiesOf (sheet rows) (t .id))
-
-  task-at : (t : ℕ) → t < rowCount rows → each perTask (taskAt (sheet rows) t) ≡ only (ofKind rows 1) (taskFindings rows) t
-  unfolding only ofKind each
-  task-at t l = go (is rows t 0 1) refl
-    where
-      go : (b : Bool) → is rows t 0 1 ≡ b → each perTask (taskAt (sheet rows) t) ≡ cond (is rows t 0 1) (taskFindings rows t) []
-      go true e = ap (each perTask) (task-row rows t e) ∙ append-nil (perTask (taskOf rows t)) ∙ task-is t l e ∙ ap (λ b. cond b (taskFindings rows t) []) (sym e)
-      go false e = ap (each perTask) (task-none rows t e) ∙ ap (λ b. cond b (taskFindings rows t) []) (sym e)
-
   whole : collect (only (ofKind rows 1) (taskFindings rows)) (rowCount rows) ≡ checkParts (sheet rows)
-  unfolding checkParts tasks
-  whole = sym (each-collect perTask (taskAt (sheet rows)) (rowCount rows) ∙ collect-ext _ _ (rowCount rows) task-at)
+  unfolding checkParts taskFindings
+  whole = tasks-by-rows rows acc (checkActivityParts (sheet rows)) (activityFindings rows) (λ o l h. unfold activityFindings in refl)
 
 pub by-rows : (rows : List ℤ) {kinds links owned : List ℕ} → Indexed rows kinds links owned
     → collect (only (ofKind rows 1) (taskFindings rows)) (rowCount rows) ≡ checkParts (sheet rows)
 by-rows rows h = whole rows (accepted rows (h .accepted))
-
--- ---- reports along a chain
-
-only-here : (p : ℕ → Bool) (f : ℕ → List Violation) {n N i : ℕ} → i < N → N ≡ n → Stands p n i → only p f i ≡ f i
-unfolding only
-only-here p f l z a = rw (a .here (omega arith))
-
-pub emit-turn : (p : ℕ → Bool) (f : ℕ → List Violation) {n N i j : ℕ} (s₀ : Sink) {s s′ : Sink} → First p (suc i) n j → i < N → N ≡ n → Stands p n i
-    → s ≡ emit s₀ (collect (only p f) i) → s′ ≡ emit s (f i) → s′ ≡ emit s₀ (collect (only p f) j)
-emit-turn p f s₀ {s} x l z a r t = emit-next (only p f) s₀ x (silent-only p f) r (t ∙ ap (emit s) (sym (only-here p f l z a)))

@@ -17,7 +17,7 @@ use Rattle.loops.specs.inner.Chain.{First, Stands, only}
 use Rattle.loops.proofs.BoolLaws.{bit}
 use Rattle.loops.proofs.RangeLaws.{collect-ext}
 use Rattle.loops.proofs.ListLaws.{each-append}
-use Rattle.loops.proofs.Walks.{collect-first, collect-next, silent-only, stands-end}
+use Rattle.loops.proofs.Walks.{collect-first, collect-next, silent-only, stands-end, only-here}
 use Rattle.findings.specs.inner.Sink.{Sink, emit}
 use Rattle.findings.proofs.SinkLaws.{emit-none, emit-then}
 use Rattle.rows.specs.Cells.{rowCount, num}
@@ -26,7 +26,6 @@ use Rattle.model.specs.Schedule.{requirementUnfilled}
 use Rattle.definition.specs.CheckRequirements.{Claim, claim, claiming, passing}
 use Rattle.check4_pieces.specs.inner.OfPiece.{freeIn}
 use Rattle.check4_claims.specs.inner.Claims.{candidateOf, lackingOf, claimOf, filled, claimsOf, markedAt, unclaimedOf, claimable, takes, requirementRows, freeAt, runsOnIn, Free}
-use Rattle.check4_pieces.proofs.Along.{only-here}
 
 -- ---- a list in two parts
 

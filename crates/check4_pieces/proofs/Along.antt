@@ -17,7 +17,7 @@ use Rattle.loops.proofs.SearchLaws.{any-none, any-hit}
 use Rattle.loops.proofs.Walks.{over, silent-only, any-first, any-next, any-end}
 use Rattle.findings.specs.declared.Violation.{Violation}
 use Rattle.findings.specs.inner.Sink.{Sink, sink, emit}
-use Rattle.findings.proofs.Reports.{emit-first, emit-next, emit-end}
+use Rattle.findings.proofs.Reports.{emit-first, emit-end, emit-turn}
 use Rattle.findings.proofs.SinkLaws.{kept}
 use Rattle.rows.specs.Cells.{is}
 use Rattle.owners.specs.inner.Owners.{ownedBy, ownPlace}
@@ -62,15 +62,6 @@ first-past p t {n} {N} {i} l z a e = record {
 }
 
 -- ---- reports
-
--- what is reported at a place of the chain
-pub only-here : {A : Type 0} (p : ℕ → Bool) (f : ℕ → List A) {n N i : ℕ} → i < N → N ≡ n → Stands p n i → only p f i ≡ f i
-unfolding only
-only-here p f l z a = rw (a .here (omega arith))
-
-pub emit-turn : (p : ℕ → Bool) (f : ℕ → List Violation) {n N i j : ℕ} (s₀ : Sink) {s s′ : Sink} → First p (suc i) n j → i < N → N ≡ n → Stands p n i
-    → s ≡ emit s₀ (collect (only p f) i) → s′ ≡ emit s (f i) → s′ ≡ emit s₀ (collect (only p f) j)
-emit-turn p f s₀ {s} x l z a r t = emit-next (only p f) s₀ x (silent-only p f) r (t ∙ ap (emit s) (sym (only-here p f l z a)))
 
 -- a place of an owner's chain is of the kind
 pub kind-here : (rows : List ℤ) (o x : ℕ) {n N i : ℕ} → i < N → N ≡ n → Stands (ownedBy rows o x) n i → is rows i 0 x ≡ true

@@ -19,6 +19,8 @@ use Rattle.loops.proofs.BoolLaws.{and-left, and-right}
 use Rattle.loops.proofs.RangeLaws.{collect-ext}
 use Rattle.loops.proofs.ListLaws.{any-collect}
 use Rattle.loops.proofs.PlaceLaws.{any-same, place-none}
+use Rattle.loops.proofs.NumberLaws.{eqb-swap}
+use Rattle.loops.proofs.SearchLaws.{none-below}
 use Rattle.rows.specs.Cells.{rowCount, cell, num, is}
 use Rattle.rows.specs.Table.{classOf}
 use Rattle.sheet.specs.Places.{named, placeOf}
@@ -37,7 +39,7 @@ use Rattle.model.proofs.OwnedLaws.{of-resource}
 use Rattle.model.proofs.Requiring.{of-requirement}
 use Rattle.definition.specs.CheckRequirements.{claim, claiming, passing, candidateId, lacking, claims}
 use Rattle.check4_claims.specs.inner.Claims.{hasSkill, candidateOf, lackingFor, lackingOf, claimOf, filled, claimsOf}
-use Rattle.check4_requirements.proofs.Lists.{only-same, both-same, each-only, any-only, none-collect, given-any, given-each, each-ext, swap, any-false, any-at}
+use Rattle.check4_requirements.proofs.Lists.{only-same, both-same, each-only, any-only, none-collect, given-any, given-each, each-ext, any-at}
 
 -- what a column names along a chain
 abbrev pub along : List ℤ → ℕ → ℕ → ℕ → List ℕ
@@ -55,7 +57,7 @@ skill-along : (rows : List ℤ) (r v : ℕ) → among v (along rows r 12 2) ≡ 
 unfolding hasSkill is
 skill-along rows r v =
     any-only (ownedBy rows r 12) (λ k. num rows k 2 ∷ []) (rowCount rows) (eqb v)
-    ∙ both-same _ _ _ (rowCount rows) (λ k l e. given-any true (num rows k 2) (eqb v) ∙ swap v (num rows k 2))
+    ∙ both-same _ _ _ (rowCount rows) (λ k l e. given-any true (num rows k 2) (eqb v) ∙ eqb-swap v (num rows k 2))
 
 module _ (rows : List ℤ) (acc : Accepted rows) where
   -- ---- rows of a resource
@@ -178,7 +180,7 @@ module _ (rows : List ℤ) (acc : Accepted rows) where
             → anyBelow (chosen x) (rowCount rows)
             ≡ option (placeOf rows 11 x) false (λ r. isCandidate (sheet rows) (requirementOf rows q) (resourceOf rows r))
         go none e =
-            any-false (chosen x) (rowCount rows) (λ k m. unfold placeOf in ap (λ b. b && isCandidate (sheet rows) (requirementOf rows q) (resourceOf rows k)) (place-none (named rows 11 x) (rowCount rows) e k m))
+            none-below (chosen x) (rowCount rows) (λ k m. unfold placeOf in ap (λ b. b && isCandidate (sheet rows) (requirementOf rows q) (resourceOf rows k)) (place-none (named rows 11 x) (rowCount rows) e k m))
             ∙ sym (rw e)
         go (some a) e =
             let f = placed rows 11 x a e in

@@ -5,15 +5,13 @@ use mathlib.Core.Bool.{Bool, true, false, cond, not, _&&_, _||_, or-false, or-tr
 use mathlib.Core.List.{List, [], _∷_, _++_, map, append-nil}
 use native.Mathlib.Omega.{arith}
 use native.Mathlib.Decide.{ℕ-discrete}
-use lib.Dec.{eqb}
-use borrow.Author.Tests.{eq-eqb, ne-eqb}
 use Rattle.loops.specs.Lists.{given, keep, anyOf, allOf, each, isEmpty}
 use Rattle.loops.specs.Range.{collect}
 use Rattle.loops.specs.Search.{anyBelow}
 use Rattle.loops.specs.inner.Chain.{only}
 use Rattle.loops.proofs.RangeLaws.{collect-ext}
 use Rattle.loops.proofs.ListLaws.{each-collect, map-collect, keep-collect, any-collect, all-append}
-use Rattle.loops.proofs.SearchLaws.{any-hit}
+use Rattle.loops.proofs.SearchLaws.{any-hit, none-below}
 use Rattle.loops.proofs.PlaceLaws.{any-same}
 use Rattle.check4_pieces.specs.inner.OfPiece.{both}
 
@@ -125,19 +123,7 @@ unfolding each
 each-ext f g h [] = refl
 each-ext f g h (x ∷ l) = ap₂ _++_ (h x) (each-ext f g h l)
 
-pub swap : (a b : ℕ) → eqb a b ≡ eqb b a
-swap a b = go (ℕ-discrete a b)
-  where
-    go : Dec (a ≡ b) → eqb a b ≡ eqb b a
-    go (yes q) = rw (eq-eqb a b q, eq-eqb b a (sym q))
-    go (no q) = rw (ne-eqb a b q, ne-eqb b a (λ z. q (sym z)))
-
 -- ---- searches
-
-pub any-false : (t : ℕ → Bool) (n : ℕ) → ((k : ℕ) → k < n → t k ≡ false) → anyBelow t n ≡ false
-unfolding anyBelow
-any-false t zero h = refl
-any-false t (suc n) h = rw (any-false t n (λ k l. h k (omega arith)), h n (omega arith))
 
 -- a test that holds at one place only, if at all
 pub any-at : (t : ℕ → Bool) (n a : ℕ) → a < n → ((k : ℕ) → k < n → (k ≡ a → ⊥) → t k ≡ false) → anyBelow t n ≡ t a
@@ -145,7 +131,7 @@ any-at t n a l h = go (t a) refl
   where
     go : (b : Bool) → t a ≡ b → anyBelow t n ≡ b
     go true e = sym (any-hit t a n n l refl e)
-    go false e = any-false t n (λ k m. at k m (ℕ-discrete k a))
+    go false e = none-below t n (λ k m. at k m (ℕ-discrete k a))
       where
         at : (k : ℕ) → k < n → Dec (k ≡ a) → t k ≡ false
         at k m (yes z) = ap t z ∙ e

@@ -16,10 +16,10 @@ use Rattle.loops.specs.Range.{collect}
 use Rattle.loops.specs.Search.{anyBelow, firstPlace, someIf}
 use Rattle.loops.specs.inner.Chain.{only}
 use Rattle.loops.proofs.KeyLaws.{numbered-fold, by-key}
-use Rattle.loops.proofs.BoolLaws.{and-left, and-right}
+use Rattle.loops.proofs.BoolLaws.{and-left, and-right, not-true}
 use Rattle.loops.proofs.RangeLaws.{collect-ext}
 use Rattle.loops.proofs.ListLaws.{keep-collect, map-collect, head-collect}
-use Rattle.loops.proofs.SearchLaws.{any-hit, any-none}
+use Rattle.loops.proofs.SearchLaws.{any-hit, any-none, none-below}
 use Rattle.loops.proofs.PlaceLaws.{found-at, place-none}
 use Rattle.loops.proofs.PartLaws.{collect-nothing}
 use Rattle.calendar.specs.Clock.{clock}
@@ -31,7 +31,7 @@ use Rattle.sheet.specs.inner.Accepted.{Accepted}
 use Rattle.sheet.proofs.Lookups.{is-num}
 use Rattle.owners.specs.inner.Owners.{ownerKind, ownedBy}
 use Rattle.model.specs.Sheet.{sheet}
-use Rattle.model.specs.Schedule.{Assignment, assignmentAt, assignmentsBelow, assignments, assignmentsForActivityAll}
+use Rattle.model.specs.Schedule.{Assignment, assignmentAt, assignmentsBelow, assignments}
 use Rattle.model.proofs.RowLaws.{assignment-row, assignment-none}
 use Rattle.model.proofs.Accepting.{found-again, at-most}
 use Rattle.model.proofs.OwnedLaws.{of-activity}
@@ -42,10 +42,11 @@ use Rattle.pieces.specs.inner.Bookings.{indexKey, keyAt, inPiece}
 use Rattle.pieces.specs.inner.Held.{heldAt}
 use Rattle.pieces.proofs.Indices.{indexIn, before-key, same-key}
 use Rattle.pieces.proofs.Companions.{booking, index-class, booked-index, of-piece}
+use Rattle.pieces.proofs.Bookings.{bookings-of}
 use Rattle.check4_pieces.specs.inner.OfPiece.{keys, both, keyIs, keyBelow, differs, differsIn, apart, freeIn}
 use Rattle.check4_claims.specs.inner.Claims.{freeAt, runsOnIn}
 use Rattle.check4_requirements.specs.inner.ByRow.{owns}
-use Rattle.check4_requirements.proofs.Lists.{only-same, both-same, map-only, keep-only, any-only, all-only, given-keep, given-any, given-map, any-false}
+use Rattle.check4_requirements.proofs.Lists.{only-same, both-same, map-only, keep-only, any-only, all-only, given-keep, given-any, given-map}
 
 -- ---- part indices as numbers
 
@@ -71,10 +72,6 @@ absent-key = refl
 absent-in : indexIn absent ≡ none
 unfolding isNone between
 absent-in = refl
-
-not-true : (b : Bool) → not b ≡ true → b ≡ false
-not-true true e = sym e
-not-true false e = refl
 
 some-in : (i : ℤ) → isNone i ≡ false → indexIn i ≡ some i
 some-in i e = ap (λ b. cond b none (some i)) e
@@ -158,24 +155,6 @@ module _ (rows : List ℤ) (acc : Accepted rows) (o : ℕ) (l : o < rowCount row
   abbrev pub pieceAt : ℕ → List (Assignment ℤ)
   pieceAt p = collect (only (ownedBy rows o 23) (λ k. given (keyIs rows p k) (booking rows k))) (rowCount rows)
 
-  pick : (b : Bool) (k : ℕ) → given b (booking rows k) ++ [] ≡ cond b (booking rows k ∷ []) []
-  pick true k = refl
-  pick false k = refl
-
-  booked-at : (k : ℕ) → keep (λ a. eqb (a .activity) (num rows o 1)) (assignmentAt (sheet rows) k) ≡ only (ownedBy rows o 23) (λ k. booking rows k ∷ []) k
-  unfolding only keep is
-  booked-at k = go (is rows k 0 23) refl ∙ ap (λ b. cond b (booking rows k ∷ []) []) (sym (own-is k))
-    where
-      go : (b : Bool) → is rows k 0 23 ≡ b
-          → keep (λ a. eqb (a .activity) (num rows o 1)) (assignmentAt (sheet rows) k) ≡ cond (is rows k 0 23 && is rows k 1 (num rows o 1)) (booking rows k ∷ []) []
-      go true e = ap (keep (λ a. eqb (a .activity) (num rows o 1))) (assignment-row rows k e) ∙ pick (eqb (num rows k 1) (num rows o 1)) k
-          ∙ ap (λ b. cond (b && is rows k 1 (num rows o 1)) (booking rows k ∷ []) []) (sym e)
-      go false e = ap (keep (λ a. eqb (a .activity) (num rows o 1))) (assignment-none rows k e) ∙ ap (λ b. cond (b && is rows k 1 (num rows o 1)) (booking rows k ∷ []) []) (sym e)
-
-  booked-are : assignmentsForActivityAll (sheet rows) (num rows o 1) ≡ booked
-  unfolding assignmentsForActivityAll assignments assignmentsBelow
-  booked-are = keep-collect (λ a. eqb (a .activity) (num rows o 1)) (assignmentAt (sheet rows)) (rowCount rows) ∙ collect-ext _ _ (rowCount rows) (λ k m. booked-at k)
-
   abbrev index : Assignment ℤ → Option ℤ
   index a = indexOf (a .part)
 
@@ -217,7 +196,7 @@ module _ (rows : List ℤ) (acc : Accepted rows) (o : ℕ) (l : o < rowCount row
   pub pieces-are : values (bookingsByPiece clock (sheet rows) (num rows o 1)) ≡ collect (only (keyBelow rows o (rowCount rows)) (λ p. pieceAt p ∷ [])) keys
   unfolding bookingsByPiece only
   pieces-are =
-      ap (λ m. values (foldl (λ m a. upsert beforeIndex (indexOf (a .part)) [] (λ l. l ++ a ∷ []) m) [] m)) booked-are
+      ap (λ m. values (foldl (λ m a. upsert beforeIndex (indexOf (a .part)) [] (λ l. l ++ a ∷ []) m) [] m)) (bookings-of rows o found)
       ∙ numbered-fold valid beforeIndex number order (λ a. indexOf (a .part)) (λ a. []) (λ a l. l ++ a ∷ []) booked [] all-valid (unfold allOf in refl)
       ∙ by-key (λ a. number (index a)) keys booked all-below
       ∙ map-collect (λ e. e .value) (λ q. given (anyOf (λ a. eqb (number (index a)) q) booked) (entry q (keep (λ a. eqb (number (index a)) q) booked))) keys
@@ -234,13 +213,13 @@ module _ (rows : List ℤ) (acc : Accepted rows) (o : ℕ) (l : o < rowCount row
   keys-any = go (firstPlace (ownedBy rows o 23) (rowCount rows)) refl
     where
       off : (p : ℕ) → firstPlace (ownedBy rows o 23) (rowCount rows) ≡ none → keyBelow rows o (rowCount rows) p ≡ false
-      off p e = unfold keyBelow both in any-false _ (rowCount rows) (λ k m. ap (λ b. b && keyIs rows p k) (place-none (ownedBy rows o 23) (rowCount rows) e k m))
+      off p e = unfold keyBelow both in none-below _ (rowCount rows) (λ k m. ap (λ b. b && keyIs rows p k) (place-none (ownedBy rows o 23) (rowCount rows) e k m))
 
       on : (k : ℕ) → k < rowCount rows → ownedBy rows o 23 k ≡ true → keyBelow rows o (rowCount rows) (keyAt rows k) ≡ true
       on k m e = unfold keyBelow both keyIs in sym (any-hit _ k (rowCount rows) (rowCount rows) m refl (ap₂ _&&_ e (eq-eqb (keyAt rows k) (keyAt rows k) refl)))
 
       go : (y : Option ℕ) → firstPlace (ownedBy rows o 23) (rowCount rows) ≡ y → anyBelow (keyBelow rows o (rowCount rows)) keys ≡ anyBelow (ownedBy rows o 23) (rowCount rows)
-      go none e = any-false _ keys (λ p _. off p e) ∙ sym (any-false _ (rowCount rows) (λ k m. place-none (ownedBy rows o 23) (rowCount rows) e k m))
+      go none e = none-below _ keys (λ p _. off p e) ∙ sym (none-below _ (rowCount rows) (λ k m. place-none (ownedBy rows o 23) (rowCount rows) e k m))
       go (some k) e =
           let f = found-at (ownedBy rows o 23) (rowCount rows) k e in
           sym (any-hit _ (keyAt rows k) keys keys (key-below k (f .0) (f .1)) refl (on k (f .0) (f .1)))

@@ -12,7 +12,7 @@ use Rattle.loops.specs.Ordered.{values}
 use Rattle.loops.specs.Range.{collect}
 use Rattle.loops.specs.inner.Chain.{only}
 use Rattle.loops.proofs.RangeLaws.{collect-ext}
-use Rattle.loops.proofs.ListLaws.{each-collect, each-keep}
+use Rattle.loops.proofs.NumberLaws.{eqb-swap}
 use Rattle.findings.specs.declared.Violation.{Violation}
 use Rattle.calendar.specs.Clock.{clock}
 use Rattle.rows.specs.Cells.{rowCount, num, is}
@@ -21,21 +21,20 @@ use Rattle.sheet.specs.inner.Accepted.{Accepted}
 use Rattle.owners.specs.inner.Owners.{ownerKind, ownedBy}
 use Rattle.model.specs.Sheet.{sheet}
 use Rattle.model.specs.inner.Indexed.{Indexed}
-use Rattle.model.specs.inner.Records.{taskOf, activityOf, requirementOf}
-use Rattle.model.specs.Task.{Task, taskAt, tasks}
+use Rattle.model.specs.inner.Records.{activityOf, requirementOf}
 use Rattle.model.specs.Resource.{companions}
-use Rattle.model.specs.Activity.{Activity, activityAt, activities, activitiesOf, requirementAt, requirements}
+use Rattle.model.specs.Activity.{requirementAt, requirements}
 use Rattle.model.specs.Schedule.{Assignment, requirementUnfilled}
-use Rattle.model.proofs.RowLaws.{task-row, task-none, activity-row, activity-none}
-use Rattle.model.proofs.Accepting.{accepted, found-again}
-use Rattle.model.proofs.OwnedLaws.{of-task, of-activity}
+use Rattle.model.proofs.Accepting.{accepted}
+use Rattle.model.proofs.OwnedLaws.{of-activity}
+use Rattle.model.proofs.Tasks.{tasks-by-rows}
 use Rattle.model.proofs.Requiring.{requirement-row, requirement-none}
 use Rattle.definition.specs.Pieces.{resourcesOf}
 use Rattle.definition.specs.CheckRequirements.{unaccompanied, claims, checkPieceRequirements, orNothing, bookingsByPiece, checkActivityRequirements, checkRequirements}
 use Rattle.check4_pieces.specs.inner.OfPiece.{keys, keyBelow, keyIs, assignsAt, assigns, missingFor, missing, missingAt, freeIn, unaccompaniedIn}
 use Rattle.check4_claims.specs.inner.Claims.{freeAt, requirementRows, runsOnIn, claimsOf}
 use Rattle.check4_requirements.specs.inner.ByRow.{owns, checkPiece, checkKeys, checkPieces, checkActivity, checkTask}
-use Rattle.check4_requirements.proofs.Lists.{only-same, both-same, each-only, map-only, any-only, all-only, given-any, given-each, empty-only, swap}
+use Rattle.check4_requirements.proofs.Lists.{only-same, both-same, each-only, map-only, any-only, all-only, given-any, given-each, empty-only}
 use Rattle.check4_requirements.proofs.Claimants.{along, companions-along, isOf, claims-are}
 use Rattle.check4_requirements.proofs.Pieced.{found, pieceAt, assigned, assigned-are, runs-on, apart-is, pieces-are, keys-any, no-piece}
 
@@ -47,7 +46,7 @@ module _ (rows : List ℤ) (acc : Accepted rows) where
     unfolding assigns assignsAt is
     assigns-is p x =
         any-only (ownedBy rows o 23) (λ k. given (keyIs rows p k) (num rows k 3)) (rowCount rows) (eqb x)
-        ∙ both-same _ _ _ (rowCount rows) (λ k m e. given-any (keyIs rows p k) (num rows k 3) (eqb x) ∙ ap (λ b. keyIs rows p k && b) (swap x (num rows k 3)))
+        ∙ both-same _ _ _ (rowCount rows) (λ k m e. given-any (keyIs rows p k) (num rows k 3) (eqb x) ∙ ap (λ b. keyIs rows p k && b) (eqb-swap x (num rows k 3)))
 
     -- the companions of a booking's resource that the piece does not have
     missing-is : (p x : ℕ)
@@ -154,46 +153,9 @@ module _ (rows : List ℤ) (acc : Accepted rows) where
         ap₂ (λ b y. cond b [] y) none-asked pieces-is
         ∙ turned (owns rows o 5) [] (checkPieces rows o)
 
-  -- ---- a task
-
-  module _ (t : ℕ) (l : t < rowCount rows) (h : is rows t 0 1 ≡ true) where
-    task-found : placeOf rows 1 (num rows t 1) ≡ some t
-    task-found = found-again rows acc t 1 l refl h
-
-    checkIn : Activity ℤ → List Violation
-    checkIn a = cond (eqb (a .task) (num rows t 1)) (checkActivityRequirements clock (sheet rows) a) []
-
-    activity-at : (o : ℕ) → o < rowCount rows → each checkIn (activityAt (sheet rows) o) ≡ only (ownedBy rows t 2) (checkActivity rows) o
-    unfolding only checkIn each is
-    activity-at o m = go (is rows o 0 2) refl ∙ ap (λ b. cond b (checkActivity rows o) []) (sym (of-task rows 2 t (num rows t 1) (unfold ownerKind in refl) task-found o))
-      where
-        go : (b : Bool) → is rows o 0 2 ≡ b → each checkIn (activityAt (sheet rows) o) ≡ cond (is rows o 0 2 && is rows o 2 (num rows t 1)) (checkActivity rows o) []
-        go true e = ap (each checkIn) (activity-row rows o e) ∙ append-nil (checkIn (activityOf rows o))
-            ∙ ap (λ y. cond (eqb (num rows o 2) (num rows t 1)) y []) (activity-is o m e)
-            ∙ ap (λ b. cond (b && is rows o 2 (num rows t 1)) (checkActivity rows o) []) (sym e)
-        go false e = ap (each checkIn) (activity-none rows o e) ∙ ap (λ b. cond (b && is rows o 2 (num rows t 1)) (checkActivity rows o) []) (sym e)
-
-    task-is : each (checkActivityRequirements clock (sheet rows)) (activitiesOf (sheet rows) (num rows t 1)) ≡ checkTask rows t
-    unfolding activitiesOf activities checkTask checkIn
-    task-is =
-        each-keep (checkActivityRequirements clock (sheet rows)) (λ a. eqb (a .task) (num rows t 1)) (collect (activityAt (sheet rows)) (rowCount rows))
-        ∙ each-collect checkIn (activityAt (sheet rows)) (rowCount rows)
-        ∙ collect-ext _ _ (rowCount rows) activity-at
-
-  abbrev perTask : Task ℤ → List Violation
-  perTask t = each (checkActivityRequirements clock (sheet rows)) (activitiesOf (sheet rows) (t .id))
-
-  task-at : (t : ℕ) → t < rowCount rows → each perTask (taskAt (sheet rows) t) ≡ only (ofKind rows 1) (checkTask rows) t
-  unfolding only ofKind each
-  task-at t l = go (is rows t 0 1) refl
-    where
-      go : (b : Bool) → is rows t 0 1 ≡ b → each perTask (taskAt (sheet rows) t) ≡ cond (is rows t 0 1) (checkTask rows t) []
-      go true e = ap (each perTask) (task-row rows t e) ∙ append-nil (perTask (taskOf rows t)) ∙ task-is t l e ∙ ap (λ b. cond b (checkTask rows t) []) (sym e)
-      go false e = ap (each perTask) (task-none rows t e) ∙ ap (λ b. cond b (checkTask rows t) []) (sym e)
-
   whole : collect (only (ofKind rows 1) (checkTask rows)) (rowCount rows) ≡ checkRequirements clock (sheet rows)
-  unfolding checkRequirements tasks
-  whole = sym (each-collect perTask (taskAt (sheet rows)) (rowCount rows) ∙ collect-ext _ _ (rowCount rows) task-at)
+  unfolding checkRequirements checkTask
+  whole = tasks-by-rows rows acc (checkActivityRequirements clock (sheet rows)) (checkActivity rows) activity-is
 
 pub by-rows : (rows : List ℤ) {kinds links owned : List ℕ} → Indexed rows kinds links owned
     → collect (only (ofKind rows 1) (checkTask rows)) (rowCount rows) ≡ checkRequirements clock (sheet rows)

@@ -1,19 +1,19 @@
 -- Each resource of a piece once: the rows of the resources that its bookings are on work when those of all its bookings do. Assumes nothing.
-use Prim.Native.Nat.{ℕ, zero, suc, _<_}
+use Prim.Native.Nat.{ℕ, _<_}
 use mathlib.Core.Path.{_≡_, refl, ap, sym, _∙_}
-use mathlib.Core.Bool.{Bool, true, false, not, _&&_, _||_, true≢false}
+use mathlib.Core.Bool.{Bool, true, false, not, _&&_, true≢false}
 use mathlib.Core.List.{List, []}
 use mathlib.Core.Option.{Option, none, some}
-use native.Mathlib.Omega.{arith}
 use lib.Dec.{eqb}
 use lib.IntN.{ℤ}
 use borrow.Author.Tests.{eqb-true, eq-eqb}
 use Rattle.loops.specs.Lists.{anyOf, option}
 use Rattle.loops.specs.Search.{anyBelow}
-use Rattle.loops.proofs.BoolLaws.{and-left, and-right, both}
+use Rattle.loops.proofs.BoolLaws.{and-left, and-right, both, both-ways}
 use Rattle.loops.proofs.SearchLaws.{any-hit}
 use Rattle.calendar.specs.Clock.{clock}
 use Rattle.calendar.specs.Calendar.{isWorkingTime}
+use Rattle.loops.proofs.PlaceLaws.{hit}
 use Rattle.rows.specs.Cells.{rowCount, num, is}
 use Rattle.sheet.specs.inner.Accepted.{Accepted}
 use Rattle.sheet.specs.Places.{placeOf}
@@ -27,27 +27,6 @@ use Rattle.check6_joint_calendars.specs.inner.Taken.{isOn, takenBelow, t
 use Rattle.check6_joint_calendars.proofs.Joint.{restsAt}
 
 -- ---- searches
-
-record Hit (p : ℕ → Bool) (n : ℕ) : Type 0 where
-  place : ℕ
-  below : place < n
-  passes : p place ≡ true
-
-hit : (p : ℕ → Bool) (n : ℕ) → anyBelow p n ≡ true → Hit p n
-unfolding anyBelow
-hit p zero e = absurd (true≢false (sym e))
-hit p (suc n) e = go (anyBelow p n) refl (p n) refl e (λ f. hit p n f)
-  where
-    go : (a : Bool) → anyBelow p n ≡ a → (b : Bool) → p n ≡ b → (a || b) ≡ true → (anyBelow p n ≡ true → Hit p n) → Hit p (suc n)
-    go true f b g e i = let h = i f in record { place = h .place; below = omega (arith, h .below); passes = h .passes }
-    go false f true g e i = record { place = n; below = omega arith; passes = g }
-    go false f false g e i = absurd (true≢false (sym e))
-
--- two tests that follow from one another
-both-ways : (a b : Bool) → (a ≡ true → b ≡ true) → (b ≡ true → a ≡ true) → a ≡ b
-both-ways true b f g = sym (f refl)
-both-ways false true f g = absurd (true≢false (sym (g refl)))
-both-ways false false f g = refl
 
 -- the row of the resource that a booking is on
 on-place : (rows : List ℤ) (j r : ℕ) → isOn rows j r ≡ true → placeOf rows 11 (num rows j 3) ≡ some r

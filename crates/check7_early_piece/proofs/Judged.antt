@@ -1,7 +1,7 @@
 -- Some piece starts before the work reaches it: the test of the pieces is a test of the bookings. Assumes nothing.
 use Prim.Native.Nat.{ℕ, zero, suc, _+_, _<_}
 use mathlib.Core.Path.{_≡_, refl, sym, ap, _∙_}
-use mathlib.Core.Bool.{Bool, true, false, cond, not, _&&_, _||_, true≢false, or-false}
+use mathlib.Core.Bool.{Bool, true, false, cond, not, _&&_, true≢false, or-false}
 use mathlib.Core.List.{List, [], _∷_, foldl}
 use mathlib.Core.Option.{Option, none, some}
 use native.Mathlib.Omega.{arith}
@@ -15,11 +15,11 @@ use Rattle.loops.specs.Search.{anyBelow, firstPlace}
 use Rattle.loops.specs.inner.Chain.{only, onlyAt, Blind, Stands}
 use Rattle.loops.specs.Ordered.{Entry, upsert, values}
 use Rattle.loops.proofs.OrderedLaws.{alike, not-self, lookup, any-stored, stored-any}
-use Rattle.loops.proofs.BoolLaws.{and-left, and-right, both, not-true}
+use Rattle.loops.proofs.BoolLaws.{and-left, and-right, both, not-true, both-ways}
 use Rattle.loops.proofs.ListLaws.{foldl-collect}
 use Rattle.loops.proofs.RangeLaws.{fold-ext}
 use Rattle.loops.proofs.SearchLaws.{any-hit}
-use Rattle.loops.proofs.PlaceLaws.{found-at, place-none}
+use Rattle.loops.proofs.PlaceLaws.{found-at, place-none, hit}
 use Rattle.calendar.specs.Clock.{clock}
 use Rattle.rows.specs.Cells.{rowCount, num, is}
 use Rattle.sheet.specs.Places.{placeOf}
@@ -39,28 +39,10 @@ use Rattle.pieces.specs.inner.Bookings.{inPiece}
 use Rattle.pieces.proofs.Companions.{booking, of-piece}
 use Rattle.pieces.proofs.Chains.{blind-if, owned-kind, piece-kind, piece-activity}
 use Rattle.pieces.proofs.Chains as chains
-use Rattle.check7_transport.proofs.Bookings.{activity-at, bookings-of}
+use Rattle.model.proofs.Accepting.{activity-at}
+use Rattle.pieces.proofs.Bookings.{bookings-of}
 use Rattle.check7_early_piece.specs.inner.Reached.{startsAt, unreachedAt}
 use Rattle.check7_early_piece.proofs.Early.{index-order, indexAt, mapStep, mapTo, map-sorted, inPart, pieceTo, map-piece, no-piece, PieceIs, piece-is}
-
-pub record Witness (q : ℕ → Bool) (n : ℕ) : Type 0 where
-  pub place : ℕ
-  pub below : place < n
-  pub holds : q place ≡ true
-
-pub witness : (q : ℕ → Bool) (n : ℕ) → anyBelow q n ≡ true → Witness q n
-unfolding anyBelow
-witness q zero e = absurd (true≢false (sym e))
-witness q (suc n) e = go (anyBelow q n) refl e (witness q n)
-  where
-    go : (b : Bool) → anyBelow q n ≡ b → (b || q n) ≡ true → (anyBelow q n ≡ true → Witness q n) → Witness q (suc n)
-    go true h f r = let w = r h in record { place = w .place; below = let b = w .below in omega arith; holds = w .holds }
-    go false h f r = record { place = n; below = omega arith; holds = f }
-
-agree : (a b : Bool) → (a ≡ true → b ≡ true) → (b ≡ true → a ≡ true) → a ≡ b
-agree true b f g = sym (f refl)
-agree false true f g = g refl
-agree false false f g = refl
 
 alike-is : (x y : Option ℤ) → alike beforeIndex x y ≡ true → x ≡ y
 alike-is x y e = index-order .total x y (not-true _ (and-left (not (beforeIndex x y)) (not (beforeIndex y x)) e)) (not-true _ (and-right (not (beforeIndex x y)) (not (beforeIndex y x)) e))
@@ -172,16 +154,16 @@ module _ (rows : List ℤ) (acc : Accepted rows) (o : ℕ) (l : o < rowCount row
 
     pub judged-is : anyBelow judged (rowCount rows) ≡ anyOf tooEarly (values (byPart clock (sheet rows) (num rows o 1)))
     unfolding unreachedAt startsAt
-    judged-is = rw pieces-are (agree _ _ there back)
+    judged-is = rw pieces-are (both-ways _ _ there back)
       where
         there : anyBelow judged (rowCount rows) ≡ true → anyOf tooEarly (values (mapTo rows (ownedBy rows o 23) (rowCount rows))) ≡ true
         there e =
-            let u = witness judged (rowCount rows) e in
-            let g = and-left (ownedBy rows o 23 (u .place)) (unreachedAt rows a from (u .place)) (u .holds) in
-            let z = witness (startsAt rows (u .place) (from + transportBetween (sheet rows) from-where (num rows (u .place) 3 ∷ []))) (rowCount rows) (and-right (ownedBy rows o 23 (u .place)) (unreachedAt rows a from (u .place)) (u .holds)) in
+            let u = hit judged (rowCount rows) e in
+            let g = and-left (ownedBy rows o 23 (u .place)) (unreachedAt rows a from (u .place)) (u .passes) in
+            let z = hit (startsAt rows (u .place) (from + transportBetween (sheet rows) from-where (num rows (u .place) 3 ∷ []))) (rowCount rows) (and-right (ownedBy rows o 23 (u .place)) (unreachedAt rows a from (u .place)) (u .passes)) in
             to-piece (u .place) (z .place) (u .below) (z .below) g
-            (and-left (inPiece rows (u .place) (z .place)) (ltb (num rows (z .place) 4) (from + transportBetween (sheet rows) from-where (num rows (u .place) 3 ∷ []))) (z .holds))
-            (ltb-true _ _ (and-right (inPiece rows (u .place) (z .place)) (ltb (num rows (z .place) 4) (from + transportBetween (sheet rows) from-where (num rows (u .place) 3 ∷ []))) (z .holds)))
+            (and-left (inPiece rows (u .place) (z .place)) (ltb (num rows (z .place) 4) (from + transportBetween (sheet rows) from-where (num rows (u .place) 3 ∷ []))) (z .passes))
+            (ltb-true _ _ (and-right (inPiece rows (u .place) (z .place)) (ltb (num rows (z .place) 4) (from + transportBetween (sheet rows) from-where (num rows (u .place) 3 ∷ []))) (z .passes)))
 
         back : anyOf tooEarly (values (mapTo rows (ownedBy rows o 23) (rowCount rows))) ≡ true → anyBelow judged (rowCount rows) ≡ true
         back e =

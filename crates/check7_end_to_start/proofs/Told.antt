@@ -14,7 +14,6 @@ use Rattle.loops.proofs.ListLaws.{each-collect, keep-collect}
 use Rattle.calendar.specs.Clock.{clock}
 use Rattle.rows.specs.Cells.{rowCount, cell, num, is}
 use Rattle.sheet.specs.Places.{ofKind, placeOf}
-use Rattle.sheet.specs.inner.Accepted.{Accepted}
 use Rattle.owners.specs.inner.Owners.{ownerKind, ownedBy}
 use Rattle.findings.specs.declared.Violation.{Violation}
 use Rattle.findings.specs.inner.Sink.{Sink, emit}
@@ -25,7 +24,6 @@ use Rattle.model.specs.Activity.{Activity, activityAt, activities, activitiesOf
 use Rattle.model.specs.Constraint.{constraintAt, constraints}
 use Rattle.model.specs.Schedule.{precedenceViolation}
 use Rattle.model.proofs.RowLaws.{kind-is, row-none, row-here, activity-row, activity-none}
-use Rattle.model.proofs.Accepting.{found-again}
 use Rattle.model.proofs.OwnedLaws.{of-activity, of-task}
 use Rattle.model.proofs.ConstraintLaws.{precedence-row, by-constraint}
 use Rattle.definition.specs.ActivitySpan as page
@@ -109,12 +107,6 @@ module _ (rows : List ℤ) (id : ℕ) where
 -- ---- the activities of a task
 
 module _ (rows : List ℤ) where
-  pub activity-at : Accepted rows → (o : ℕ) → o < rowCount rows → is rows o 0 2 ≡ true → placeOf rows 2 (num rows o 1) ≡ some o
-  activity-at acc o l h = found-again rows acc o 2 l refl h
-
-  pub task-at : Accepted rows → (o : ℕ) → o < rowCount rows → is rows o 0 1 ≡ true → placeOf rows 1 (num rows o 1) ≡ some o
-  task-at acc o l h = found-again rows acc o 1 l refl h
-
   -- a loop along the activities of a task stands at one
   pub stands-activity : (t : ℕ) {n N i : ℕ} → i < N → N ≡ n → Stands (ownedBy rows t 2) n i → is rows i 0 2 ≡ true
   stands-activity t {n} {N} {i} l z a = owned-kind rows t 2 i (a .here (omega arith))

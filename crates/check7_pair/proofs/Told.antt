@@ -1,15 +1,14 @@
 -- What the code tells of two steps is what `checkPair` says. Assumes nothing.
 use Prim.Native.Nat.{ℕ}
 use mathlib.Core.Path.{_≡_, refl, sym, ap, _∙_}
-use mathlib.Core.Bool.{Bool, true, false}
-use mathlib.Core.List.{List, [], _++_}
+use mathlib.Core.Bool.{Bool, false}
+use mathlib.Core.List.{List, [], _++_, append-nil}
 use mathlib.Core.Option.{Option, none, some}
 use lib.IntN.{ℤ, pos, _+ℤ_, +ℤ-comm}
 use lib.Signed.{ltZ}
 use Rattle.loops.specs.Lists.{given, anyOf, each, option}
 use Rattle.calendar.specs.Clock.{clock}
 use Rattle.rows.specs.Cells.{cell, num}
-use Rattle.findings.specs.declared.Violation.{Violation}
 use Rattle.findings.specs.inner.Sink.{Sink, emit}
 use Rattle.findings.proofs.SinkLaws.{emit-none, emit-then}
 use Rattle.overlap.specs.declared.Overlap.{Overlap}
@@ -83,11 +82,7 @@ module _ (rows : List ℤ) (before after : ℕ) (s : Sink) {x : ActivitySpan} {i
         → s′ ≡ emit s (given (startsEarly rows (num rows before 1) (num rows after 1) (pos e)) (precedenceViolation 7 (num rows after 1)))
         → s′ ≡ emit s (checkPair clock (sheet rows) (activityOf rows before) (activityOf rows after))
     unfolding checkPair startsEarly
-    in-order o h = rw (span-is (Between a e) z, o) (h ∙ ap (emit s) (sym (alone (startsEarly rows (num rows before 1) (num rows after 1) (pos e)) (precedenceViolation 7 (num rows after 1)))))
-      where
-        alone : (b : Bool) (v : Violation) → given b v ++ [] ≡ given b v
-        alone true v = refl
-        alone false v = refl
+    in-order o h = rw (span-is (Between a e) z, o) (h ∙ ap (emit s) (sym (append-nil (given (startsEarly rows (num rows before 1) (num rows after 1) (pos e)) (precedenceViolation 7 (num rows after 1))))))
 
     pub overlapping : {o : Overlap} → overlap (sheet rows) (num rows after 1) ≡ some o
         → s′ ≡ emit s (given (startsEarly rows (num rows before 1) (num rows after 1) (earliestStart clock o (pos a) (pos e))) (precedenceViolation 7 (num rows after 1))

@@ -1,3 +1,2 @@
-pub mod Bookings
 pub mod Moves
 pub mod Longest

@@ -19,7 +19,8 @@ use Rattle.model.specs.Resource.{transportTo, transportBetween}
 use Rattle.definition.specs.Pieces.{resourcesOf}
 use Rattle.definition.specs.CheckPrecedence.{runsOnAll}
 use Rattle.pieces.proofs.Companions.{booking}
-use Rattle.check7_transport.proofs.Bookings.{activity-at, bookings-of}
+use Rattle.model.proofs.Accepting.{activity-at}
+use Rattle.pieces.proofs.Bookings.{bookings-of}
 
 longest-from : (c : ℕ) (l : List ℕ) → foldl max c l ≡ max c (foldl max 0 l)
 longest-from c [] = omega arith

@@ -2,7 +2,7 @@
 use Prim.Native.Nat.{ℕ, zero, suc, _+_, _<_, _≤_}
 use mathlib.Core.Path.{_≡_, refl, ap, sym, _∙_}
 use mathlib.Core.Bool.{Bool, true, false, _||_, true≢false}
-use mathlib.Core.List.{List, [], _++_}
+use mathlib.Core.List.{List, [], _++_, append-nil}
 use mathlib.Core.Option.{Option, none, some}
 use native.Mathlib.Omega.{arith}
 use native.Mathlib.Decide.{ℕ-discrete}
@@ -23,14 +23,10 @@ use Rattle.definition.specs.ActivitySpan.{Span, activitySpan}
 use Rattle.definition.specs.CheckConstraints.{checkConstraint, checkConstraintAt}
 use Rattle.check9_constraints.specs.inner.Outside.{outsideAt}
 
-pub given-nil : (b : Bool) (f : Violation) → given b f ++ [] ≡ given b f
-given-nil true f = refl
-given-nil false f = refl
-
 module _ (rows : List ℤ) (k : ℕ) where
   reported : (x : Option (Span ℤ)) (test : Span ℤ → Bool) (f : Violation) → option x [] (λ y. given (test y) f) ++ [] ≡ given (option x false test) f
   reported none test f = refl
-  reported (some y) test f = given-nil (test y) f
+  reported (some y) test f = append-nil (given (test y) f)
 
   pub window-found : is rows k 0 19 ≡ true → checkConstraintAt clock (sheet rows) k ≡ given (outsideAt rows k) (timeWindowViolation 9 (num rows k 1))
   unfolding checkConstraintAt checkConstraint each outsideAt

@@ -34,7 +34,6 @@ use Rattle.model.proofs.RowLaws.{kind-is, assignment-row, assignment-none}
 use Rattle.model.proofs.ConstraintLaws.{overlap-row}
 use Rattle.definition.specs.CheckConstraints.{firstOn, overlapping, checkOverlaps, checkConstraint, checkConstraintAt}
 use Rattle.check9_constraints.specs.inner.Bookings.{bookedOn, memberBooking, overlapAt, pairAt, pairsAt}
-use Rattle.check9_constraints.proofs.ConstraintRows.{given-nil}
 
 ltb-suc : (a b : ℕ) → ltb (suc a) (suc b) ≡ ltb a b
 ltb-suc a b = go (decLt a b)
@@ -58,7 +57,7 @@ module _ (rows : List ℤ) (r : ℕ) where
   both-one : (a : Assignment ℤ) (y : Option (Assignment ℤ)) → each (λ b. given (overlapping clock (sheet rows) a b) (capacityExceeded 9 r)) (one y) ≡ both (some a) y
   unfolding each one both
   both-one a none = refl
-  both-one a (some b) = given-nil (overlapping clock (sheet rows) a b) (capacityExceeded 9 r)
+  both-one a (some b) = append-nil (given (overlapping clock (sheet rows) a b) (capacityExceeded 9 r))
 
   -- the findings of the first with all others, and those of the others
   first-apart : (x : Option (Assignment ℤ)) (l : List (Assignment ℤ))

@@ -2,7 +2,7 @@
 use Prim.Native.Nat.{ℕ, suc, _<_, _≤_}
 use mathlib.Core.Path.{_≡_, refl, ap, sym, _∙_}
 use mathlib.Core.Bool.{Bool, true, false, cond, not, _&&_, _||_, and-true}
-use mathlib.Core.List.{List, [], _∷_, _++_, foldl}
+use mathlib.Core.List.{List, [], _∷_, _++_, foldl, append-nil}
 use mathlib.Core.Option.{Option, none, some}
 use native.Mathlib.Omega.{arith}
 use native.Mathlib.Decide.{ℕ-discrete, decLt}
@@ -29,7 +29,6 @@ use Rattle.definition.specs.ActivitySpan.{Span, activitySpan}
 use Rattle.definition.specs.CheckRequirements.{sameTime}
 use Rattle.definition.specs.CheckConstraints as page
 use Rattle.check9_constraints.specs.inner.Seen.{Seen, missing, differing, alike, empty, withSpan, withMember, differs}
-use Rattle.check9_constraints.proofs.ConstraintRows.{given-nil}
 
 -- equal instants are those of which none comes first
 pub same-pos : (a b : ℕ) → eqb a b ≡ (not (ltb b a) && not (ltb a b))
@@ -153,4 +152,4 @@ pub synchronize-found : (rows : List ℤ) (k p : ℕ) {z : Seen} → is rows k 0
     → page.checkConstraintAt clock (sheet rows) k ≡ given (differs z) (synchronizeViolation 9 p)
 unfolding page.checkConstraintAt page.checkConstraint each
 synchronize-found rows k p {z} h e q =
-    rw (synchronize-row rows k h, ← e, ← unsynchronized rows p q) (given-nil (differs z) (synchronizeViolation 9 p))
+    rw (synchronize-row rows k h, ← e, ← unsynchronized rows p q) (append-nil (given (differs z) (synchronizeViolation 9 p)))

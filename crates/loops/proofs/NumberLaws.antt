@@ -3,12 +3,19 @@ use Prim.Native.Nat.{ℕ, zero, suc, _+_, _-_, _<_, _≤_}
 use mathlib.Core.Path.{_≡_, refl, sym, ap₂, subst, _∙_}
 use mathlib.Core.Bool.{Bool, true, false, cond}
 use native.Mathlib.Omega.{arith}
-use native.Mathlib.Decide.{decLt}
-use borrow.Author.Tests.{lt-ltb, le-ltb, ltb-true, ltb-false}
+use native.Mathlib.Decide.{decLt, ℕ-discrete}
+use borrow.Author.Tests.{lt-ltb, le-ltb, ltb-true, ltb-false, eq-eqb, ne-eqb}
 use lib.Signed.{ltZ}
-use lib.Dec.{T, ltb, ltb→lt}
+use lib.Dec.{T, eqb, ltb, ltb→lt}
 use lib.IntN.{pos, negsuc, _-ℤ_}
 use Rattle.loops.specs.Numbers.{toNat}
+
+pub eqb-swap : (a b : ℕ) → eqb a b ≡ eqb b a
+eqb-swap a b = go (ℕ-discrete a b)
+  where
+    go : Dec (a ≡ b) → eqb a b ≡ eqb b a
+    go (yes q) = rw (eq-eqb a b q, eq-eqb b a (sym q))
+    go (no q) = rw (ne-eqb a b q, ne-eqb b a (λ z. q (sym z)))
 
 -- a difference of two natural numbers, cut at 0
 pub gap : (a e : ℕ) → toNat (pos e -ℤ pos a) ≡ e - a

@@ -20,6 +20,24 @@ or-some (some j) b n k e = inl e
 or-some none true n k e = inr (refl, cc)
 or-some none false n k e = let z : _≡_ {A = ℕ} 0 1 = cc in absurd (omega arith)
 
+pub some-is : {j k : ℕ} → _≡_ {A = Option ℕ} (some j) (some k) → j ≡ k
+some-is e = cc
+
+-- a place below n that passes
+pub record Hit (p : ℕ → Bool) (n : ℕ) : Type 0 where
+  pub place : ℕ
+  pub below : place < n
+  pub passes : p place ≡ true
+
+pub hit : (p : ℕ → Bool) (n : ℕ) → anyBelow p n ≡ true → Hit p n
+unfolding anyBelow
+hit p zero e = absurd (true≢false (sym e))
+hit p (suc n) e = go (anyBelow p n) refl e (hit p n)
+  where
+    go : (b : Bool) → anyBelow p n ≡ b → (b || p n) ≡ true → (anyBelow p n ≡ true → Hit p n) → Hit p (suc n)
+    go true h f r = let w = r h in record { place = w .place; below = let b = w .below in omega arith; passes = w .passes }
+    go false h f r = record { place = n; below = omega arith; passes = f }
+
 module _ (p : ℕ → Bool) where
   pub found-at : (n k : ℕ) → firstPlace p n ≡ some k → (k < n) × (p k ≡ true)
   unfolding firstPlace
@@ -82,9 +100,6 @@ module _ (p : ℕ → Bool) where
   pub none-before : (n j : ℕ) → firstPlace p n ≡ some j → (i : ℕ) → i < j → p i ≡ false
   none-before n j e i l = go (firstPlace p j) refl
     where
-      some-is : {j k : ℕ} → _≡_ {A = Option ℕ} (some j) (some k) → j ≡ k
-      some-is e = cc
-
       go : (x : Option ℕ) → firstPlace p j ≡ x → p i ≡ false
       go none f = place-none p j f i l
       go (some m) f =

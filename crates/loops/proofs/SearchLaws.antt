@@ -96,6 +96,11 @@ module _ (p : ℕ → Bool) where
       go true q = absurd (let z : _≡_ {A = Bool} true false = sym (any-here n i l q) ∙ e in let w : _≡_ {A = ℕ} 0 1 = cc in omega arith)
       go false q = q
 
+  pub none-below : (n : ℕ) → ((k : ℕ) → k < n → p k ≡ false) → anyBelow p n ≡ false
+  unfolding anyBelow
+  none-below zero h = refl
+  none-below (suc n) h = rw (none-below n (λ k l. h k (omega arith)), h n (omega arith))
+
   pub count-zero : 0 ≡ countBelow p 0
   unfolding countBelow
   count-zero = refl

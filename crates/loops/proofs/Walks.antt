@@ -103,6 +103,10 @@ unfolding only
 silent-only p f = record { still = λ k z. rw z }
 
 -- a turn that makes no test, since the chain made it
+pub only-here : {A : Type 0} (p : ℕ → Bool) (f : ℕ → List A) {n N i : ℕ} → i < N → N ≡ n → Stands p n i → only p f i ≡ f i
+unfolding only
+only-here p f l z a = rw (a .here (omega arith))
+
 pub at-only : {B : Type 0} (p : ℕ → Bool) (f : B → ℕ → B) (n N i : ℕ) {e e′ : B} → i < N → N ≡ n → Stands p n i → e′ ≡ f e i → e′ ≡ onlyAt p f e i
 unfolding onlyAt
 at-only p f n N i l z a t = rw (a .here (omega arith)) t

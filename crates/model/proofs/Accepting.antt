@@ -1,7 +1,7 @@
 -- What a sheet has that refusals 1 to 5 do not refuse: at most 800 rows, each number in the class of its column, every owner, no id twice. Assumes nothing.
 use Prim.Native.Nat.{ℕ, zero, suc, _+_, _*_, _%_, _<_, _≤_}
 use mathlib.Core.Path.{_≡_, refl, ap, sym, _∙_}
-use mathlib.Core.Bool.{Bool, true, false, not, _||_, true≢false}
+use mathlib.Core.Bool.{Bool, true, false, not, true≢false}
 use mathlib.Core.List.{List}
 use mathlib.Core.Option.{Option, none, some}
 use native.Mathlib.Omega.{arith}
@@ -13,7 +13,7 @@ use lib.Dec.{eqb, ltb}
 use lib.ListN.{length}
 use Rattle.loops.specs.Numbers.{toNat}
 use Rattle.loops.specs.Search.{orElse, first, anyBelow}
-use Rattle.loops.proofs.BoolLaws.{and-left, and-right}
+use Rattle.loops.proofs.BoolLaws.{and-left, and-right, neither-left, neither-right}
 use Rattle.loops.proofs.SearchLaws.{any-none}
 use Rattle.loops.proofs.PlaceLaws.{or-none-left, or-none-right, first-none, if-none, place-only}
 use Rattle.rows.specs.Cells.{rowCount, cell, num, is}
@@ -29,14 +29,6 @@ use Rattle.sheet.specs.inner.Groups.{once}
 use Rattle.sheet.specs.inner.Accepted.{Accepted}
 use Rattle.sheet.proofs.Groups.{once-repeats}
 use Rattle.sheet.proofs.Lookups.{is-num}
-
-or-false-left : (a b : Bool) → (a || b) ≡ false → a ≡ false
-or-false-left true b e = e
-or-false-left false b e = refl
-
-or-false-right : (a b : Bool) → (a || b) ≡ false → b ≡ false
-or-false-right true b e = absurd (true≢false e)
-or-false-right false b e = e
 
 record Passed (rows : List ℤ) : Type 0 where
   shape : misshapen (length rows) ≡ false
@@ -61,12 +53,12 @@ passed rows h =
     }
 
 -- past the last row all is 0
-blank-zero : (c : ℕ) → inClass (classOf 0 c) (pos 0) ≡ true
+pub blank-zero : (c : ℕ) → inClass (classOf 0 c) (pos 0) ≡ true
 unfolding inClass inRange between
 blank-zero zero = refl
 blank-zero (suc c) = refl
 
-blank-wide : inClass blank-c (pos 0) ≡ true
+pub blank-wide : inClass blank-c (pos 0) ≡ true
 unfolding inClass inRange between
 blank-wide = refl
 
@@ -74,8 +66,8 @@ module _ (rows : List ℤ) (p : Passed rows) where
   whole : (length rows % 10 ≡ 0) × (length rows ≤ 8000)
   unfolding misshapen
   whole = (
-    eqb-true _ 0 (not-false _ (or-false-left (not (eqb (length rows % 10) 0)) (ltb 8000 (length rows)) (p .shape))),
-    ltb-false 8000 _ (or-false-right (not (eqb (length rows % 10) 0)) (ltb 8000 (length rows)) (p .shape)),
+    eqb-true _ 0 (not-false _ (neither-left (not (eqb (length rows % 10) 0)) (ltb 8000 (length rows)) (p .shape))),
+    ltb-false 8000 _ (neither-right (not (eqb (length rows % 10) 0)) (ltb 8000 (length rows)) (p .shape)),
   )
 
   past : (k c : ℕ) → rowCount rows ≤ k → length rows ≤ k * 10 + c
@@ -91,7 +83,7 @@ module _ (rows : List ℤ) (p : Passed rows) where
 
   cells-in : (k c : ℕ) → k < rowCount rows → c < 10 → inClass (classOf (num rows k 0) c) (cell rows k c) ≡ true
   unfolding outOfRange badCell
-  cells-in k c h l = not-false _ (any-none (badCell rows k) 10 c (or-false-left (anyBelow (badCell rows k) 10) (halfPart rows k) (in-order k h)) l)
+  cells-in k c h l = not-false _ (any-none (badCell rows k) 10 c (neither-left (anyBelow (badCell rows k) 10) (halfPart rows k) (in-order k h)) l)
 
   cells : (k c : ℕ) → inClass (classOf (num rows k 0) c) (cell rows k c) ≡ true
   cells k c = go (decLt k (rowCount rows)) (decLt c 10)
@@ -103,7 +95,7 @@ module _ (rows : List ℤ) (p : Passed rows) where
 
   whole-parts : (k : ℕ) → k < rowCount rows → halfPart rows k ≡ false
   unfolding outOfRange
-  whole-parts k h = or-false-right (anyBelow (badCell rows k) 10) (halfPart rows k) (in-order k h)
+  whole-parts k h = neither-right (anyBelow (badCell rows k) 10) (halfPart rows k) (in-order k h)
 
   owned-in : (k c : ℕ) → k < rowCount rows → c < 10 → absentAt rows k c ≡ false
   unfolding ownerFault unowned
@@ -202,3 +194,9 @@ module _ (rows : List ℤ) (a : Accepted rows) where
       (λ j l m. sym
       (one-row k j kind h l o e (and-left (is rows j 0 kind) (is rows j 1 (num rows k 1)) m)
       (sym (eqb-true (num rows j 1) (num rows k 1) (and-right (is rows j 0 kind) (is rows j 1 (num rows k 1)) m)))))
+
+  pub task-at : (o : ℕ) → o < rowCount rows → is rows o 0 1 ≡ true → placeOf rows 1 (num rows o 1) ≡ some o
+  task-at o l h = found-again o 1 l refl h
+
+  pub activity-at : (o : ℕ) → o < rowCount rows → is rows o 0 2 ≡ true → placeOf rows 2 (num rows o 1) ≡ some o
+  activity-at o l h = found-again o 2 l refl h

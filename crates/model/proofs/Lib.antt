@@ -5,3 +5,4 @@ pub mod RowLaws
 pub mod Standing
 pub mod Finds
 pub mod Requiring
+pub mod Tasks

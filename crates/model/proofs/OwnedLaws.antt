@@ -16,9 +16,6 @@ use Rattle.sheet.proofs.Lookups.{is-num, Named, placed}
 use Rattle.owners.specs.inner.Owners.{ownerKind, ownerOf, ownerPlace, ownPlace, ownedBy}
 
 module _ (rows : List ℤ) where
-  some-is : {j k : ℕ} → _≡_ {A = Option ℕ} (some j) (some k) → j ≡ k
-  some-is e = cc
-
   -- the place that a number stands for is that of the id's row
   same-place : (y id v a : ℕ) → placeOf rows y id ≡ some a → eqb (orEnd rows (placeOf rows y v)) a ≡ eqb v id
   same-place y id v a q = go (ℕ-discrete v id)

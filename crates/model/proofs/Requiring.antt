@@ -18,6 +18,7 @@ use Rattle.loops.proofs.BoolLaws.{and-left, and-right}
 use Rattle.loops.proofs.ListLaws.{count-append, any-collect}
 use Rattle.loops.proofs.RangeLaws.{collect-ext}
 use Rattle.loops.proofs.PlaceLaws.{place-only, any-same}
+use Rattle.loops.proofs.NumberLaws.{eqb-swap}
 use Rattle.rows.specs.Cells.{rowCount, cell, num, is}
 use Rattle.sheet.specs.Places.{placeOf, named, isNth, nthPlace, requirementPlace}
 use Rattle.sheet.specs.inner.Index.{orEnd}
@@ -28,13 +29,6 @@ use Rattle.model.specs.inner.Records.{numAt, requirementOf}
 use Rattle.model.specs.Activity.{ResourceRequirement, requirementAt, namedFor, candidates}
 use Rattle.model.proofs.RowLaws.{kind-is}
 use Rattle.model.proofs.OwnedLaws.{of-activity}
-
-pub eqb-swap : (a b : ℕ) → eqb a b ≡ eqb b a
-eqb-swap a b = go (ℕ-discrete a b)
-  where
-    go : Dec (a ≡ b) → eqb a b ≡ eqb b a
-    go (yes e) = eq-eqb a b e ∙ sym (eq-eqb b a (sym e))
-    go (no e) = ne-eqb a b e ∙ sym (ne-eqb b a (λ z. e (sym z)))
 
 -- ---- number m of the places that pass
 

@@ -1,5 +1,5 @@
 -- The rows that name two things stand in the chain of their owner; a walk along it finds the first. Assumes nothing.
-use Prim.Native.Nat.{ℕ, zero, suc, _<_, _≤_}
+use Prim.Native.Nat.{ℕ, _<_, _≤_}
 use mathlib.Core.Path.{_≡_, refl, sym, ap, ap₂, _∙_}
 use mathlib.Core.Bool.{Bool, true, false, not, _&&_, true≢false}
 use mathlib.Core.Option.{Option, none, some}
@@ -11,7 +11,7 @@ use borrow.Author.Tests.{eq-eqb, eqb-true}
 use Rattle.loops.specs.inner.Chain.{Stands, Blind}
 use Rattle.loops.specs.Search.{anyBelow, firstPlace}
 use Rattle.loops.proofs.BoolLaws.{and-left, and-right}
-use Rattle.loops.proofs.SearchLaws.{any-none, any-hit, place-hit}
+use Rattle.loops.proofs.SearchLaws.{any-none, any-hit, none-below, place-hit}
 use Rattle.loops.proofs.PlaceLaws.{found-at, place-none, none-before, any-less}
 use Rattle.rows.specs.Cells.{rowCount, num, is}
 use Rattle.sheet.specs.Places.{named, placeOf, activityPlace, resourcePlace}
@@ -118,20 +118,15 @@ module _ (q : ℕ → Bool) where
   pub found-none : {p : ℕ → Bool} (n i N : ℕ) → N ≤ i → N ≡ n → Stands p n i → anyBelow q i ≡ false → none ≡ firstPlace q n
   found-none n i N l z s e = let w : i ≡ n = omega (arith, s .high) in sym (rw w at (place-below i e))
 
-  pub none-below : (n : ℕ) → ((k : ℕ) → k < n → q k ≡ false) → anyBelow q n ≡ false
-  unfolding anyBelow
-  none-below zero h = refl
-  none-below (suc n) h = rw (none-below n (λ k l. h k (omega arith)), h n (omega arith))
-
   pub place-never : (n : ℕ) → ((k : ℕ) → k < n → q k ≡ false) → firstPlace q n ≡ none
-  place-never n h = place-below n (none-below n h)
+  place-never n h = place-below n (none-below q n h)
 
   -- whether there is any, by the search
   pub any-found : (n i : ℕ) → some i ≡ firstPlace q n → true ≡ anyBelow q n
   any-found n i e = let f = found-at q n i (sym e) in any-hit q i n n (f .0) refl (f .1)
 
   pub none-found : (n : ℕ) → none ≡ firstPlace q n → false ≡ anyBelow q n
-  none-found n e = sym (none-below n (place-none q n (sym e)))
+  none-found n e = sym (none-below q n (place-none q n (sym e)))
 
 -- ---- rows that name an owner which is not in the sheet: there are none
 

@@ -1,20 +1,25 @@
 -- Who is held, as a search over rows. Assumes nothing.
-use Prim.Native.Nat.{ℕ, _<_}
+use Prim.Native.Nat.{ℕ, _<_, _≤_}
 use mathlib.Core.Path.{_≡_, refl, sym, ap, ap₂, _∙_}
-use mathlib.Core.Bool.{Bool, Bool·beq, true, false, not, _&&_, true≢false, or-false}
+use mathlib.Core.Bool.{Bool, Bool·beq, true, false, not, _&&_, cond, true≢false, or-false, and-false}
 use mathlib.Core.List.{List}
-use native.Mathlib.Decide.{ℕ-discrete}
+use native.Mathlib.Omega.{arith}
 use lib.Dec.{eqb}
 use lib.IntN.{ℤ, pos}
-use borrow.Author.Tests.{eq-eqb, ne-eqb}
+use lib.ListN.{replicate}
 use Rattle.loops.specs.Lists.{given, keep, anyOf, among}
 use Rattle.loops.specs.Range.{collect}
 use Rattle.loops.specs.Search.{anyBelow}
+use Rattle.loops.specs.inner.Chain.{First}
 use Rattle.loops.proofs.ListLaws.{any-map, any-keep, any-collect}
+use Rattle.loops.proofs.NumberLaws.{eqb-swap}
+use Rattle.loops.proofs.SearchLaws.{none-below}
 use Rattle.loops.proofs.PlaceLaws.{any-same}
+use Rattle.loops.proofs.StoreLaws.{filled-start}
 use Rattle.rows.specs.Cells.{rowCount, cell, num, is}
 use Rattle.rows.specs.Class.{n?-c}
 use Rattle.rows.specs.Ranges.{isNone, inClass}
+use Rattle.sheet.specs.Places.{ofKind}
 use Rattle.sheet.specs.Refusals.{halfPart}
 use Rattle.sheet.specs.inner.Accepted.{Accepted}
 use Rattle.model.specs.Sheet.{sheet, rowAt}
@@ -24,15 +29,8 @@ use Rattle.model.specs.Schedule.{Assignment, asPart, assignmentAt, assignmentsB
 use Rattle.model.proofs.RowLaws.{kind-is, row-none, row-here, assignment-row, assignment-none}
 use Rattle.definition.specs.Pieces.{indexOf, sameIndex, ofPiece, heldAmong, assignedWith, isHeld}
 use Rattle.pieces.specs.inner.Bookings.{keyAt, inPiece, names, holdsFor}
-use Rattle.pieces.specs.inner.Held.{heldAt}
+use Rattle.pieces.specs.inner.Held.{heldAt, Held}
 use Rattle.pieces.proofs.Indices.{indexIn, same-key, index-in}
-
-eqb-sym : (a b : ℕ) → eqb a b ≡ eqb b a
-eqb-sym a b = go (ℕ-discrete a b)
-  where
-    go : Dec (a ≡ b) → eqb a b ≡ eqb b a
-    go (yes q) = rw (eq-eqb a b q, eq-eqb b a (sym q))
-    go (no q) = rw (ne-eqb a b q, ne-eqb b a (λ z. q (sym z)))
 
 module _ (rows : List ℤ) where
   -- ---- a booking's row
@@ -87,7 +85,7 @@ module _ (rows : List ℤ) where
       ∙ any-same _ _ (rowCount rows) (λ i l. at i (is rows i 0 13) refl)
     where
       pick : (b : Bool) (v : ℕ) → anyOf (eqb r) (given b v) ≡ (b && eqb v r)
-      pick true v = unfold anyOf in (or-false (eqb r v) ∙ eqb-sym r v)
+      pick true v = unfold anyOf in (or-false (eqb r v) ∙ eqb-swap r v)
       pick false v = unfold anyOf in refl
 
       at : (i : ℕ) (b : Bool) → is rows i 0 13 ≡ b
@@ -137,3 +135,30 @@ module _ (rows : List ℤ) where
   -- the same, of what the code found
   pub held-as : Accepted rows → (k : ℕ) {r : Bool} → k < rowCount rows → is rows k 0 23 ≡ true → r ≡ anyBelow (holdsFor rows k) (rowCount rows) → r ≡ heldAt rows k
   held-as acc k l h e = e ∙ sym (held-booking acc k l h)
+
+  -- a sheet that names no companions holds nobody
+  module _ (acc : Accepted rows) {n i : ℕ} (f : First (ofKind rows 13) 0 (rowCount rows) i) (q : n ≡ rowCount rows) (l : n ≤ i) where
+    not-named : (a b j : ℕ) → j < rowCount rows → names rows 13 a b j ≡ false
+    unfolding names ofKind
+    not-named a b j m = rw (f .none j (omega arith) (omega arith))
+
+    not-holding : (k j : ℕ) → holdsFor rows k j ≡ false
+    unfolding holdsFor
+    not-holding k j =
+        ap (λ z. inPiece rows k j && (not (is rows j 3 (num rows k 3)) && z)) (none-below _ (rowCount rows) (not-named (num rows j 3) (num rows k 3)))
+        ∙ ap (λ z. inPiece rows k j && z) (and-false (not (is rows j 3 (num rows k 3))))
+        ∙ and-false (inPiece rows k j)
+
+    not-held : (k : ℕ) → k < rowCount rows → heldAt rows k ≡ false
+    not-held k m = go (is rows k 0 23) refl
+      where
+        go : (b : Bool) → is rows k 0 23 ≡ b → heldAt rows k ≡ false
+        go true h = held-booking acc k m h ∙ none-below _ (rowCount rows) (λ j _. not-holding k j)
+        go false h = held-none k h
+
+    pub none-held : rowCount rows ≤ 800 → Held rows (replicate 800 0)
+    none-held s = record {
+      short = s;
+      at = λ k m. filled-start (λ _. 0) .rest k (omega arith) ∙ sym (ap (λ b. cond b 1 0) (not-held k m));
+      past = λ k m. filled-start (λ _. 0) .rest k (omega arith);
+    }

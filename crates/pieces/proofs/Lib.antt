@@ -1,3 +1,4 @@
+pub mod Bookings
 pub mod Chains
 pub mod Companions
 pub mod Indices

@@ -232,8 +232,8 @@ fn held_at(
     false
 }
 
-// 1 at each booking that is held.
-pub fn held_of(
+// 1 at each booking that is held, each looked at.
+fn marks_of(
     rows: &[i64],
     kinds: &[u16; 3680],
     links: &[u16; 1600],
@@ -251,6 +251,22 @@ pub fn held_of(
         k += 1;
     }
     held
+}
+
+// 1 at each booking that is held. Where the sheet names no companions that is none.
+pub fn held_of(
+    rows: &[i64],
+    kinds: &[u16; 3680],
+    links: &[u16; 1600],
+    owned: &[u16; 8810],
+) -> [u8; 800]
+    requires { ⌜ Accepted (now rows) × Kinds (now rows) (now kinds) × Linked (now rows) (now links) × Owned (now rows) (now owned) ⌝ }
+    ensures { λ r. ⌜ Held (now (rows .entry)) r ⌝ }
+{
+    if rows::row_count(rows) <= sheet::first_of(rows, kinds, 13) {
+        return [0u8; 800];
+    }
+    marks_of(rows, kinds, links, owned)
 }
 
 // Whether booking k is held, by the marks.

@@ -1,19 +1,23 @@
 -- Laws of the lookups: a row by kind and id, and number m of the rows that pass a test. Assumes nothing.
 use Prim.Native.Nat.{ℕ, zero, suc, _+_, _<_, _≤_}
-use mathlib.Core.Path.{_≡_, refl, sym, _∙_}
+use mathlib.Core.Path.{_≡_, refl, sym, ap, _∙_}
 use mathlib.Core.Bool.{Bool, true, false, cond, _&&_}
 use mathlib.Core.List.{List}
-use mathlib.Core.Option.{none, some}
+use mathlib.Core.Option.{Option, none, some}
 use native.Mathlib.Omega.{arith}
 use lib.Dec.{eqb}
 use lib.IntN.{ℤ}
 use borrow.Author.Tests.{eqb-true, eq-eqb, ne-eqb}
+use Rattle.loops.specs.Lists.{option}
 use Rattle.loops.specs.Search.{orElse, someIf, firstPlace, countBelow}
 use Rattle.loops.specs.inner.Chain.{Blind}
 use Rattle.loops.proofs.BoolLaws.{and-left, and-right}
 use Rattle.loops.proofs.PlaceLaws.{found-at}
 use Rattle.rows.specs.Cells.{rowCount, num, is}
 use Rattle.sheet.specs.Places.{named, placeOf, isNth, nthPlace}
+use Rattle.sheet.specs.declared.Found.{Found}
+use Rattle.sheet.specs.declared.Found.the-variants.{At, Nothing}
+use Rattle.sheet.specs.inner.Found.{foundOf}
 
 pub is-num : (rows : List ℤ) (k c v : ℕ) → is rows k c v ≡ true → num rows k c ≡ v
 unfolding is
@@ -41,10 +45,15 @@ placed rows x id k e =
       id-is = is-num rows k 1 id (and-right (is rows k 0 x) (is rows k 1 id) (f .1));
     }
 
--- ---- number m of the rows that pass a test
+-- what is said of the row that a lookup answers, and d where it answers none
+module _ {A : Type 0} (d : A) (g : ℕ → A) {f : Found} {x : Option ℕ} where
+  pub told-nothing : foundOf f ≡ x → f ≡ Nothing → d ≡ option x d g
+  told-nothing e q = rw (sym e ∙ ap foundOf q)
 
-pub self-blind : (p : ℕ → Bool) → Blind p p
-self-blind p = record { still = λ k e. e }
+  pub told-at : {y : A} {k : ℕ} → foundOf f ≡ x → f ≡ At k → y ≡ g k → y ≡ option x d g
+  told-at e q h = rw (sym e ∙ ap foundOf q) h
+
+-- ---- number m of the rows that pass a test
 
 pub nth-blind : {p q : ℕ → Bool} (m : ℕ) → Blind p q → Blind p (isNth q m)
 unfolding isNth

@@ -13,7 +13,6 @@ use borrow.Author.Tests.{eqb-true, not-true, not-false}
 use Rattle.loops.specs.Numbers.{toNat}
 use Rattle.loops.specs.Search.{anyBelow}
 use Rattle.loops.proofs.SearchLaws.{any-none}
-use Rattle.rows.specs.Class.{blank-c}
 use Rattle.rows.specs.Table.{classOf}
 use Rattle.rows.specs.Ranges.{between, isNone, inRange, inClass}
 use Rattle.rows.specs.Cells.{cell, num}
@@ -23,6 +22,7 @@ use Rattle.definition.specs.CheckSchedule.{findings}
 use Rattle.shift.specs.Shift.{shifted, Shifted}
 use Rattle.shift.specs.inner.InClass.{InClass}
 use Rattle.shift.proofs.Shift.{same-findings}
+use Rattle.model.proofs.Accepting.{blank-zero, blank-wide}
 
 abbrev eqZ : ℤ → ℤ → Bool
 eqZ (pos a) (pos b) = eqb a b
@@ -57,15 +57,6 @@ kind-zero : (d x : ℤ) (c : ℕ) → shifted d (classOf 0 c) x ≡ x
 kind-zero d x zero = refl
 kind-zero d x (suc c) = refl
 
-zero-in : (c : ℕ) → inClass (classOf 0 c) (pos 0) ≡ true
-unfolding inClass inRange between
-zero-in zero = refl
-zero-in (suc c) = refl
-
-blank-in : inClass blank-c (pos 0) ≡ true
-unfolding inClass inRange between
-blank-in = refl
-
 -- the two records, by tests of the cells of n rows
 shifted-tested : (d : ℤ) (a b : List ℤ) (n : ℕ) → length a ≡ n * 10 → length b ≡ n * 10
     → everywhere (λ k c. eqZ (cell b k c) (shifted d (classOf (num a k 0) c) (cell a k c))) n ≡ true
@@ -88,8 +79,8 @@ class-tested rows n p h = record { columns = λ k c. go k c (decLt k n) (decLt c
   where
     go : (k c : ℕ) → Dec (k < n) → Dec (c < 10) → inClass (classOf (num rows k 0) c) (cell rows k c) ≡ true
     go k c (yes l) (yes m) = at-cell (λ k c. inClass (classOf (num rows k 0) c) (cell rows k c)) n h k c l m
-    go k c (yes l) (no m) = rw (class-wide (num rows k 0) c (omega arith), ← cell-wide rows k c (omega arith)) blank-in
-    go k c (no l) m = rw (past-kind rows k (omega (arith, p)), past-row rows k c (omega (arith, p))) (zero-in c)
+    go k c (yes l) (no m) = rw (class-wide (num rows k 0) c (omega arith), ← cell-wide rows k c (omega arith)) blank-wide
+    go k c (no l) m = rw (past-kind rows k (omega (arith, p)), past-row rows k c (omega (arith, p))) (blank-zero c)
 
 -- ---- the two sheets: a task with a deadline, and an activity that has no requirement and no span
 

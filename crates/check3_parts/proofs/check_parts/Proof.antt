@@ -6,9 +6,9 @@ use Prim.Native.Nat.{_-_}
 use native.Mathlib.Omega.{arith}
 use Rattle.findings.specs.inner.Sink.{sink, emit}
 use Rattle.findings.proofs.SinkLaws.{kept}
-use Rattle.findings.proofs.Reports.{emit-first, emit-end}
+use Rattle.findings.proofs.Reports.{emit-first, emit-end, emit-turn}
 use Rattle.loops.proofs.Walks.{silent-only}
-use Rattle.check3_parts.proofs.Whole.{by-rows, emit-turn}
+use Rattle.check3_parts.proofs.Whole.{by-rows}
 use Rattle.model.proofs.Accepting.{accepted}
 use Rattle.check3_parts.specs.inner.Booked.{taskFindings}
 use Rattle.sheet.specs.Places.{ofKind}

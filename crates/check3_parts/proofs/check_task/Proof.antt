@@ -8,11 +8,10 @@ use Rattle.rows.specs.Cells.{rowCount}
 use Rattle.owners.specs.inner.Owners.{ownedBy}
 use Rattle.findings.specs.inner.Sink.{sink, emit}
 use Rattle.findings.proofs.SinkLaws.{kept}
-use Rattle.findings.proofs.Reports.{emit-first, emit-end}
+use Rattle.findings.proofs.Reports.{emit-first, emit-end, emit-turn}
 use Rattle.loops.proofs.Walks.{silent-only}
 use Rattle.pieces.proofs.Chains.{owned-kind}
 use Rattle.check3_parts.specs.inner.Booked.{activityFindings, taskFindings}
-use Rattle.check3_parts.proofs.Whole.{emit-turn}
 use Rattle.check3_parts.proofs.check_task.Statement.{statement}
 use Rattle.check3_parts.proofs.check_task.Tie as tie
 

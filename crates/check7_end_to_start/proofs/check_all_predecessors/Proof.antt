@@ -9,9 +9,10 @@ use Rattle.findings.proofs.SinkLaws.{kept}
 use Rattle.findings.proofs.Reports.{emit-first, emit-next, emit-end}
 use Rattle.rows.specs.Cells.{rowCount, num}
 use Rattle.owners.specs.inner.Owners.{ownedBy}
-use Rattle.check7_end_to_start.proofs.Told.{activityTold, activity-silent, activity-told, activities-all, task-at, stands-activity}
+use Rattle.check7_end_to_start.proofs.Told.{activityTold, activity-silent, activity-told, activities-all, stands-activity}
 use Rattle.check7_end_to_start.proofs.check_all_predecessors.Statement.{statement}
 use Rattle.check7_end_to_start.proofs.check_all_predecessors.Tie as tie
+use Rattle.model.proofs.Accepting.{task-at}
 
 abbrev Inv-loop : tie.InvT-loop
 Inv-loop rows kinds owned t out₀ n count m₀ i₀ out m i = Stands (ownedBy rows t 2) (rowCount rows) i × (sink out m ≡ emit (sink out₀ n) (collect (activityTold rows (num rows t 1)) i))

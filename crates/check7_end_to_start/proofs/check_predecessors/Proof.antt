@@ -9,9 +9,10 @@ use Rattle.findings.proofs.SinkLaws.{kept}
 use Rattle.findings.proofs.Reports.{emit-first, emit-next, emit-end}
 use Rattle.rows.specs.Cells.{rowCount, num}
 use Rattle.owners.specs.inner.Owners.{ownedBy}
-use Rattle.check7_end_to_start.proofs.Told.{predecessorAt, predecessor-silent, predecessor-told, predecessors-all, activity-at}
+use Rattle.check7_end_to_start.proofs.Told.{predecessorAt, predecessor-silent, predecessor-told, predecessors-all}
 use Rattle.check7_end_to_start.proofs.check_predecessors.Statement.{statement}
 use Rattle.check7_end_to_start.proofs.check_predecessors.Tie as tie
+use Rattle.model.proofs.Accepting.{activity-at}
 
 abbrev Inv-loop : tie.InvT-loop
 Inv-loop rows kinds owned o out₀ n count after m₀ i₀ out m i = Stands (ownedBy rows o 8) (rowCount rows) i × (sink out m ≡ emit (sink out₀ n) (collect (predecessorAt rows (num rows o 1)) i))

@@ -1,8 +1,7 @@
 use mathlib.Core.Path.{sym, ap, _∙_}
 use Rattle.sheet.specs.inner.Found.{foundOf}
-use Rattle.model.proofs.Accepting.{accepted}
+use Rattle.model.proofs.Accepting.{accepted, activity-at}
 use Rattle.check7_end_to_start.proofs.Bounds.{span-most}
-use Rattle.check7_transport.proofs.Bookings.{activity-at}
 use Rattle.check7_pair.proofs.Overlapping.{overlap-row, no-overlap, first-kind}
 use Rattle.check7_pair.proofs.Told.{no-previous, in-order, overlapping}
 use borrow.Author.Needs.{needs}

@@ -7,7 +7,7 @@ use Rattle.loops.specs.inner.Chain.{Stands, onlyAt}
 use Rattle.loops.proofs.Walks.{fold-first, fold-end, quiet-only, only-next}
 use Rattle.rows.specs.Cells.{rowCount}
 use Rattle.owners.specs.inner.Owners.{ownedBy}
-use Rattle.check7_transport.proofs.Bookings.{stands-booked}
+use Rattle.pieces.proofs.Bookings.{stands-booked}
 use Rattle.check7_transport.proofs.Longest.{fromStep, from-is}
 use Rattle.check7_transport.proofs.moved_to.Statement.{statement}
 use Rattle.check7_transport.proofs.moved_to.Tie as tie

@@ -1,10 +1,10 @@
 use borrow.Author.Needs.{needs}
-use Rattle.sheet.proofs.Lookups.{nth-blind, self-blind, nth-here, nth-other}
+use Rattle.sheet.proofs.Lookups.{nth-blind, nth-here, nth-other}
 use Rattle.sheet.specs.Places.{named, isNth, nthPlace}
 use Rattle.rows.specs.Cells.{rowCount}
 use Rattle.loops.proofs.SearchLaws.{counted-le}
 use Rattle.loops.proofs.PlaceLaws.{count-first, count-next}
-use Rattle.loops.proofs.Walks.{seek-first, seek-next, seek-end, seek-hit}
+use Rattle.loops.proofs.Walks.{itself, seek-first, seek-next, seek-end, seek-hit}
 use Rattle.loops.specs.Search.{firstPlace, countBelow}
 use Rattle.loops.specs.inner.Chain.{Stands}
 use native.Mathlib.Omega.{arith}
@@ -27,7 +27,7 @@ first-named-requires : tie.Need-first-named-requires Inv-loop μ-loop
 first-named-requires c κs = search needs
 
 loop-holds : tie.Need-loop-holds Inv-loop μ-loop
-loop-holds c = (search needs, count-first _ (c .first-named .ensures) (self-blind _), seek-first _ (c .first-named .ensures) (nth-blind _ (self-blind _)))
+loop-holds c = (search needs, count-first _ (c .first-named .ensures) (itself _), seek-first _ (c .first-named .ensures) (nth-blind _ (itself _)))
 
 returns : tie.Need-returns Inv-loop μ-loop
 unfolding nthPlace
@@ -43,7 +43,7 @@ loop-less : tie.Need-loop-less Inv-loop μ-loop
 loop-less c = search needs
 
 loop-again : tie.Need-loop-again Inv-loop μ-loop
-loop-again c = (search needs, count-next _ (c .next-named .ensures) (self-blind _) (c .before .before .before .loop .inv .1) (rw ((c .before .before .before .loop .inv .0 .here) (omega (arith, (c .before .before .loop-test .taken), (c .before .before .before .before .before .row-count .ensures))))), seek-next _ (c .next-named .ensures) (nth-blind _ (self-blind _)) (c .before .before .before .loop .inv .2) (nth-other _ _ _ (c .before .before .before .loop .inv .1) ((c .before .before .before .loop .inv .0 .here) (omega (arith, (c .before .before .loop-test .taken), (c .before .before .before .before .before .row-count .ensures)))) (c .before .if1 .left)))
+loop-again c = (search needs, count-next _ (c .next-named .ensures) (itself _) (c .before .before .before .loop .inv .1) (rw ((c .before .before .before .loop .inv .0 .here) (omega (arith, (c .before .before .loop-test .taken), (c .before .before .before .before .before .row-count .ensures))))), seek-next _ (c .next-named .ensures) (nth-blind _ (itself _)) (c .before .before .before .loop .inv .2) (nth-other _ _ _ (c .before .before .before .loop .inv .1) ((c .before .before .before .loop .inv .0 .here) (omega (arith, (c .before .before .loop-test .taken), (c .before .before .before .before .before .row-count .ensures)))) (c .before .if1 .left)))
 
 returns-2 : tie.Need-returns-2 Inv-loop μ-loop
 unfolding nthPlace

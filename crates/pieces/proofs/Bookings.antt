@@ -14,21 +14,15 @@ use Rattle.loops.proofs.ListLaws.{keep-collect}
 use Rattle.loops.proofs.RangeLaws.{collect-ext}
 use Rattle.rows.specs.Cells.{rowCount, num, is}
 use Rattle.sheet.specs.Places.{placeOf}
-use Rattle.sheet.specs.inner.Accepted.{Accepted}
 use Rattle.owners.specs.inner.Owners.{ownerKind, ownedBy}
 use Rattle.model.specs.Sheet.{sheet}
 use Rattle.model.specs.Schedule.{assignmentAt, assignmentsBelow, assignments, assignmentsForActivityAll}
 use Rattle.model.proofs.RowLaws.{assignment-row, assignment-none}
-use Rattle.model.proofs.Accepting.{found-again}
 use Rattle.model.proofs.OwnedLaws.{of-activity}
 use Rattle.pieces.proofs.Companions.{booking}
 use Rattle.pieces.proofs.Chains.{owned-kind}
 
 module _ (rows : List ℤ) where
-  -- the row of an activity is found by its id
-  pub activity-at : Accepted rows → (o : ℕ) → o < rowCount rows → is rows o 0 2 ≡ true → placeOf rows 2 (num rows o 1) ≡ some o
-  activity-at acc o l h = found-again rows acc o 2 l refl h
-
   -- a loop along the bookings stands at one
   pub stands-booked : (o : ℕ) {n N i : ℕ} → i < N → N ≡ n → Stands (ownedBy rows o 23) n i → is rows i 0 23 ≡ true
   stands-booked o {n} {N} {i} l z a = owned-kind rows o 23 i (a .here (omega arith))
