@@ -73,11 +73,12 @@ fn main() {
         return;
     }
     let mut text = longest_text();
-    let input = program_io::read_input(
+    let reading = program_io::read_input(
         b"check_schedule: standard input",
         b"check_schedule: a sheet is read from standard input, up to the end of input (Ctrl-D)",
         &mut text,
     );
+    let input = reading.input;
     let Input::Read(n) = input else {
         return;
     };

@@ -1,1 +1,2 @@
 pub mod Transfers
+pub mod Endings

@@ -3,9 +3,11 @@
 ghost use mathlib.Core.Path.{_≡_};
 ghost use Prim.Native.Nat.{_-_, _≤_};
 ghost use lib.Dec.{eqb};
-ghost use lib.ListN.{length};
+ghost use lib.ListN.{length, take, drop};
+ghost use Rattle.program_io.specs.declared.Transfer.the-variants.{Moved};
+ghost use Rattle.program_io.specs.Ending.{readingOf, inputBy, writingOf, outputBy};
 ghost use Rattle.program_io.specs.inner.Input.{Held};
-ghost use Rattle.program_io.specs.inner.Transfer.{Within};
+ghost use Rattle.program_io.specs.inner.Transfer.{transferOf, Within};
 use libc::STDERR_FILENO;
 use libc::STDIN_FILENO;
 use libc::STDOUT_FILENO;
@@ -13,17 +15,24 @@ use libc::STDOUT_FILENO;
 // How often a read or a write is tried that signals interrupt; then it has failed.
 const TRIES: usize = 100;
 
+// What came of one read or write: so many bytes moved, a signal interrupted it before it moved any, or it failed, as errno tells.
+pub enum Transfer {
+    Moved(usize),
+    Interrupted,
+    Failed,
+}
+
 // What came of reading: so many bytes at the start of the buffer, after which the input ended or the buffer was full; or a read failed.
 pub enum Input {
     Read(usize),
     Failed,
 }
 
-// What came of one read or write: so many bytes moved, a signal interrupted it before it moved any, or it failed, as errno tells.
-enum Transfer {
-    Moved(usize),
-    Interrupted,
-    Failed,
+// How reading ended: the last read, how many bytes the reads before it moved, and the input by these.
+pub struct Reading {
+    pub last: Transfer,
+    pub done: usize,
+    pub input: Input,
 }
 
 // What came of writing: every byte was taken, or a write failed, or one took nothing.
@@ -31,6 +40,13 @@ enum Output {
     Written,
     Failed,
     Cut,
+}
+
+// How writing ended: the last write, how many bytes the writes before it took, and the output by these.
+struct Writing {
+    pub last: Transfer,
+    pub done: usize,
+    pub output: Output,
 }
 
 // A line on standard error.
@@ -69,24 +85,30 @@ pub fn arguments(count: usize, usage: &[u8]) -> Started
     }
 }
 
-// What came of a read or a write on the buffer, by what the system answered.
-fn transfer_of(got: isize, buffer: &[u8]) -> Transfer
-    ensures { λ r. ⌜ Within r (length (now (buffer .entry))) ⌝ }
+// What the system's answer to a read or a write of the buffer says, where errno told of an interruption or not.
+fn transfer_of(got: isize, interrupted: bool, buffer: &[u8]) -> Transfer
+    ensures { λ r. ⌜ r ≡ transferOf got interrupted (length (now (buffer .entry))) ⌝ }
 {
     if got >= 0 {
         return Transfer::Moved(io::count(got, buffer));
     }
-    if os::errno() == libc::EINTR {
+    if interrupted {
         return Transfer::Interrupted;
     }
     Transfer::Failed
+}
+
+// It means something only just after a call that failed.
+fn was_interrupted() -> bool {
+    os::errno() == libc::EINTR
 }
 
 fn read_once(fd: i32, buffer: &mut [u8]) -> Transfer
     ensures { λ r. ⌜ Within r (length (now (buffer .exit))) ⌝ }
 {
     let got = libc::read(fd, buffer);
-    transfer_of(got, buffer)
+    let interrupted = was_interrupted();
+    transfer_of(got, interrupted, buffer)
 }
 
 // A read that is taken up again where it was interrupted.
@@ -104,45 +126,88 @@ fn read_some(fd: i32, buffer: &mut [u8]) -> Transfer
     Transfer::Failed
 }
 
-// A read to the buffer's bytes from place `done` on.
+// A read to the buffer's bytes from place `done` on; those before it stay.
 fn read_from(fd: i32, buffer: &mut [u8], done: usize) -> Transfer
     requires { ⌜ done ≤ length (now buffer) ⌝ }
     ensures { λ r. ⌜ Within r (length (now (buffer .entry)) - done) ⌝ }
+    ensures { λ _. ⌜ take done (now (buffer .exit)) ≡ take done (now (buffer .entry)) ⌝ }
 {
     read_some(fd, &mut buffer[done..])
 }
 
+// The input by the last read, where the reads before it moved `done` bytes.
+fn reading_of(last: Transfer, done: usize, room: usize) -> Reading
+    ensures { λ r. ⌜ r ≡ readingOf last done room ⌝ }
+{
+    if room <= done {
+        return Reading {
+            last: last,
+            done: done,
+            input: Input::Read(done),
+        };
+    }
+    Reading {
+        last: last,
+        done: done,
+        input: input_of(last, done),
+    }
+}
+
+// A read that moved nothing is the end of the input.
+fn ended_by(n: usize, done: usize) -> Input
+    ensures { λ r. ⌜ r ≡ inputBy (Moved n) done ⌝ }
+{
+    if n == 0 {
+        return Input::Read(done);
+    }
+    Input::Failed
+}
+
+// One that failed is none.
+fn input_of(last: Transfer, done: usize) -> Input
+    ensures { λ r. ⌜ r ≡ inputBy last done ⌝ }
+{
+    match last {
+        Transfer::Moved(n) => ended_by(n, done),
+        Transfer::Interrupted => Input::Failed,
+        Transfer::Failed => Input::Failed,
+    }
+}
+
 // Reads until the input ends or the buffer is full. A read that moves nothing is the end, and none follows it: at a terminal another would wait for more.
-fn read_to_end(fd: i32, buffer: &mut [u8]) -> Input
-    ensures { λ r. ⌜ Held r (now (buffer .exit)) ⌝ }
+fn read_to_end(fd: i32, buffer: &mut [u8]) -> Reading
+    ensures { λ r. ⌜ r ≡ readingOf (r .last) (r .done) (length (now (buffer .exit))) ⌝ }
+    ensures { λ r. ⌜ Held (r .input) (now (buffer .exit)) ⌝ }
 {
     let mut done = 0;
     while done < buffer.len() {
         let read = read_from(fd, buffer, done);
         let Transfer::Moved(n) = read else {
-            return Input::Failed;
+            return reading_of(read, done, buffer.len());
         };
         if n == 0 {
-            return Input::Read(done);
+            return reading_of(read, done, buffer.len());
         }
         done += n;
     }
-    Input::Read(done)
+    reading_of(Transfer::Moved(0), done, buffer.len())
 }
 
 // Reads standard input to its end, or to the buffer's. At a terminal a line says first what is awaited. Where a read fails, a line names the input and
 // gives the system's words.
-pub fn read_input(input: &[u8], awaited: &[u8], buffer: &mut [u8]) -> Input
-    ensures { λ r. ⌜ Held r (now (buffer .exit)) ⌝ }
+pub fn read_input(input: &[u8], awaited: &[u8], buffer: &mut [u8]) -> Reading
+    ensures { λ r. ⌜ r ≡ readingOf (r .last) (r .done) (length (now (buffer .exit))) ⌝ }
+    ensures { λ r. ⌜ Held (r .input) (now (buffer .exit)) ⌝ }
 {
     if libc::isatty(STDIN_FILENO) == 1 {
         tell(awaited);
     }
-    let read = read_to_end(STDIN_FILENO, buffer);
+    let reading = read_to_end(STDIN_FILENO, buffer);
+    let read = reading.input;
     if let Input::Failed = read {
         os::fail(input);
     }
-    read
+    reading
 }
 
 // A write that is taken up again where it was interrupted.
@@ -151,7 +216,9 @@ fn write_some(fd: i32, bytes: &[u8]) -> Transfer
 {
     let mut left = TRIES;
     while left > 0 {
-        let written = transfer_of(libc::write(fd, bytes), bytes);
+        let got = libc::write(fd, bytes);
+        let interrupted = was_interrupted();
+        let written = transfer_of(got, interrupted, bytes);
         let Transfer::Interrupted = written else {
             return written;
         };
@@ -160,34 +227,74 @@ fn write_some(fd: i32, bytes: &[u8]) -> Transfer
     Transfer::Failed
 }
 
-// A write of the bytes from place `done` on.
+// What is left to write after the first `done` bytes.
+fn rest_of(bytes: &[u8], done: usize) -> &[u8]
+    requires { ⌜ done ≤ length (now bytes) ⌝ }
+    ensures { λ r. ⌜ now r ≡ drop done (now (bytes .entry)) ⌝ }
+{
+    &bytes[done..]
+}
+
+// A write of them.
 fn write_from(fd: i32, bytes: &[u8], done: usize) -> Transfer
     requires { ⌜ done ≤ length (now bytes) ⌝ }
     ensures { λ r. ⌜ Within r (length (now (bytes .entry)) - done) ⌝ }
 {
-    write_some(fd, &bytes[done..])
+    write_some(fd, rest_of(bytes, done))
+}
+
+// The output by the last write, where the writes before it took `done` bytes.
+fn writing_of(last: Transfer, done: usize, size: usize) -> Writing
+    ensures { λ r. ⌜ r ≡ writingOf last done size ⌝ }
+{
+    if size <= done {
+        return Writing {
+            last: last,
+            done: done,
+            output: Output::Written,
+        };
+    }
+    Writing {
+        last: last,
+        done: done,
+        output: output_of(last),
+    }
+}
+
+// A write that took nothing, or that failed, left bytes behind.
+fn output_of(last: Transfer) -> Output
+    ensures { λ r. ⌜ r ≡ outputBy last ⌝ }
+{
+    match last {
+        Transfer::Moved(_) => Output::Cut,
+        Transfer::Interrupted => Output::Failed,
+        Transfer::Failed => Output::Failed,
+    }
 }
 
 // Writes until every byte is taken, or a write fails or takes nothing.
-fn write_to_end(fd: i32, bytes: &[u8]) -> Output {
+fn write_to_end(fd: i32, bytes: &[u8]) -> Writing
+    ensures { λ r. ⌜ r ≡ writingOf (r .last) (r .done) (length (now (bytes .entry))) ⌝ }
+{
     let mut done = 0;
     while done < bytes.len() {
         let written = write_from(fd, bytes, done);
         let Transfer::Moved(n) = written else {
-            return Output::Failed;
+            return writing_of(written, done, bytes.len());
         };
         if n == 0 {
-            return Output::Cut;
+            return writing_of(written, done, bytes.len());
         }
         done += n;
     }
-    Output::Written
+    writing_of(Transfer::Moved(0), done, bytes.len())
 }
 
 // Writes all that the program has to say to standard output, and closes it, since a file on another machine may fail only then. Where that fails, a line
 // names the output and gives the system's words; what went out stays.
 pub fn write_output(output: &[u8], bytes: &[u8]) {
-    let written = write_to_end(STDOUT_FILENO, bytes);
+    let writing = write_to_end(STDOUT_FILENO, bytes);
+    let written = writing.output;
     match written {
         Output::Written => close_output(output),
         Output::Failed => os::fail(output),

@@ -1,7 +1,8 @@
 use Prim.Native.Nat.{_-_}
 use mathlib.Core.Path.{_≡_, subst}
 use native.Mathlib.Omega.{arith}
-use lib.ListN.{length}
+use lib.ListN.{length, take}
+use lib.Seq.{take-at, length-take-le}
 use Rattle.program_io.proofs.Transfers.{rest-length}
 use Rattle.program_io.specs.inner.Transfer.{Within}
 use borrow.Author.Needs.{needs}
@@ -26,7 +27,7 @@ same-length c = search needs
 returns : tie.Need-returns
 returns c =
     let e : length (c .before .before .read-some .last .1 .0) ≡ length (c .before .before .before .before .before .args .buffer .now) - (c .before .before .before .before .before .args .done) = omega (arith, rest-length (c .before .before .before .before .before .args .buffer .now) (c .before .before .before .before .before .args .done)) in
-    subst (Within (c .before .before .read-some .result)) e (c .before .before .read-some .ensures)
+    (subst (Within (c .before .before .read-some .result)) e (c .before .before .read-some .ensures), take-at (take (c .before .before .before .before .before .args .done) (c .before .before .before .before .before .args .buffer .now)) _ (c .before .before .before .before .before .args .done) (length-take-le (c .before .before .before .before .before .args .done) (c .before .before .before .before .before .args .buffer .now) (search needs)))
 
 pub read-from-spec : {M : Type 1} → statement M
 read-from-spec =

@@ -1,4 +1,5 @@
 use borrow.Author.Needs.{needs}
+use Rattle.program_io.proofs.Transfers.{within-lent}
 use Rattle.program_io.proofs.write_some.Statement.{statement}
 use Rattle.program_io.proofs.write_some.Tie as tie
 
@@ -14,6 +15,9 @@ loop-holds c = search needs
 write-requires : tie.Need-write-requires Inv-loop μ-loop
 write-requires c κs = search needs
 
+was-interrupted-requires : tie.Need-was-interrupted-requires Inv-loop μ-loop
+was-interrupted-requires c κs = search needs
+
 transfer-of-requires : tie.Need-transfer-of-requires Inv-loop μ-loop
 transfer-of-requires c κs = search needs
 
@@ -21,7 +25,7 @@ enum-told : tie.Need-enum-told Inv-loop μ-loop
 enum-told c = search needs
 
 returns : tie.Need-returns Inv-loop μ-loop
-returns c = search needs
+returns c = search (needs, within-lent)
 
 sub-left : tie.Need-sub-left Inv-loop μ-loop
 sub-left c = search needs
@@ -43,6 +47,7 @@ write-some-spec =
     μ-loop
     loop-holds
     write-requires
+    was-interrupted-requires
     transfer-of-requires
     enum-told
     returns

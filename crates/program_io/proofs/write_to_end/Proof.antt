@@ -1,4 +1,5 @@
 use Rattle.program_io.proofs.Transfers.{moved-within}
+use Rattle.program_io.proofs.Endings.{writing-own}
 use Prim.Native.Nat.{_≤_, _-_}
 use lib.ListN.{length}
 use borrow.Author.Needs.{needs}
@@ -20,11 +21,17 @@ write-from-requires c κs = search needs
 enum-known-written : tie.Need-enum-known-written Inv-loop μ-loop
 enum-known-written c = search needs
 
+writing-of-requires : tie.Need-writing-of-requires Inv-loop μ-loop
+writing-of-requires c κs = search needs
+
 returns : tie.Need-returns Inv-loop μ-loop
-returns c = search needs
+returns c = search (needs, writing-own)
+
+writing-of-requires-2 : tie.Need-writing-of-requires-2 Inv-loop μ-loop
+writing-of-requires-2 c κs = search needs
 
 returns-2 : tie.Need-returns-2 Inv-loop μ-loop
-returns-2 c = search needs
+returns-2 c = search (needs, writing-own)
 
 add-done : tie.Need-add-done Inv-loop μ-loop
 add-done c = let h = moved-within (c .before .before .written .given .1) (c .before .before .before .before .write-from .ensures) in search needs
@@ -35,8 +42,11 @@ loop-less c = search needs
 loop-again : tie.Need-loop-again Inv-loop μ-loop
 loop-again c = let h = moved-within (c .before .before .written .given .1) (c .before .before .before .before .write-from .ensures) in search needs
 
+writing-of-requires-3 : tie.Need-writing-of-requires-3 Inv-loop μ-loop
+writing-of-requires-3 c κs = search needs
+
 returns-3 : tie.Need-returns-3 Inv-loop μ-loop
-returns-3 c = search needs
+returns-3 c = search (needs, writing-own)
 
 pub write-to-end-spec : {M : Type 1} → statement M
 write-to-end-spec =
@@ -47,9 +57,12 @@ write-to-end-spec =
     loop-holds
     write-from-requires
     enum-known-written
+    writing-of-requires
     returns
+    writing-of-requires-2
     returns-2
     add-done
     loop-less
     loop-again
+    writing-of-requires-3
     returns-3)
