@@ -421,3 +421,163 @@ sheet15 =
 pub findings15 : findings sheet15 ≡ []
 unfolding keep anyOf allOf countOf last insertBy sortBy each upsert fold collect first firstPlace anyBelow countBelow cell is between isNone inRange inClass width count jointAvailableMs contains covers hits isWorkingTime intervalFits jointWorking halfUp rounded dividedBy shareOf ceiling ceilingShare atSpeed timedDuration activityAt activities findActivity activitiesOf overlap split requirementAt requirements namedFor isCandidate usageOn timingAt timing pieceOf durationOn neededMs constraintAt constraints resourceAt resources findResource listed windows transportTo transportBetween assignmentAt assignmentsBelow assignments assignmentsForActivityAll spanAt timeOnlyBelow timeOnly timeOnlyForActivity latest earliest taskCompletionTime taskAt tasks findTask activitySpan units uses checkKnown checkAssignment checkAssignmentAt checkAssignments pieceCalendars checkResumable checkPlain checkBooking checkCalendars usage capOverride baseOf capOf bookingsOn total most taken loadOf peakOf loadAt peak firstBooked bookedAt bookedResources checkResource checkCapacity firstOn checkOverlaps differing checkConstraint checkConstraintAt checkConstraints checkDeadline checkDeadlines partsOf workOf twoWorks checkPartsOf checkSplit checkActivityParts checkParts endToStart runsOnAll byPart piecesOf checkPair checkPairs checkTask checkPrecedence claim candidateId lacking claims unaccompanied notSimultaneous checkPieceRequirements bookingsByPiece checkActivityRequirements checkRequirements beforeCapacity afterCapacity checkSchedule findings known seen checkFirst checkSpan checkSpanAt checkUnplaced checkTimeOnly heldAmong notHeld assignedWith isHeld runsOn eq ofBits mul ofInt div
 findings15 = refl
+
+-- booked before the releases of its task and of its activity
+abbrev sheet16 : List ℤ
+sheet16 =
+    row (pos 1) (pos 1) none′ (pos 20) (pos 0) (pos 0) (pos 0) (pos 0) (pos 0) (pos 0)
+    ++ row (pos 2) (pos 10) (pos 1) (pos 0) (pos 0) (pos 60) (pos 0) (pos 0) (pos 20) (pos 0)
+    ++ row (pos 5) (pos 10) (pos 7) (pos 1) (pos 1) (pos 0) (pos 0) (pos 0) (pos 0) (pos 0)
+    ++ row (pos 11) (pos 5) (pos 7) (pos 1) (pos 0) (pos 0) (pos 0) (pos 0) (pos 0) (pos 0)
+    ++ row (pos 23) (pos 10) (pos 1) (pos 5) (pos 0) (pos 60) (pos 0) none′ none′ (pos 0)
+
+pub findings16 : findings sheet16 ≡ violation 1 11 10 90 ∷ violation 1 11 10 90 ∷ []
+unfolding keep anyOf allOf countOf last insertBy sortBy each upsert fold collect first firstPlace anyBelow countBelow cell is between isNone inRange inClass width count jointAvailableMs contains covers hits isWorkingTime intervalFits jointWorking halfUp rounded dividedBy shareOf ceiling ceilingShare atSpeed timedDuration activityAt activities findActivity activitiesOf overlap split requirementAt requirements namedFor isCandidate usageOn timingAt timing pieceOf durationOn neededMs constraintAt constraints resourceAt resources findResource listed windows transportTo transportBetween assignmentAt assignmentsBelow assignments assignmentsForActivityAll spanAt timeOnlyBelow timeOnly timeOnlyForActivity latest earliest taskCompletionTime taskAt tasks findTask activitySpan units uses checkKnown checkAssignment checkAssignmentAt checkAssignments pieceCalendars checkResumable checkPlain checkBooking checkCalendars usage capOverride baseOf capOf bookingsOn total most taken loadOf peakOf loadAt peak firstBooked bookedAt bookedResources checkResource checkCapacity firstOn checkOverlaps differing checkConstraint checkConstraintAt checkConstraints checkDeadline checkDeadlines partsOf workOf twoWorks checkPartsOf checkSplit checkActivityParts checkParts endToStart runsOnAll byPart piecesOf checkPair checkPairs checkTask checkPrecedence claim candidateId lacking claims unaccompanied notSimultaneous checkPieceRequirements bookingsByPiece checkActivityRequirements checkRequirements beforeCapacity afterCapacity checkSchedule findings known seen checkFirst checkSpan checkSpanAt checkUnplaced checkTimeOnly heldAmong notHeld assignedWith isHeld runsOn eq ofBits mul ofInt div
+findings16 = refl
+
+-- an activity that holds no resource, with no span
+abbrev sheet17 : List ℤ
+sheet17 =
+    row (pos 1) (pos 1) none′ none′ (pos 0) (pos 0) (pos 0) (pos 0) (pos 0) (pos 0)
+    ++ row (pos 2) (pos 10) (pos 1) (pos 0) (pos 0) (pos 60) (pos 0) (pos 0) none′ (pos 0)
+
+pub findings17 : findings sheet17 ≡ violation 2 7 10 75 ∷ []
+unfolding keep anyOf allOf countOf last insertBy sortBy each upsert fold collect first firstPlace anyBelow countBelow cell is between isNone inRange inClass width count jointAvailableMs contains covers hits isWorkingTime intervalFits jointWorking halfUp rounded dividedBy shareOf ceiling ceilingShare atSpeed timedDuration activityAt activities findActivity activitiesOf overlap split requirementAt requirements namedFor isCandidate usageOn timingAt timing pieceOf durationOn neededMs constraintAt constraints resourceAt resources findResource listed windows transportTo transportBetween assignmentAt assignmentsBelow assignments assignmentsForActivityAll spanAt timeOnlyBelow timeOnly timeOnlyForActivity latest earliest taskCompletionTime taskAt tasks findTask activitySpan units uses checkKnown checkAssignment checkAssignmentAt checkAssignments pieceCalendars checkResumable checkPlain checkBooking checkCalendars usage capOverride baseOf capOf bookingsOn total most taken loadOf peakOf loadAt peak firstBooked bookedAt bookedResources checkResource checkCapacity firstOn checkOverlaps differing checkConstraint checkConstraintAt checkConstraints checkDeadline checkDeadlines partsOf workOf twoWorks checkPartsOf checkSplit checkActivityParts checkParts endToStart runsOnAll byPart piecesOf checkPair checkPairs checkTask checkPrecedence claim candidateId lacking claims unaccompanied notSimultaneous checkPieceRequirements bookingsByPiece checkActivityRequirements checkRequirements beforeCapacity afterCapacity checkSchedule findings known seen checkFirst checkSpan checkSpanAt checkUnplaced checkTimeOnly heldAmong notHeld assignedWith isHeld runsOn eq ofBits mul ofInt div
+findings17 = refl
+
+-- a span that ends after the window of its activity
+abbrev sheet18 : List ℤ
+sheet18 =
+    row (pos 1) (pos 1) none′ none′ (pos 0) (pos 0) (pos 0) (pos 0) (pos 0) (pos 0)
+    ++ row (pos 2) (pos 10) (pos 1) (pos 0) (pos 0) (pos 60) (pos 0) (pos 0) none′ (pos 0)
+    ++ row (pos 16) (pos 10) (pos 0) (pos 0) (pos 50) (pos 0) (pos 0) (pos 0) (pos 0) (pos 0)
+    ++ row (pos 24) (pos 10) (pos 1) (pos 0) (pos 60) (pos 0) (pos 0) (pos 0) (pos 0) (pos 0)
+
+pub findings18 : findings sheet18 ≡ violation 2 7 10 75 ∷ []
+unfolding keep anyOf allOf countOf last insertBy sortBy each upsert fold collect first firstPlace anyBelow countBelow cell is between isNone inRange inClass width count jointAvailableMs contains covers hits isWorkingTime intervalFits jointWorking halfUp rounded dividedBy shareOf ceiling ceilingShare atSpeed timedDuration activityAt activities findActivity activitiesOf overlap split requirementAt requirements namedFor isCandidate usageOn timingAt timing pieceOf durationOn neededMs constraintAt constraints resourceAt resources findResource listed windows transportTo transportBetween assignmentAt assignmentsBelow assignments assignmentsForActivityAll spanAt timeOnlyBelow timeOnly timeOnlyForActivity latest earliest taskCompletionTime taskAt tasks findTask activitySpan units uses checkKnown checkAssignment checkAssignmentAt checkAssignments pieceCalendars checkResumable checkPlain checkBooking checkCalendars usage capOverride baseOf capOf bookingsOn total most taken loadOf peakOf loadAt peak firstBooked bookedAt bookedResources checkResource checkCapacity firstOn checkOverlaps differing checkConstraint checkConstraintAt checkConstraints checkDeadline checkDeadlines partsOf workOf twoWorks checkPartsOf checkSplit checkActivityParts checkParts endToStart runsOnAll byPart piecesOf checkPair checkPairs checkTask checkPrecedence claim candidateId lacking claims unaccompanied notSimultaneous checkPieceRequirements bookingsByPiece checkActivityRequirements checkRequirements beforeCapacity afterCapacity checkSchedule findings known seen checkFirst checkSpan checkSpanAt checkUnplaced checkTimeOnly heldAmong notHeld assignedWith isHeld runsOn eq ofBits mul ofInt div
+findings18 = refl
+
+-- a span that is one ms too short
+abbrev sheet19 : List ℤ
+sheet19 =
+    row (pos 1) (pos 1) none′ none′ (pos 0) (pos 0) (pos 0) (pos 0) (pos 0) (pos 0)
+    ++ row (pos 2) (pos 10) (pos 1) (pos 0) (pos 0) (pos 60) (pos 0) (pos 0) none′ (pos 0)
+    ++ row (pos 24) (pos 10) (pos 1) (pos 0) (pos 59) (pos 0) (pos 0) (pos 0) (pos 0) (pos 0)
+
+pub findings19 : findings sheet19 ≡ violation 2 10 10 90 ∷ []
+unfolding keep anyOf allOf countOf last insertBy sortBy each upsert fold collect first firstPlace anyBelow countBelow cell is between isNone inRange inClass width count jointAvailableMs contains covers hits isWorkingTime intervalFits jointWorking halfUp rounded dividedBy shareOf ceiling ceilingShare atSpeed timedDuration activityAt activities findActivity activitiesOf overlap split requirementAt requirements namedFor isCandidate usageOn timingAt timing pieceOf durationOn neededMs constraintAt constraints resourceAt resources findResource listed windows transportTo transportBetween assignmentAt assignmentsBelow assignments assignmentsForActivityAll spanAt timeOnlyBelow timeOnly timeOnlyForActivity latest earliest taskCompletionTime taskAt tasks findTask activitySpan units uses checkKnown checkAssignment checkAssignmentAt checkAssignments pieceCalendars checkResumable checkPlain checkBooking checkCalendars usage capOverride baseOf capOf bookingsOn total most taken loadOf peakOf loadAt peak firstBooked bookedAt bookedResources checkResource checkCapacity firstOn checkOverlaps differing checkConstraint checkConstraintAt checkConstraints checkDeadline checkDeadlines partsOf workOf twoWorks checkPartsOf checkSplit checkActivityParts checkParts endToStart runsOnAll byPart piecesOf checkPair checkPairs checkTask checkPrecedence claim candidateId lacking claims unaccompanied notSimultaneous checkPieceRequirements bookingsByPiece checkActivityRequirements checkRequirements beforeCapacity afterCapacity checkSchedule findings known seen checkFirst checkSpan checkSpanAt checkUnplaced checkTimeOnly heldAmong notHeld assignedWith isHeld runsOn eq ofBits mul ofInt div
+findings19 = refl
+
+-- a span before the releases of its task and of its activity
+abbrev sheet20 : List ℤ
+sheet20 =
+    row (pos 1) (pos 1) none′ (pos 20) (pos 0) (pos 0) (pos 0) (pos 0) (pos 0) (pos 0)
+    ++ row (pos 2) (pos 10) (pos 1) (pos 0) (pos 0) (pos 60) (pos 0) (pos 0) (pos 20) (pos 0)
+    ++ row (pos 24) (pos 10) (pos 1) (pos 0) (pos 60) (pos 0) (pos 0) (pos 0) (pos 0) (pos 0)
+
+pub findings20 : findings sheet20 ≡ violation 2 11 10 90 ∷ violation 2 11 10 90 ∷ []
+unfolding keep anyOf allOf countOf last insertBy sortBy each upsert fold collect first firstPlace anyBelow countBelow cell is between isNone inRange inClass width count jointAvailableMs contains covers hits isWorkingTime intervalFits jointWorking halfUp rounded dividedBy shareOf ceiling ceilingShare atSpeed timedDuration activityAt activities findActivity activitiesOf overlap split requirementAt requirements namedFor isCandidate usageOn timingAt timing pieceOf durationOn neededMs constraintAt constraints resourceAt resources findResource listed windows transportTo transportBetween assignmentAt assignmentsBelow assignments assignmentsForActivityAll spanAt timeOnlyBelow timeOnly timeOnlyForActivity latest earliest taskCompletionTime taskAt tasks findTask activitySpan units uses checkKnown checkAssignment checkAssignmentAt checkAssignments pieceCalendars checkResumable checkPlain checkBooking checkCalendars usage capOverride baseOf capOf bookingsOn total most taken loadOf peakOf loadAt peak firstBooked bookedAt bookedResources checkResource checkCapacity firstOn checkOverlaps differing checkConstraint checkConstraintAt checkConstraints checkDeadline checkDeadlines partsOf workOf twoWorks checkPartsOf checkSplit checkActivityParts checkParts endToStart runsOnAll byPart piecesOf checkPair checkPairs checkTask checkPrecedence claim candidateId lacking claims unaccompanied notSimultaneous checkPieceRequirements bookingsByPiece checkActivityRequirements checkRequirements beforeCapacity afterCapacity checkSchedule findings known seen checkFirst checkSpan checkSpanAt checkUnplaced checkTimeOnly heldAmong notHeld assignedWith isHeld runsOn eq ofBits mul ofInt div
+findings20 = refl
+
+-- a skill is lacking
+abbrev sheet21 : List ℤ
+sheet21 =
+    row (pos 1) (pos 1) none′ none′ (pos 0) (pos 0) (pos 0) (pos 0) (pos 0) (pos 0)
+    ++ row (pos 2) (pos 10) (pos 1) (pos 0) (pos 0) (pos 60) (pos 0) (pos 0) none′ (pos 0)
+    ++ row (pos 5) (pos 10) (pos 7) (pos 1) (pos 1) (pos 0) (pos 0) (pos 0) (pos 0) (pos 0)
+    ++ row (pos 7) (pos 10) (pos 0) (pos 3) (pos 0) (pos 0) (pos 0) (pos 0) (pos 0) (pos 0)
+    ++ row (pos 11) (pos 5) (pos 7) (pos 1) (pos 0) (pos 0) (pos 0) (pos 0) (pos 0) (pos 0)
+    ++ row (pos 23) (pos 10) (pos 1) (pos 5) (pos 0) (pos 60) (pos 0) none′ none′ (pos 0)
+
+pub findings21 : findings sheet21 ≡ violation 4 5 5 70 ∷ []
+unfolding keep anyOf allOf countOf last insertBy sortBy each upsert fold collect first firstPlace anyBelow countBelow cell is between isNone inRange inClass width count jointAvailableMs contains covers hits isWorkingTime intervalFits jointWorking halfUp rounded dividedBy shareOf ceiling ceilingShare atSpeed timedDuration activityAt activities findActivity activitiesOf overlap split requirementAt requirements namedFor isCandidate usageOn timingAt timing pieceOf durationOn neededMs constraintAt constraints resourceAt resources findResource listed windows transportTo transportBetween assignmentAt assignmentsBelow assignments assignmentsForActivityAll spanAt timeOnlyBelow timeOnly timeOnlyForActivity latest earliest taskCompletionTime taskAt tasks findTask activitySpan units uses checkKnown checkAssignment checkAssignmentAt checkAssignments pieceCalendars checkResumable checkPlain checkBooking checkCalendars usage capOverride baseOf capOf bookingsOn total most taken loadOf peakOf loadAt peak firstBooked bookedAt bookedResources checkResource checkCapacity firstOn checkOverlaps differing checkConstraint checkConstraintAt checkConstraints checkDeadline checkDeadlines partsOf workOf twoWorks checkPartsOf checkSplit checkActivityParts checkParts endToStart runsOnAll byPart piecesOf checkPair checkPairs checkTask checkPrecedence claim candidateId lacking claims unaccompanied notSimultaneous checkPieceRequirements bookingsByPiece checkActivityRequirements checkRequirements beforeCapacity afterCapacity checkSchedule findings known seen checkFirst checkSpan checkSpanAt checkUnplaced checkTimeOnly heldAmong notHeld assignedWith isHeld runsOn eq ofBits mul ofInt div
+findings21 = refl
+
+-- two overlap by one ms on a resource of no-overlap
+abbrev sheet22 : List ℤ
+sheet22 =
+    row (pos 11) (pos 5) (pos 7) (pos 2) (pos 0) (pos 0) (pos 0) (pos 0) (pos 0) (pos 0)
+    ++ row (pos 20) (pos 5) (pos 0) (pos 0) (pos 0) (pos 0) (pos 0) (pos 0) (pos 0) (pos 0)
+    ++ row (pos 22) (pos 0) (pos 10) (pos 0) (pos 0) (pos 0) (pos 0) (pos 0) (pos 0) (pos 0)
+    ++ row (pos 22) (pos 0) (pos 11) (pos 0) (pos 0) (pos 0) (pos 0) (pos 0) (pos 0) (pos 0)
+    ++ row (pos 23) (pos 10) (pos 9) (pos 5) (pos 0) (pos 60) (pos 0) none′ none′ (pos 0)
+    ++ row (pos 23) (pos 11) (pos 9) (pos 5) (pos 59) (pos 119) (pos 0) none′ none′ (pos 0)
+
+pub findings22 : findings sheet22 ≡ violation 9 2 5 90 ∷ []
+unfolding keep anyOf allOf countOf last insertBy sortBy each upsert fold collect first firstPlace anyBelow countBelow cell is between isNone inRange inClass width count jointAvailableMs contains covers hits isWorkingTime intervalFits jointWorking halfUp rounded dividedBy shareOf ceiling ceilingShare atSpeed timedDuration activityAt activities findActivity activitiesOf overlap split requirementAt requirements namedFor isCandidate usageOn timingAt timing pieceOf durationOn neededMs constraintAt constraints resourceAt resources findResource listed windows transportTo transportBetween assignmentAt assignmentsBelow assignments assignmentsForActivityAll spanAt timeOnlyBelow timeOnly timeOnlyForActivity latest earliest taskCompletionTime taskAt tasks findTask activitySpan units uses checkKnown checkAssignment checkAssignmentAt checkAssignments pieceCalendars checkResumable checkPlain checkBooking checkCalendars usage capOverride baseOf capOf bookingsOn total most taken loadOf peakOf loadAt peak firstBooked bookedAt bookedResources checkResource checkCapacity firstOn checkOverlaps differing checkConstraint checkConstraintAt checkConstraints checkDeadline checkDeadlines partsOf workOf twoWorks checkPartsOf checkSplit checkActivityParts checkParts endToStart runsOnAll byPart piecesOf checkPair checkPairs checkTask checkPrecedence claim candidateId lacking claims unaccompanied notSimultaneous checkPieceRequirements bookingsByPiece checkActivityRequirements checkRequirements beforeCapacity afterCapacity checkSchedule findings known seen checkFirst checkSpan checkSpanAt checkUnplaced checkTimeOnly heldAmong notHeld assignedWith isHeld runsOn eq ofBits mul ofInt div
+findings22 = refl
+
+-- booked from before its time window
+abbrev sheet23 : List ℤ
+sheet23 =
+    row (pos 19) (pos 10) (pos 10) (pos 90) (pos 0) (pos 0) (pos 0) (pos 0) (pos 0) (pos 0)
+    ++ row (pos 23) (pos 10) (pos 9) (pos 5) (pos 0) (pos 60) (pos 0) none′ none′ (pos 0)
+
+pub findings23 : findings sheet23 ≡ violation 9 7 10 75 ∷ []
+unfolding keep anyOf allOf countOf last insertBy sortBy each upsert fold collect first firstPlace anyBelow countBelow cell is between isNone inRange inClass width count jointAvailableMs contains covers hits isWorkingTime intervalFits jointWorking halfUp rounded dividedBy shareOf ceiling ceilingShare atSpeed timedDuration activityAt activities findActivity activitiesOf overlap split requirementAt requirements namedFor isCandidate usageOn timingAt timing pieceOf durationOn neededMs constraintAt constraints resourceAt resources findResource listed windows transportTo transportBetween assignmentAt assignmentsBelow assignments assignmentsForActivityAll spanAt timeOnlyBelow timeOnly timeOnlyForActivity latest earliest taskCompletionTime taskAt tasks findTask activitySpan units uses checkKnown checkAssignment checkAssignmentAt checkAssignments pieceCalendars checkResumable checkPlain checkBooking checkCalendars usage capOverride baseOf capOf bookingsOn total most taken loadOf peakOf loadAt peak firstBooked bookedAt bookedResources checkResource checkCapacity firstOn checkOverlaps differing checkConstraint checkConstraintAt checkConstraints checkDeadline checkDeadlines partsOf workOf twoWorks checkPartsOf checkSplit checkActivityParts checkParts endToStart runsOnAll byPart piecesOf checkPair checkPairs checkTask checkPrecedence claim candidateId lacking claims unaccompanied notSimultaneous checkPieceRequirements bookingsByPiece checkActivityRequirements checkRequirements beforeCapacity afterCapacity checkSchedule findings known seen checkFirst checkSpan checkSpanAt checkUnplaced checkTimeOnly heldAmong notHeld assignedWith isHeld runsOn eq ofBits mul ofInt div
+findings23 = refl
+
+-- booked to after its time window
+abbrev sheet24 : List ℤ
+sheet24 =
+    row (pos 19) (pos 10) (pos 0) (pos 50) (pos 0) (pos 0) (pos 0) (pos 0) (pos 0) (pos 0)
+    ++ row (pos 23) (pos 10) (pos 9) (pos 5) (pos 0) (pos 60) (pos 0) none′ none′ (pos 0)
+
+pub findings24 : findings sheet24 ≡ violation 9 7 10 75 ∷ []
+unfolding keep anyOf allOf countOf last insertBy sortBy each upsert fold collect first firstPlace anyBelow countBelow cell is between isNone inRange inClass width count jointAvailableMs contains covers hits isWorkingTime intervalFits jointWorking halfUp rounded dividedBy shareOf ceiling ceilingShare atSpeed timedDuration activityAt activities findActivity activitiesOf overlap split requirementAt requirements namedFor isCandidate usageOn timingAt timing pieceOf durationOn neededMs constraintAt constraints resourceAt resources findResource listed windows transportTo transportBetween assignmentAt assignmentsBelow assignments assignmentsForActivityAll spanAt timeOnlyBelow timeOnly timeOnlyForActivity latest earliest taskCompletionTime taskAt tasks findTask activitySpan units uses checkKnown checkAssignment checkAssignmentAt checkAssignments pieceCalendars checkResumable checkPlain checkBooking checkCalendars usage capOverride baseOf capOf bookingsOn total most taken loadOf peakOf loadAt peak firstBooked bookedAt bookedResources checkResource checkCapacity firstOn checkOverlaps differing checkConstraint checkConstraintAt checkConstraints checkDeadline checkDeadlines partsOf workOf twoWorks checkPartsOf checkSplit checkActivityParts checkParts endToStart runsOnAll byPart piecesOf checkPair checkPairs checkTask checkPrecedence claim candidateId lacking claims unaccompanied notSimultaneous checkPieceRequirements bookingsByPiece checkActivityRequirements checkRequirements beforeCapacity afterCapacity checkSchedule findings known seen checkFirst checkSpan checkSpanAt checkUnplaced checkTimeOnly heldAmong notHeld assignedWith isHeld runsOn eq ofBits mul ofInt div
+findings24 = refl
+
+-- synchronize: the entity is the place of the constraint
+abbrev sheet25 : List ℤ
+sheet25 =
+    row (pos 17) (pos 10) (pos 11) (pos 0) (pos 0) (pos 0) (pos 0) (pos 0) (pos 0) (pos 0)
+    ++ row (pos 21) (pos 0) (pos 0) (pos 0) (pos 0) (pos 0) (pos 0) (pos 0) (pos 0) (pos 0)
+    ++ row (pos 22) (pos 1) (pos 10) (pos 0) (pos 0) (pos 0) (pos 0) (pos 0) (pos 0) (pos 0)
+    ++ row (pos 22) (pos 1) (pos 11) (pos 0) (pos 0) (pos 0) (pos 0) (pos 0) (pos 0) (pos 0)
+    ++ row (pos 23) (pos 10) (pos 9) (pos 5) (pos 0) (pos 60) (pos 0) none′ none′ (pos 0)
+    ++ row (pos 23) (pos 11) (pos 9) (pos 6) (pos 60) (pos 120) (pos 0) none′ none′ (pos 0)
+
+pub findings25 : findings sheet25 ≡ violation 9 8 1 75 ∷ []
+unfolding keep anyOf allOf countOf last insertBy sortBy each upsert fold collect first firstPlace anyBelow countBelow cell is between isNone inRange inClass width count jointAvailableMs contains covers hits isWorkingTime intervalFits jointWorking halfUp rounded dividedBy shareOf ceiling ceilingShare atSpeed timedDuration activityAt activities findActivity activitiesOf overlap split requirementAt requirements namedFor isCandidate usageOn timingAt timing pieceOf durationOn neededMs constraintAt constraints resourceAt resources findResource listed windows transportTo transportBetween assignmentAt assignmentsBelow assignments assignmentsForActivityAll spanAt timeOnlyBelow timeOnly timeOnlyForActivity latest earliest taskCompletionTime taskAt tasks findTask activitySpan units uses checkKnown checkAssignment checkAssignmentAt checkAssignments pieceCalendars checkResumable checkPlain checkBooking checkCalendars usage capOverride baseOf capOf bookingsOn total most taken loadOf peakOf loadAt peak firstBooked bookedAt bookedResources checkResource checkCapacity firstOn checkOverlaps differing checkConstraint checkConstraintAt checkConstraints checkDeadline checkDeadlines partsOf workOf twoWorks checkPartsOf checkSplit checkActivityParts checkParts endToStart runsOnAll byPart piecesOf checkPair checkPairs checkTask checkPrecedence claim candidateId lacking claims unaccompanied notSimultaneous checkPieceRequirements bookingsByPiece checkActivityRequirements checkRequirements beforeCapacity afterCapacity checkSchedule findings known seen checkFirst checkSpan checkSpanAt checkUnplaced checkTimeOnly heldAmong notHeld assignedWith isHeld runsOn eq ofBits mul ofInt div
+findings25 = refl
+
+-- constraints of each kind, in row order
+abbrev sheet26 : List ℤ
+sheet26 =
+    row (pos 21) (pos 0) (pos 0) (pos 0) (pos 0) (pos 0) (pos 0) (pos 0) (pos 0) (pos 0)
+    ++ row (pos 20) (pos 5) (pos 0) (pos 0) (pos 0) (pos 0) (pos 0) (pos 0) (pos 0) (pos 0)
+    ++ row (pos 19) (pos 8) (pos 5) (pos 6) (pos 0) (pos 0) (pos 0) (pos 0) (pos 0) (pos 0)
+    ++ row (pos 22) (pos 0) (pos 8) (pos 0) (pos 0) (pos 0) (pos 0) (pos 0) (pos 0) (pos 0)
+    ++ row (pos 22) (pos 0) (pos 9) (pos 0) (pos 0) (pos 0) (pos 0) (pos 0) (pos 0) (pos 0)
+    ++ row (pos 22) (pos 1) (pos 8) (pos 0) (pos 0) (pos 0) (pos 0) (pos 0) (pos 0) (pos 0)
+    ++ row (pos 22) (pos 1) (pos 8) (pos 0) (pos 0) (pos 0) (pos 0) (pos 0) (pos 0) (pos 0)
+    ++ row (pos 23) (pos 8) (pos 9) (pos 5) (pos 3) (pos 10) (pos 0) none′ none′ (pos 0)
+    ++ row (pos 23) (pos 9) (pos 9) (pos 6) (pos 4) (pos 20) (pos 0) none′ none′ (pos 0)
+
+pub findings26 : findings sheet26 ≡ violation 9 8 0 75 ∷ violation 9 2 5 90 ∷ violation 9 7 8 75 ∷ []
+unfolding keep anyOf allOf countOf last insertBy sortBy each upsert fold collect first firstPlace anyBelow countBelow cell is between isNone inRange inClass width count jointAvailableMs contains covers hits isWorkingTime intervalFits jointWorking halfUp rounded dividedBy shareOf ceiling ceilingShare atSpeed timedDuration activityAt activities findActivity activitiesOf overlap split requirementAt requirements namedFor isCandidate usageOn timingAt timing pieceOf durationOn neededMs constraintAt constraints resourceAt resources findResource listed windows transportTo transportBetween assignmentAt assignmentsBelow assignments assignmentsForActivityAll spanAt timeOnlyBelow timeOnly timeOnlyForActivity latest earliest taskCompletionTime taskAt tasks findTask activitySpan units uses checkKnown checkAssignment checkAssignmentAt checkAssignments pieceCalendars checkResumable checkPlain checkBooking checkCalendars usage capOverride baseOf capOf bookingsOn total most taken loadOf peakOf loadAt peak firstBooked bookedAt bookedResources checkResource checkCapacity firstOn checkOverlaps differing checkConstraint checkConstraintAt checkConstraints checkDeadline checkDeadlines partsOf workOf twoWorks checkPartsOf checkSplit checkActivityParts checkParts endToStart runsOnAll byPart piecesOf checkPair checkPairs checkTask checkPrecedence claim candidateId lacking claims unaccompanied notSimultaneous checkPieceRequirements bookingsByPiece checkActivityRequirements checkRequirements beforeCapacity afterCapacity checkSchedule findings known seen checkFirst checkSpan checkSpanAt checkUnplaced checkTimeOnly heldAmong notHeld assignedWith isHeld runsOn eq ofBits mul ofInt div
+findings26 = refl
+
+-- a finding of each check, in call order
+abbrev sheet27 : List ℤ
+sheet27 =
+    row (pos 1) (pos 1) (pos 5) none′ (pos 0) (pos 0) (pos 0) (pos 0) (pos 0) (pos 0)
+    ++ row (pos 2) (pos 10) (pos 1) (pos 0) (pos 0) (pos 10) (pos 0) (pos 0) none′ (pos 0)
+    ++ row (pos 5) (pos 10) (pos 7) (pos 1) (pos 1) (pos 0) (pos 0) (pos 0) (pos 0) (pos 0)
+    ++ row (pos 2) (pos 11) (pos 1) (pos 1) (pos 0) (pos 10) (pos 0) (pos 0) none′ (pos 0)
+    ++ row (pos 2) (pos 13) (pos 1) (pos 2) (pos 0) (pos 6) (pos 0) (pos 0) none′ (pos 0)
+    ++ row (pos 4) (pos 13) (pos 1) (pos 0) (pos 0) (pos 0) (pos 0) (pos 0) (pos 0) (pos 0)
+    ++ row (pos 5) (pos 13) (pos 7) (pos 1) (pos 1) (pos 0) (pos 0) (pos 0) (pos 0) (pos 0)
+    ++ row (pos 11) (pos 5) (pos 7) (pos 1) (pos 0) (pos 0) (pos 0) (pos 0) (pos 0) (pos 0)
+    ++ row (pos 15) (pos 5) (pos 0) (pos 0) (pos 9) (pos 0) (pos 0) (pos 0) (pos 0) (pos 0)
+    ++ row (pos 21) (pos 0) (pos 0) (pos 0) (pos 0) (pos 0) (pos 0) (pos 0) (pos 0) (pos 0)
+    ++ row (pos 22) (pos 0) (pos 10) (pos 0) (pos 0) (pos 0) (pos 0) (pos 0) (pos 0) (pos 0)
+    ++ row (pos 22) (pos 0) (pos 11) (pos 0) (pos 0) (pos 0) (pos 0) (pos 0) (pos 0) (pos 0)
+    ++ row (pos 23) (pos 10) (pos 1) (pos 5) (pos 0) (pos 9) (pos 0) none′ none′ (pos 0)
+    ++ row (pos 24) (pos 11) (pos 1) (pos 8) (pos 9) (pos 0) (pos 0) (pos 0) (pos 0) (pos 0)
+    ++ row (pos 23) (pos 13) (pos 1) (pos 5) (pos 8) (pos 12) (pos 0) (pos 0) (pos 4) (pos 0)
+    ++ row (pos 7) (pos 10) (pos 0) (pos 3) (pos 0) (pos 0) (pos 0) (pos 0) (pos 0) (pos 0)
+
+pub findings27 : findings sheet27 ≡ violation 1 10 10 90 ∷ violation 2 10 11 90 ∷ violation 3 10 13 90 ∷ violation 4 5 5 70 ∷ violation 5 2 5 90 ∷ violation 6 4 5 85 ∷ violation 7 3 11 95 ∷ violation 7 3 13 95 ∷ violation 8 1 1 80 ∷ violation 9 8 0 75 ∷ []
+unfolding keep anyOf allOf countOf last insertBy sortBy each upsert fold collect first firstPlace anyBelow countBelow cell is between isNone inRange inClass width count jointAvailableMs contains covers hits isWorkingTime intervalFits jointWorking halfUp rounded dividedBy shareOf ceiling ceilingShare atSpeed timedDuration activityAt activities findActivity activitiesOf overlap split requirementAt requirements namedFor isCandidate usageOn timingAt timing pieceOf durationOn neededMs constraintAt constraints resourceAt resources findResource listed windows transportTo transportBetween assignmentAt assignmentsBelow assignments assignmentsForActivityAll spanAt timeOnlyBelow timeOnly timeOnlyForActivity latest earliest taskCompletionTime taskAt tasks findTask activitySpan units uses checkKnown checkAssignment checkAssignmentAt checkAssignments pieceCalendars checkResumable checkPlain checkBooking checkCalendars usage capOverride baseOf capOf bookingsOn total most taken loadOf peakOf loadAt peak firstBooked bookedAt bookedResources checkResource checkCapacity firstOn checkOverlaps differing checkConstraint checkConstraintAt checkConstraints checkDeadline checkDeadlines partsOf workOf twoWorks checkPartsOf checkSplit checkActivityParts checkParts endToStart runsOnAll byPart piecesOf checkPair checkPairs checkTask checkPrecedence claim candidateId lacking claims unaccompanied notSimultaneous checkPieceRequirements bookingsByPiece checkActivityRequirements checkRequirements beforeCapacity afterCapacity checkSchedule findings known seen checkFirst checkSpan checkSpanAt checkUnplaced checkTimeOnly heldAmong notHeld assignedWith isHeld runsOn eq ofBits mul ofInt div
+findings27 = refl
