@@ -4,7 +4,8 @@
     vectors.py [--check]
 
 Reads the sheets of that page, asks the reference for their findings, and writes the theorems' right-hand sides anew; all else
-stays as it is. Prints the names of the theorems that changed. --check writes nothing, and ends with 1 where one would change.
+stays as it is. Prints the names of the theorems that changed, and what the sheets show. --check writes nothing, and ends with 1
+where one would change. Where no sheet shows some pair of check and type, or some kind of row, that is said, and the end is 1.
 A further sheet: add `abbrev sheetN` with its rows, and below it `findingsN` with any list; then run this.
 """
 import importlib.machinery
@@ -49,10 +50,11 @@ def main(words):
         return 2
     with open(definition.VECTORS, encoding="utf-8") as f:
         text = f.read()
-    sheets, changed = rows_in(text), []
+    sheets, changed, cases = rows_in(text), [], []
     answers = answering.answers([" ".join(str(x) for row in rows for x in row) for rows in sheets.values()])
     for (number, rows), answer in zip(sheets.items(), answers, strict=True):
-        statement = f"pub findings{number} : findings sheet{number} ≡ {definition.listed(definition.findings(answer, rows))}"
+        cases.append(definition.Case(number, rows, definition.findings(answer, rows)))
+        statement = f"pub findings{number} : findings sheet{number} ≡ {definition.listed(cases[-1].found)}"
         made, times = re.subn(rf"^pub findings{number} : .*$", lambda _: statement, text, flags=re.M)
         if times != 1:
             raise SystemExit(f"vectors: there is no theorem findings{number}, or more than one")
@@ -60,11 +62,14 @@ def main(words):
             changed.append(f"findings{number}")
         text = made
     print(f"{len(sheets)} sheets; changed: {', '.join(changed) or 'none'}")
+    short = definition.report(cases, 1)
+    for said in short:
+        print(f"not shown: {said}")
     if words == ["--check"]:
-        return 1 if changed else 0
+        return 1 if changed or short else 0
     with open(definition.VECTORS, "w", encoding="utf-8") as f:
         f.write(text)
-    return 0
+    return 1 if short else 0
 
 
 if __name__ == "__main__":

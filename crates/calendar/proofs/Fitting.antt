@@ -13,7 +13,7 @@ use Rattle.calendar.specs.declared.Fit.{Fit}
 use Rattle.calendar.specs.Clock.{clock}
 use Rattle.calendar.specs.Calendar.{Window, Calendar, isOpen, isClosed, covers, hits, intervalFits}
 use Rattle.calendar.specs.Layout.{windowsIn, windowAt, windowOf, windowsOf, calendarOf}
-use Rattle.calendar.specs.inner.Fit.{fitOf}
+use Rattle.calendar.specs.Fit.{fitOf}
 use Rattle.calendar.proofs.Places.{below, below-none, below-more, below-end}
 
 any-more : (p : Window ℤ → Bool) (l : Calendar ℤ) (x : Window ℤ) → anyOf p (l ++ x ∷ []) ≡ (anyOf p l || p x)

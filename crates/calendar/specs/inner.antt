@@ -1,3 +1,2 @@
-pub mod Fit
 pub mod Moves
 pub mod Scan

@@ -14,7 +14,7 @@ ghost use Rattle.calendar.specs.Calendar.{Calendar, isOpen, isClosed, co
 ghost use Rattle.calendar.specs.Amount.{jointAvailableMs};
 ghost use Rattle.calendar.specs.WorkEnd.{endFrom, jointWorkEnd};
 ghost use Rattle.calendar.specs.Layout.{windowsIn, windowAt, windowOf, windowsOf, listsOf, calendarOf, calendarsOf, saying};
-ghost use Rattle.calendar.specs.inner.Fit.{fitOf};
+ghost use Rattle.calendar.specs.Fit.{fitOf};
 ghost use Rattle.calendar.specs.inner.Scan.{standing, standingAt, allows, nearer, withWindow, lookAt, withCalendar, jointLook};
 
 // A window; `closed` is 0 where it is open, 1 where it is a closure.

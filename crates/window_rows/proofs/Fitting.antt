@@ -13,7 +13,7 @@ use Rattle.calendar.specs.declared.Fit.{Fit}
 use Rattle.calendar.specs.Clock.{clock}
 use Rattle.calendar.specs.Calendar.{Calendar, intervalFits}
 use Rattle.calendar.specs.Layout.{windowOf}
-use Rattle.calendar.specs.inner.Fit.{fitOf}
+use Rattle.calendar.specs.Fit.{fitOf}
 use Rattle.rows.specs.Cells.{rowCount, num}
 use Rattle.owners.specs.inner.Owners.{ownedBy}
 use Rattle.model.specs.Sheet.{sheet}

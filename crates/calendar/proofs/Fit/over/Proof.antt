@@ -1,6 +1,6 @@
 use mathlib.Core.Path.{refl}
 use Rattle.loops.specs.Lists.{anyOf}
-use Rattle.calendar.specs.inner.Fit.{fitOf}
+use Rattle.calendar.specs.Fit.{fitOf}
 use Rattle.calendar.proofs.Fit.over.Statement.{statement}
 use Rattle.calendar.proofs.Fit.over.Tie as tie
 

@@ -1,4 +1,4 @@
--- What windows say of [a, e), window by window: as much of a calendar as `intervalFits` asks. Assumes nothing.
+-- What a `Fit` over [a, e) holds once the windows of a calendar have been added to it: the three tests that `intervalFits` is made of.
 use Prim.Native.Nat.{ℕ}
 use mathlib.Core.Bool.{_&&_}
 use lib.IntN.{ℤ, pos}
