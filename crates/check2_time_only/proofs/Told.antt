@@ -1,7 +1,7 @@
 -- What is reported of a span, and of an activity without one. Assumes nothing.
 use Prim.Native.Nat.{ℕ, _+_, _<_, _≤_}
 use mathlib.Core.Path.{_≡_, refl, ap, ap₂, sym, _∙_}
-use mathlib.Core.Bool.{Bool, true, false, cond, not, _&&_}
+use mathlib.Core.Bool.{Bool, true, false, cond, not, _&&_, and-true}
 use mathlib.Core.List.{List, [], _∷_, append-nil}
 use mathlib.Core.Option.{Option, none, some}
 use native.Mathlib.Omega.{arith}
@@ -50,13 +50,9 @@ pub one-calendar : (w : List ℕ) (to : ℕ) → calendarsOf w (0 ∷ to ∷ [])
 unfolding calendarsOf listsOf calendarOf collect
 one-calendar w to = refl
 
-and-one : (b : Bool) → (b && true) ≡ b
-and-one true = refl
-and-one false = refl
-
 joint-one : (l : Calendar ℤ) (t : ℤ) → jointWorking clock (l ∷ []) t ≡ isWorkingTime clock l t
 unfolding jointWorking allOf
-joint-one l t = and-one (isWorkingTime clock l t)
+joint-one l t = and-true (isWorkingTime clock l t)
 
 module _ (rows : List ℤ) (a k : ℕ) where
   -- what an activity needs

@@ -1,7 +1,7 @@
 -- Whether a booking is claimed, and what it leaves. Assumes nothing.
 use Prim.Native.Nat.{ℕ, _+_, _<_, _≤_}
 use mathlib.Core.Path.{_≡_, refl, sym, _∙_}
-use mathlib.Core.Bool.{Bool, true, false, cond, _&&_, true≢false}
+use mathlib.Core.Bool.{Bool, true, false, cond, _&&_, true≢false, and-false}
 use mathlib.Core.List.{List, []}
 use mathlib.Core.Option.{none, some}
 use native.Mathlib.Omega.{arith}
@@ -51,13 +51,9 @@ module _ (rows : List ℤ) (q : ℕ) (free : List ℕ) (units k : ℕ) where
   unfolding takes claimable
   claim-none e = go (claimable rows q free k) refl e
     where
-      last-false : (b : Bool) → (b && false) ≡ false
-      last-false true = refl
-      last-false false = refl
-
       go : (b : Bool) → claimable rows q free k ≡ b → none ≡ cond b (placeOf rows 11 (num rows k 3)) none → (ltb units (num rows q 3) && claimable rows q free k) ≡ false
       go true h f = absurd (true≢false (sym (and-right (eqb (getD free k 0) 1) (candidateOf rows q (num rows k 3)) h) ∙ (rw (← f))))
-      go false h f = rw h (last-false (ltb units (num rows q 3)))
+      go false h f = rw h (and-false (ltb units (num rows q 3)))
 
   pub takes-full : {m : ℕ} → m ≡ num rows q 3 → m ≤ units → takes rows q free units k ≡ false
   unfolding takes

@@ -17,17 +17,6 @@ ghost use Rattle.check4_claims.specs.inner.Claims.{hasSkill, candidateOf
 use findings::Violation;
 use sheet::Found;
 
-fn mark(free: &mut [u8; 800], k: usize, yes: bool)
-    requires { ⌜ k < 800 ⌝ }
-    ensures { λ _. ⌜ now (free .exit) ≡ set (now (free .entry)) k (cond yes 1 0) ⌝ }
-{
-    if yes {
-        free[k] = 1;
-    } else {
-        free[k] = 0;
-    }
-}
-
 // 1 at each booking of the piece that may be claimed.
 fn free_in(rows: &[i64], owned: &[u16; 8810], held: &[u8; 800], o: usize, p: u64) -> [u8; 800]
     requires { ⌜ Owned (now rows) (now owned) × (o ≤ rowCount (now rows)) × Held (now rows) (now held) ⌝ }
@@ -37,7 +26,7 @@ fn free_in(rows: &[i64], owned: &[u16; 8810], held: &[u8; 800], o: usize, p: u64
     let mut free = [0u8; 800];
     let mut k = owners::first_owned(rows, owned, o, 23);
     while k < n {
-        mark(&mut free, k, check4_pieces::is_free(rows, held, p, k));
+        pieces::mark(&mut free, k, check4_pieces::is_free(rows, held, p, k));
         k = owners::next_owned(rows, owned, o, 23, k);
     }
     free
@@ -116,7 +105,7 @@ fn is_marked(free: &[u8; 800], k: usize) -> bool
     free[k] == 1
 }
 
-// The same, if booking k is marked.
+// The row of booking k's resource, if k is marked and the resource is a candidate of the requirement at row q.
 fn claimant(
     rows: &[i64],
     links: &[u16; 1600],
@@ -155,7 +144,7 @@ fn claim_at(
         let Found::At(r) = claimant(rows, links, owned, free, q, k) else {
             return Claimed { units: units, n: n };
         };
-        mark(free, k, false);
+        pieces::mark(free, k, false);
         let m = report_lacking(rows, owned, q, r, rows::id_at(rows, k, 3), out, n);
         return Claimed {
             units: units + 1,

@@ -17,7 +17,7 @@ use Rattle.loops.specs.Search.{anyBelow}
 use Rattle.loops.specs.inner.Chain.{only}
 use Rattle.loops.proofs.BoolLaws.{and-left, and-right}
 use Rattle.loops.proofs.RangeLaws.{collect-ext}
-use Rattle.loops.proofs.ListLaws.{any-collect}
+use Rattle.loops.proofs.ListLaws.{any-collect, each-ext}
 use Rattle.loops.proofs.PlaceLaws.{any-same, place-none}
 use Rattle.loops.proofs.NumberLaws.{eqb-swap}
 use Rattle.loops.proofs.SearchLaws.{none-below}
@@ -39,7 +39,7 @@ use Rattle.model.proofs.OwnedLaws.{of-resource}
 use Rattle.model.proofs.Requiring.{of-requirement}
 use Rattle.definition.specs.CheckRequirements.{claim, claiming, passing, candidateId, lacking, claims}
 use Rattle.check4_claims.specs.inner.Claims.{hasSkill, candidateOf, lackingFor, lackingOf, claimOf, filled, claimsOf}
-use Rattle.check4_requirements.proofs.Lists.{only-same, both-same, each-only, any-only, none-collect, given-any, given-each, each-ext, any-at}
+use Rattle.check4_requirements.proofs.Lists.{only-same, both-same, each-only, any-only, none-collect, given-any, given-each, any-at}
 
 -- what a column names along a chain
 abbrev pub along : List ℤ → ℕ → ℕ → ℕ → List ℕ

@@ -118,11 +118,6 @@ module _ {A : Type 0} (b : Bool) (x : A) where
       go true = refl
       go false = refl
 
-pub each-ext : {A B : Type 0} (f g : A → List B) → ((x : A) → f x ≡ g x) → (l : List A) → each f l ≡ each g l
-unfolding each
-each-ext f g h [] = refl
-each-ext f g h (x ∷ l) = ap₂ _++_ (h x) (each-ext f g h l)
-
 -- ---- searches
 
 -- a test that holds at one place only, if at all

@@ -5,10 +5,10 @@ use mathlib.Core.Bool.{Bool, true, false, cond, not, _&&_, _||_}
 use mathlib.Core.List.{List, [], _∷_, _++_, foldl}
 use mathlib.Core.Option.{Option, none, some}
 use native.Mathlib.Omega.{arith}
-use native.Mathlib.Decide.{ℕ-discrete, decLt}
+use native.Mathlib.Decide.{decLt}
 use lib.Dec.{eqb, ltb}
 use lib.IntN.{ℤ, pos, negsuc, subℕ}
-use borrow.Author.Tests.{eqb-true, eq-eqb, ne-eqb, lt-ltb, le-ltb}
+use borrow.Author.Tests.{eqb-true, eq-eqb, lt-ltb, le-ltb}
 use Rattle.loops.specs.Numbers.{toNat}
 use Rattle.loops.specs.Lists.{given, keep, anyOf, allOf, head, option}
 use Rattle.loops.specs.Ordered.{entry, upsert, values}
@@ -17,6 +17,7 @@ use Rattle.loops.specs.Search.{anyBelow, firstPlace, someIf}
 use Rattle.loops.specs.inner.Chain.{only}
 use Rattle.loops.proofs.KeyLaws.{numbered-fold, by-key}
 use Rattle.loops.proofs.BoolLaws.{and-left, and-right, not-true}
+use Rattle.loops.proofs.NumberLaws.{neither-below}
 use Rattle.loops.proofs.RangeLaws.{collect-ext}
 use Rattle.loops.proofs.ListLaws.{keep-collect, map-collect, head-collect}
 use Rattle.loops.proofs.SearchLaws.{any-hit, any-none, none-below}
@@ -121,14 +122,6 @@ key-small : (z : ℤ) → toNat z ≤ 1000000 → indexKey z < 2000002
 unfolding indexKey
 key-small (pos n) h = omega arith
 key-small (negsuc n) h = let s = sub-most 1000001 (suc n) in omega arith
-
-same-is : (a b : ℕ) → (not (ltb b a) && not (ltb a b)) ≡ eqb a b
-same-is a b = go (ℕ-discrete a b) (decLt a b)
-  where
-    go : Dec (a ≡ b) → Dec (a < b) → (not (ltb b a) && not (ltb a b)) ≡ eqb a b
-    go (yes q) d = rw (le-ltb a b (omega arith), le-ltb b a (omega arith), eq-eqb a b q)
-    go (no q) (yes l) = rw (lt-ltb a b l, le-ltb b a (omega arith), ne-eqb a b q)
-    go (no q) (no l) = rw (lt-ltb b a (omega arith), ne-eqb a b q)
 
 -- ---- the bookings of the activity at row o
 
@@ -290,7 +283,7 @@ module _ (rows : List ℤ) (acc : Accepted rows) (o : ℕ) (l : o < rowCount row
     -- ---- simultaneous
 
     abbrev apartFrom : Assignment ℤ → Assignment ℤ → Bool
-    apartFrom x a = not (sameTime clock (sheet rows) (a .start) (x .start)) || not (sameTime clock (sheet rows) (a .end) (x .end))
+    apartFrom x a = not (sameTime clock (a .start) (x .start)) || not (sameTime clock (a .end) (x .end))
 
     from-first : (m : List (Assignment ℤ)) → notSimultaneous clock (sheet rows) m ≡ option (head m) false (λ x. anyOf (apartFrom x) m)
     unfolding notSimultaneous
@@ -314,7 +307,7 @@ module _ (rows : List ℤ) (acc : Accepted rows) (o : ℕ) (l : o < rowCount row
     differ-is j =
         any-only (ownedBy rows o 23) (λ k. given (keyIs rows p k) (booking rows k)) (rowCount rows) (apartFrom (booking rows j))
         ∙ both-same _ _ _ (rowCount rows) (λ k m e. given-any (keyIs rows p k) (booking rows k) (apartFrom (booking rows j))
-        ∙ ap₂ (λ a b. keyIs rows p k && (not a || not b)) (same-is (num rows k 4) (num rows j 4)) (same-is (num rows k 5) (num rows j 5)))
+        ∙ ap₂ (λ a b. keyIs rows p k && (not a || not b)) (neither-below (num rows k 4) (num rows j 4)) (neither-below (num rows k 5) (num rows j 5)))
 
     pub apart-is : notSimultaneous clock (sheet rows) (pieceAt p) ≡ apart rows o p
     unfolding apart

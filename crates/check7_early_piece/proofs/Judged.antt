@@ -1,7 +1,7 @@
 -- Some piece starts before the work reaches it: the test of the pieces is a test of the bookings. Assumes nothing.
 use Prim.Native.Nat.{ℕ, zero, suc, _+_, _<_}
 use mathlib.Core.Path.{_≡_, refl, sym, ap, _∙_}
-use mathlib.Core.Bool.{Bool, true, false, cond, not, _&&_, true≢false, or-false}
+use mathlib.Core.Bool.{Bool, true, false, cond, not, _&&_, true≢false, and-false, or-false}
 use mathlib.Core.List.{List, [], _∷_, foldl}
 use mathlib.Core.Option.{Option, none, some}
 use native.Mathlib.Omega.{arith}
@@ -228,11 +228,7 @@ module _ (rows : List ℤ) where
     judged-here l z s h = both (s .here (omega arith)) (sym e ∙ h)
 
     pub judged-not : b ≡ false → (ownedBy rows o 23 k && unreachedAt rows a from k) ≡ false
-    judged-not h = rw (sym e ∙ h) (go (ownedBy rows o 23 k))
-      where
-        go : (c : Bool) → (c && false) ≡ false
-        go true = refl
-        go false = refl
+    judged-not h = rw (sym e ∙ h) (and-false (ownedBy rows o 23 k))
 
   pub stands-owned : (o : ℕ) {n N k : ℕ} → k < N → N ≡ n → Stands (ownedBy rows o 23) n k → ownedBy rows o 23 k ≡ true
   stands-owned o l z s = s .here (omega arith)

@@ -1,21 +1,21 @@
 -- What lateness is, of numbers; and what a task's row gives. Assumes nothing.
-use Prim.Native.Nat.{ℕ, zero, suc, _-_, _<_}
+use Prim.Native.Nat.{ℕ, _-_, _<_}
 use mathlib.Core.Path.{_≡_, refl, ap, ap₂, sym, _∙_}
-use mathlib.Core.Bool.{Bool, true, false, cond}
+use mathlib.Core.Bool.{Bool, true, false}
 use mathlib.Core.List.{List, [], _++_}
 use mathlib.Core.Option.{Option, none, some}
 use native.Mathlib.Omega.{arith}
 use lib.Dec.{ltb}
-use lib.IntN.{ℤ, pos, negsuc, _-ℤ_}
-use borrow.Author.Tests.{lt-ltb, le-ltb, ltb-true}
+use lib.IntN.{ℤ, pos}
+use borrow.Author.Tests.{lt-ltb, le-ltb}
 use native.Mathlib.Decide.{decLt}
 use Rattle.loops.specs.Lists.{given, each, option}
 use Rattle.loops.specs.inner.Chain.{Silent}
-use Rattle.loops.specs.Numbers.{toNat}
 use Rattle.calendar.specs.Clock.{clock}
 use Rattle.findings.specs.declared.Violation.{Violation}
 use Rattle.loops.specs.Range.{collect}
 use Rattle.loops.proofs.ListLaws.{each-collect}
+use Rattle.loops.proofs.NumberLaws.{gap}
 use Rattle.findings.specs.inner.Sink.{Sink, emit}
 use Rattle.rows.specs.Cells.{rowCount, num, is}
 use Rattle.sheet.specs.Places.{ofKind}
@@ -30,18 +30,9 @@ use Rattle.spans.specs.declared.Instant.{Instant}
 use Rattle.spans.specs.declared.Instant.the-variants.{At, Nothing}
 use Rattle.check8_deadlines.specs.inner.Late.{lateAt}
 
--- a difference of two instants, cut at 0
-difference : (c d : ℕ) → toNat (pos c -ℤ pos d) ≡ c - d
-difference c zero = omega arith
-difference c (suc d) = go (ltb c (suc d)) refl
-  where
-    go : (b : Bool) → ltb c (suc d) ≡ b → toNat (cond b (negsuc (suc d - suc c)) (pos (c - suc d))) ≡ c - suc d
-    go true h = let k : c < suc d = ltb-true c (suc d) h in omega arith
-    go false h = refl
-
 -- lateness above 0 is a completion after the deadline
 pub tardy : (d c : ℕ) → ltb d c ≡ ltb 0 (tardinessMs clock (pos c) (some (pos d)))
-tardy d c = go (decLt d c) ∙ ap (ltb 0) (sym (difference c d))
+tardy d c = go (decLt d c) ∙ ap (ltb 0) (sym (gap d c))
   where
     go : Dec (d < c) → ltb d c ≡ ltb 0 (c - d)
     go (yes h) = lt-ltb d c h ∙ sym (lt-ltb 0 (c - d) (omega arith))

@@ -1,15 +1,15 @@
 -- The starts of members seen one after the other, against all of them at once. Assumes nothing.
-use Prim.Native.Nat.{ℕ, suc, _<_, _≤_}
+use Prim.Native.Nat.{ℕ, suc, _≤_}
 use mathlib.Core.Path.{_≡_, refl, ap, sym, _∙_}
 use mathlib.Core.Bool.{Bool, true, false, cond, not, _&&_, _||_, and-true}
 use mathlib.Core.List.{List, [], _∷_, _++_, foldl, append-nil}
 use mathlib.Core.Option.{Option, none, some}
 use native.Mathlib.Omega.{arith}
-use native.Mathlib.Decide.{ℕ-discrete, decLt}
-use lib.Dec.{eqb, ltb}
+use native.Mathlib.Decide.{ℕ-discrete}
+use lib.Dec.{eqb}
 use lib.IntN.{ℤ}
 use lib.ListN.{length}
-use borrow.Author.Tests.{eq-eqb, ne-eqb, lt-ltb, le-ltb}
+use borrow.Author.Tests.{eq-eqb, ne-eqb}
 use Rattle.loops.specs.Lists.{given, each, option}
 use Rattle.loops.specs.Range.{fold, collect}
 use Rattle.loops.specs.inner.Chain.{onlyAt}
@@ -29,15 +29,6 @@ use Rattle.definition.specs.ActivitySpan.{Span, activitySpan}
 use Rattle.definition.specs.CheckRequirements.{sameTime}
 use Rattle.definition.specs.CheckConstraints as page
 use Rattle.check9_constraints.specs.inner.Seen.{Seen, missing, differing, alike, empty, withSpan, withMember, differs}
-
--- equal instants are those of which none comes first
-pub same-pos : (a b : ℕ) → eqb a b ≡ (not (ltb b a) && not (ltb a b))
-same-pos a b = go (decLt a b) (decLt b a)
-  where
-    go : Dec (a < b) → Dec (b < a) → eqb a b ≡ (not (ltb b a) && not (ltb a b))
-    go (yes h) y = rw (ne-eqb a b (λ z. omega arith), lt-ltb a b h, le-ltb b a (omega arith))
-    go (no h) (yes l) = rw (ne-eqb a b (λ z. omega arith), lt-ltb b a l)
-    go (no h) (no l) = rw (eq-eqb a b (omega arith), le-ltb a b (omega arith), le-ltb b a (omega arith))
 
 eqb-suc : (a b : ℕ) → eqb (suc a) (suc b) ≡ eqb a b
 eqb-suc a b = go (ℕ-discrete a b)
@@ -102,7 +93,7 @@ module _ (rows : List ℤ) (f : ℕ → Option (Span ℤ)) where
           ≡ (eqb (length (option v [] (λ y. y .start ∷ []) ++ each startsOf l)) (suc (length l))
           && page.differing clock (sheet rows) (x ∷ (option v [] (λ y. y .start ∷ []) ++ each startsOf l)))
       go none h = rw (missed l, short l)
-      go (some v) h = compared (sameTime clock (sheet rows) x (v .start)) (v .start) (h (v .start))
+      go (some v) h = compared (sameTime clock x (v .start)) (v .start) (h (v .start))
 
   seen-all : (l : List ℕ) → differs (foldl step empty l) ≡ (eqb (length (each startsOf l)) (length l) && page.differing clock (sheet rows) (each startsOf l))
   unfolding each startsOf step page.differing

@@ -36,7 +36,7 @@ module _ {T : Type 0} (K : Clock T) (s : Sheet T) where
   unfoldable pub differing : List T → Bool
   differing [] = false
   differing (x ∷ []) = false
-  differing (x ∷ y ∷ l) = not (sameTime K s x y) || differing (y ∷ l)
+  differing (x ∷ y ∷ l) = not (sameTime K x y) || differing (y ∷ l)
 
   -- the constraint at a place
   unfoldable pub checkConstraint : ℕ → Constraint T → List Violation

@@ -59,15 +59,16 @@ module _ {T : Type 0} (s : Sheet T) where
   unaccompanied activity assigned =
       each (λ r. each (λ c. given (not (among c assigned)) (requirementUnfilled 4 activity)) (companions s r)) (notHeld s assigned)
 
-module _ {T : Type 0} (K : Clock T) (s : Sheet T) where
+module _ {T : Type 0} (K : Clock T) where
   abbrev pub sameTime : T → T → Bool
   sameTime a b = upTo K a b && upTo K b a
 
+module _ {T : Type 0} (K : Clock T) (s : Sheet T) where
   -- some booking differs from the first in its start or its end
   unfoldable pub notSimultaneous : List (Assignment T) → Bool
   notSimultaneous [] = false
   notSimultaneous (first ∷ l) =
-      anyOf (λ a. not (sameTime (a .start) (first .start)) || not (sameTime (a .end) (first .end))) (first ∷ l)
+      anyOf (λ a. not (sameTime K (a .start) (first .start)) || not (sameTime K (a .end) (first .end))) (first ∷ l)
 
   unfoldable pub checkPieceRequirements : Activity T → List (Assignment T) → List Violation
   checkPieceRequirements a assigns =

@@ -15,6 +15,12 @@ unfolding each
 each-append f [] m = refl
 each-append f (x ∷ l) m = ap (λ y. f x ++ y) (each-append f l m) ∙ sym (append-assoc (f x) (each f l) (each f m))
 
+-- two functions that agree
+pub each-ext : {A B : Type 0} (f g : A → List B) → ((x : A) → f x ≡ g x) → (l : List A) → each f l ≡ each g l
+unfolding each
+each-ext f g h [] = refl
+each-ext f g h (x ∷ l) = ap₂ _++_ (h x) (each-ext f g h l)
+
 pub each-collect : {A B : Type 0} (f : A → List B) (g : ℕ → List A) (n : ℕ) → each f (collect g n) ≡ collect (λ k. each f (g k)) n
 unfolding collect each
 each-collect f g zero = refl

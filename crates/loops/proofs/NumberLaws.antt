@@ -1,7 +1,7 @@
 -- Laws of numbers. Assumes nothing.
 use Prim.Native.Nat.{ℕ, zero, suc, _+_, _-_, _<_, _≤_}
 use mathlib.Core.Path.{_≡_, refl, sym, ap₂, subst, _∙_}
-use mathlib.Core.Bool.{Bool, true, false, cond}
+use mathlib.Core.Bool.{Bool, true, false, cond, not, _&&_}
 use native.Mathlib.Omega.{arith}
 use native.Mathlib.Decide.{decLt, ℕ-discrete}
 use borrow.Author.Tests.{lt-ltb, le-ltb, ltb-true, ltb-false, eq-eqb, ne-eqb}
@@ -16,6 +16,15 @@ eqb-swap a b = go (ℕ-discrete a b)
     go : Dec (a ≡ b) → eqb a b ≡ eqb b a
     go (yes q) = rw (eq-eqb a b q, eq-eqb b a (sym q))
     go (no q) = rw (ne-eqb a b q, ne-eqb b a (λ z. q (sym z)))
+
+-- equal numbers are those of which neither is below the other
+pub neither-below : (a b : ℕ) → (not (ltb b a) && not (ltb a b)) ≡ eqb a b
+neither-below a b = go (ℕ-discrete a b) (decLt a b)
+  where
+    go : Dec (a ≡ b) → Dec (a < b) → (not (ltb b a) && not (ltb a b)) ≡ eqb a b
+    go (yes q) d = rw (le-ltb a b (omega arith), le-ltb b a (omega arith), eq-eqb a b q)
+    go (no q) (yes l) = rw (lt-ltb a b l, le-ltb b a (omega arith), ne-eqb a b q)
+    go (no q) (no l) = rw (lt-ltb b a (omega arith), ne-eqb a b q)
 
 -- a difference of two natural numbers, cut at 0
 pub gap : (a e : ℕ) → toNat (pos e -ℤ pos a) ≡ e - a

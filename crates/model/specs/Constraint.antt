@@ -20,11 +20,11 @@ pub data Constraint (T : Type 0) : Type 0 where
 module _ {T : Type 0} (s : Sheet T) where
   unfoldable pub constraintAt : ℕ → List (Constraint T)
   constraintAt k =
-      rowAt s 17 (λ k. columns3 s k λ before after delay. precedence (asNum before) (asNum after) (asInt delay) ∷ []) k
-      ++ rowAt s 18 (λ k. columns2 s k λ resource max. capacity (asNum resource) (asInt max) ∷ []) k
-      ++ rowAt s 19 (λ k. columns3 s k λ activity start end. with2 (asInstant start) (asInstant end) (timeWindow (asNum activity))) k
-      ++ rowAt s 20 (λ k. columns1 s k λ resource. noOverlap (asNum resource) ∷ []) k
-      ++ rowAt s 21 (λ k. synchronize ∷ []) k
+      rowAt s 17 (λ j. columns3 s j λ before after delay. precedence (asNum before) (asNum after) (asInt delay) ∷ []) k
+      ++ rowAt s 18 (λ j. columns2 s j λ resource max. capacity (asNum resource) (asInt max) ∷ []) k
+      ++ rowAt s 19 (λ j. columns3 s j λ activity start end. with2 (asInstant start) (asInstant end) (timeWindow (asNum activity))) k
+      ++ rowAt s 20 (λ j. columns1 s j λ resource. noOverlap (asNum resource) ∷ []) k
+      ++ rowAt s 21 (λ j. synchronize ∷ []) k
 
   unfoldable pub constraints : List (Constraint T)
   constraints = collect constraintAt (s .count)

@@ -1,7 +1,7 @@
 -- The rows that name two things stand in the chain of their owner; a walk along it finds the first. Assumes nothing.
 use Prim.Native.Nat.{ℕ, _<_, _≤_}
 use mathlib.Core.Path.{_≡_, refl, sym, ap, ap₂, _∙_}
-use mathlib.Core.Bool.{Bool, true, false, not, _&&_, true≢false}
+use mathlib.Core.Bool.{Bool, true, false, not, _&&_, true≢false, and-false}
 use mathlib.Core.Option.{Option, none, some}
 use mathlib.Core.List.{List}
 use native.Mathlib.Omega.{arith}
@@ -200,13 +200,9 @@ module _ (rows : List ℤ) where
   pub firsts-enough : (k : ℕ) → anyBelow (firstHolds k) (rowCount rows) ≡ anyBelow (holdsFor rows k) (rowCount rows)
   firsts-enough k = go (firstPlace (holdsFor rows k) (rowCount rows)) refl
     where
-      last-false : (b : Bool) → (b && false) ≡ false
-      last-false true = refl
-      last-false false = refl
-
       go : (x : Option ℕ) → firstPlace (holdsFor rows k) (rowCount rows) ≡ x → anyBelow (firstHolds k) (rowCount rows) ≡ anyBelow (holdsFor rows k) (rowCount rows)
       go none e =
-          none-below (firstHolds k) (rowCount rows) (λ j l. ap (λ b. firstOn rows j && b) (place-none (holdsFor rows k) (rowCount rows) e j l) ∙ last-false (firstOn rows j))
+          none-below (firstHolds k) (rowCount rows) (λ j l. ap (λ b. firstOn rows j && b) (place-none (holdsFor rows k) (rowCount rows) e j l) ∙ and-false (firstOn rows j))
           ∙ sym (none-below (holdsFor rows k) (rowCount rows) (λ j l. place-none (holdsFor rows k) (rowCount rows) e j l))
       go (some j) e = at (firstPlace (sameBooking rows j) (rowCount rows)) refl
         where

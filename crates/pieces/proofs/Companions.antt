@@ -4,16 +4,18 @@ use mathlib.Core.Path.{_≡_, refl, sym, ap, ap₂, _∙_}
 use mathlib.Core.Bool.{Bool, Bool·beq, true, false, not, _&&_, cond, true≢false, or-false, and-false}
 use mathlib.Core.List.{List}
 use native.Mathlib.Omega.{arith}
-use lib.Dec.{eqb}
+use native.Mathlib.Decide.{decLt}
+use lib.Dec.{eqb, ltb}
 use lib.IntN.{ℤ, pos}
 use lib.ListN.{replicate}
+use borrow.Author.Tests.{lt-ltb, le-ltb}
 use Rattle.loops.specs.Lists.{given, keep, anyOf, among}
 use Rattle.loops.specs.Range.{collect}
 use Rattle.loops.specs.Search.{anyBelow}
 use Rattle.loops.specs.inner.Chain.{First}
 use Rattle.loops.proofs.ListLaws.{any-map, any-keep, any-collect}
 use Rattle.loops.proofs.NumberLaws.{eqb-swap}
-use Rattle.loops.proofs.SearchLaws.{none-below}
+use Rattle.loops.proofs.SearchLaws.{any-hit, any-none, none-below}
 use Rattle.loops.proofs.PlaceLaws.{any-same}
 use Rattle.loops.proofs.StoreLaws.{filled-start}
 use Rattle.rows.specs.Cells.{rowCount, cell, num, is}
@@ -136,11 +138,19 @@ module _ (rows : List ℤ) where
   pub held-as : Accepted rows → (k : ℕ) {r : Bool} → k < rowCount rows → is rows k 0 23 ≡ true → r ≡ anyBelow (holdsFor rows k) (rowCount rows) → r ≡ heldAt rows k
   held-as acc k l h e = e ∙ sym (held-booking acc k l h)
 
+  -- a sheet has a row of a kind if its first one is before the end
+  pub any-of : (x : ℕ) {i n : ℕ} → First (ofKind rows x) 0 (rowCount rows) i → n ≡ rowCount rows → ltb i n ≡ anyBelow (ofKind rows x) (rowCount rows)
+  any-of x {i} {n} f q = go (decLt i n)
+    where
+      go : Dec (i < n) → ltb i n ≡ anyBelow (ofKind rows x) (rowCount rows)
+      go (yes l) = lt-ltb i n l ∙ any-hit (ofKind rows x) i n (rowCount rows) l q (f .here (omega arith))
+      go (no l) = le-ltb i n (omega arith) ∙ sym (none-below (ofKind rows x) (rowCount rows) (λ k m. f .none k (omega arith) (omega arith)))
+
   -- a sheet that names no companions holds nobody
-  module _ (acc : Accepted rows) {n i : ℕ} (f : First (ofKind rows 13) 0 (rowCount rows) i) (q : n ≡ rowCount rows) (l : n ≤ i) where
-    not-named : (a b j : ℕ) → j < rowCount rows → names rows 13 a b j ≡ false
+  module _ (acc : Accepted rows) {b : Bool} (e : b ≡ anyBelow (ofKind rows 13) (rowCount rows)) (h : b ≡ false) where
+    not-named : (a r j : ℕ) → j < rowCount rows → names rows 13 a r j ≡ false
     unfolding names ofKind
-    not-named a b j m = rw (f .none j (omega arith) (omega arith))
+    not-named a r j m = rw (any-none (ofKind rows 13) (rowCount rows) j (sym e ∙ h) m)
 
     not-holding : (k j : ℕ) → holdsFor rows k j ≡ false
     unfolding holdsFor
@@ -152,9 +162,9 @@ module _ (rows : List ℤ) where
     not-held : (k : ℕ) → k < rowCount rows → heldAt rows k ≡ false
     not-held k m = go (is rows k 0 23) refl
       where
-        go : (b : Bool) → is rows k 0 23 ≡ b → heldAt rows k ≡ false
-        go true h = held-booking acc k m h ∙ none-below _ (rowCount rows) (λ j _. not-holding k j)
-        go false h = held-none k h
+        go : (c : Bool) → is rows k 0 23 ≡ c → heldAt rows k ≡ false
+        go true g = held-booking acc k m g ∙ none-below _ (rowCount rows) (λ j _. not-holding k j)
+        go false g = held-none k g
 
     pub none-held : rowCount rows ≤ 800 → Held rows (replicate 800 0)
     none-held s = record {

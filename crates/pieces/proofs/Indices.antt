@@ -4,16 +4,17 @@ use mathlib.Core.Path.{_≡_, refl, sym, ap₂, _∙_}
 use mathlib.Core.Bool.{Bool, Bool·beq, true, false, cond, not, _&&_, true≢false, false≢true}
 use mathlib.Core.Option.{Option, none, some}
 use native.Mathlib.Omega.{arith}
-use native.Mathlib.Decide.{ℕ-discrete, decLt}
+use native.Mathlib.Decide.{decLt}
 use lib.Dec.{eqb, ltb, leb, T}
 use lib.IntN.{ℤ, pos, negsuc, subℕ, _+ℤ_, natAbs}
 use lib.Signed.{ltZ, leZ, nonNeg}
 use mir.Syntax.{w64}
 use mir.Val.{SFits, toZ, ofZ}
 use mir.Facts.{toZ-ofZ}
-use borrow.Author.Tests.{ltb-true, ltb-false, leb-true, lt-ltb, le-ltb, eq-eqb, ne-eqb}
+use borrow.Author.Tests.{ltb-true, ltb-false, leb-true, lt-ltb, le-ltb}
 use Rattle.loops.specs.Numbers.{toNat}
 use Rattle.loops.proofs.BoolLaws.{and-left, and-right, or-left}
+use Rattle.loops.proofs.NumberLaws.{eqb-swap, neither-below}
 use Rattle.rows.specs.Class.{n-c, n?-c}
 use Rattle.rows.specs.Ranges.{between, isNone, inRange, inClass}
 use Rattle.rows.proofs.Signed.{number-low, number-high}
@@ -144,16 +145,8 @@ before-key x y f g = go (isNone x) (isNone y) refl refl
     go false true p q = rw (none-key y q) (sym (le-ltb (indexKey x) 0 (omega arith)))
     go false false p q = ranged-before x y (ranged x f p) (ranged y g q)
 
-neither : (a b : ℕ) → (not (ltb a b) && not (ltb b a)) ≡ eqb a b
-neither a b = go (ℕ-discrete a b) (decLt a b)
-  where
-    go : Dec (a ≡ b) → Dec (a < b) → (not (ltb a b) && not (ltb b a)) ≡ eqb a b
-    go (yes q) d = rw (le-ltb a b (omega arith), le-ltb b a (omega arith), eq-eqb a b q)
-    go (no q) (yes l) = rw (lt-ltb a b l, ne-eqb a b q)
-    go (no q) (no l) = rw (le-ltb a b (omega arith), lt-ltb b a (omega arith), ne-eqb a b q)
-
 pub same-key : (x y : ℤ) → inClass n?-c x ≡ true → inClass n?-c y ≡ true → sameIndex (indexIn x) (indexIn y) ≡ eqb (indexKey x) (indexKey y)
-same-key x y f g = ap₂ (λ a b. not a && not b) (before-key x y f g) (before-key y x g f) ∙ neither (indexKey x) (indexKey y)
+same-key x y f g = ap₂ (λ a b. not a && not b) (before-key x y f g) (before-key y x g f) ∙ neither-below (indexKey y) (indexKey x) ∙ eqb-swap (indexKey y) (indexKey x)
 
 -- ---- the part of a booking
 

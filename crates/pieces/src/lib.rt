@@ -7,6 +7,7 @@ ghost use lib.ListN.{set};
 ghost use Rattle.loops.specs.inner.Chain.{Blind};
 ghost use Rattle.loops.specs.Search.{anyBelow, firstPlace};
 ghost use Rattle.rows.specs.Cells.{rowCount, num, is};
+ghost use Rattle.sheet.specs.Places.{ofKind};
 ghost use Rattle.sheet.specs.inner.Found.{foundOf};
 ghost use Rattle.sheet.specs.inner.Index.{Kinds};
 ghost use Rattle.sheet.specs.inner.Accepted.{Accepted};
@@ -114,7 +115,7 @@ fn first_at(rows: &[i64], kinds: &[u16; 3680], k: usize) -> bool
     false
 }
 
-// 1 at row k where that is so, else 0.
+// 1 at row k where the test holds, else 0.
 pub fn mark(marks: &mut [u8; 800], k: usize, yes: bool)
     requires { ⌜ k < 800 ⌝ }
     ensures { λ _. ⌜ now (marks .exit) ≡ set (now (marks .entry)) k (cond yes 1 0) ⌝ }
@@ -253,6 +254,14 @@ fn marks_of(
     held
 }
 
+// Whether the sheet has a row that names a companion.
+fn names_companions(rows: &[i64], kinds: &[u16; 3680]) -> bool
+    requires { ⌜ Kinds (now rows) (now kinds) ⌝ }
+    ensures { λ r. ⌜ r ≡ anyBelow (ofKind (now (rows .entry)) 13) (rowCount (now (rows .entry))) ⌝ }
+{
+    sheet::first_of(rows, kinds, 13) < rows::row_count(rows)
+}
+
 // 1 at each booking that is held. Where the sheet names no companions that is none.
 pub fn held_of(
     rows: &[i64],
@@ -263,10 +272,10 @@ pub fn held_of(
     requires { ⌜ Accepted (now rows) × Kinds (now rows) (now kinds) × Linked (now rows) (now links) × Owned (now rows) (now owned) ⌝ }
     ensures { λ r. ⌜ Held (now (rows .entry)) r ⌝ }
 {
-    if rows::row_count(rows) <= sheet::first_of(rows, kinds, 13) {
-        return [0u8; 800];
+    if names_companions(rows, kinds) {
+        return marks_of(rows, kinds, links, owned);
     }
-    marks_of(rows, kinds, links, owned)
+    [0u8; 800]
 }
 
 // Whether booking k is held, by the marks.

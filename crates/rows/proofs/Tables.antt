@@ -15,6 +15,7 @@ use borrow.Author.Tests.{eq-eqb, ne-eqb}
 use mir.Syntax.{w64}
 use mir.Val.{SFits, toZ, ofZ}
 use mir.Facts.{toZ-ofZ}
+use Rattle.loops.specs.Lists.{allOf}
 use Rattle.rows.specs.Class.{Class, blank-c, kind-c, id-c, n-c, u-c, t-c, m-c, g-c, f-c, share-c, speed-c, n?-c, t?-c, m?-c, task-c, activity-c, resource-c, requirement-c, constraint-c}
 use Rattle.rows.specs.inner.Codes.{classes, classAt, codeOf, classTable, rangeOf, rangeTable}
 use Rattle.rows.specs.Table.{columns, classOf, width}
@@ -72,10 +73,6 @@ code-class requirement-c = refl
 code-class constraint-c = refl
 
 -- ---- a rule of a table, proved at all of its entries by one test that antt computes
-abbrev pub allOf : {A : Type 0} → (A → Bool) → List A → Bool
-allOf f [] = true
-allOf f (x ∷ xs) = f x && allOf f xs
-
 and-left : (a b : Bool) → T (a && b) → T a
 and-left true b t = tt
 and-left false b t = t
@@ -85,6 +82,7 @@ and-right true b t = t
 and-right false b t = absurd t
 
 pub all-at : {A : Type 0} (f : A → Bool) (xs : List A) (d : A) → T (allOf f xs) → T (f d) → (n : ℕ) → T (f (getD xs n d))
+unfolding allOf
 all-at f [] d t td n = td
 all-at f (x ∷ xs) d t td zero = and-left (f x) (allOf f xs) t
 all-at f (x ∷ xs) d t td (suc n) = all-at f xs d (and-right (f x) (allOf f xs) t) td n
@@ -94,6 +92,7 @@ abbrev fit : ℤ → Bool
 fit x = ltb (mag x) (2 ^ 63)
 
 fits : (n j : ℕ) → SFits w64 (getD (rangeOf (classAt n)) j (pos 0))
+unfolding allOf
 fits n j = sfits-of (ltb→lt _ _ (all-at fit (rangeOf (classAt n)) (pos 0) (all-at (λ cl. allOf fit (rangeOf cl)) classes blank-c tt tt n) tt j))
 
 range-entry : (l : List Class) (n j : ℕ) → getD (getD (map rangeOf l) n []) j (pos 0) ≡ getD (rangeOf (getD l n blank-c)) j (pos 0)
@@ -126,9 +125,11 @@ abbrev full : List Class → Bool
 full l = allOf (λ cl. ltb 0 (codeOf cl)) l && leb (length l) 9
 
 full-at : (kind : ℕ) → T (full (getD columns kind []))
+unfolding allOf
 full-at kind = all-at full columns [] tt tt kind
 
 blank-past : (l : List Class) (j : ℕ) → T (allOf (λ cl. ltb 0 (codeOf cl)) l) → codeOf (getD l j blank-c) ≡ 0 → length l ≤ j
+unfolding allOf
 blank-past [] j t e = omega arith
 blank-past (x ∷ l) zero t e = absurd (omega (arith, ltb→lt 0 (codeOf x) (and-left (ltb 0 (codeOf x)) (allOf (λ cl. ltb 0 (codeOf cl)) l) t)))
 blank-past (x ∷ l) (suc j) t e = omega (arith, blank-past l j (and-right (ltb 0 (codeOf x)) (allOf (λ cl. ltb 0 (codeOf cl)) l) t) e)

@@ -244,7 +244,7 @@ pub fn is_at(rows: &[i64], k: usize, c: usize, v: u64) -> bool
     num_at(rows, k, c) == v
 }
 
-// The same, with its bound: what is reported fits a signed number.
+// Column c of row k as a natural number, with its bound: what is reported fits a signed number.
 pub fn id_at(rows: &[i64], k: usize, c: usize) -> u64
     ensures value { λ r. ⌜ r ≡ num (now (rows .entry)) k c ⌝ }
     ensures bound { λ r. ⌜ r < 9223372036854775808 ⌝ }

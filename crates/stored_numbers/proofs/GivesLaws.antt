@@ -7,6 +7,7 @@ use borrow.Author.Tests.{eq-eqb, ne-eqb}
 use lib.Dec.{eqb}
 use lib.ListN.{length, take, drop}
 use Rattle.loops.specs.Lists.{each}
+use Rattle.loops.proofs.ListLaws.{each-ext}
 use Rattle.text_fields.specs.Parts.{untilByte, parts}
 use Rattle.text_line.specs.Line.{rowOf}
 use Rattle.stored_lines.specs.inner.Line.{letter, count, piece}
@@ -48,17 +49,12 @@ module _ (l : List ℕ) {x : ℕ} (e : x ≡ letter l) where
   unfolding lineGives
   gives-none plain rows d t = rw (sym e, ne-eqb x plain d, ne-eqb x rows t)
 
-each-same : {B : Type 0} (f g : List ℕ → List B) → ((l : List ℕ) → f l ≡ g l) → (ls : List (List ℕ)) → each f ls ≡ each g ls
-unfolding each
-each-same f g h [] = refl
-each-same f g h (l ∷ ls) = rw (h l, each-same f g h ls)
-
 plain-or-rows : (l : List ℕ) → lineGives 110 114 l ≡ numbersOf l
 unfolding lineGives numbersOf pieceAs
 plain-or-rows l = refl
 
 pub all-numbers : (ls : List (List ℕ)) → each (lineGives 110 114) ls ≡ each numbersOf ls
-all-numbers ls = each-same (lineGives 110 114) numbersOf plain-or-rows ls
+all-numbers ls = each-ext (lineGives 110 114) numbersOf plain-or-rows ls
 
 once : {A : Type 0} (t : Bool) (a b c : A) → cond t a (cond t b c) ≡ cond t a c
 once true a b c = refl
@@ -69,4 +65,4 @@ unfolding lineGives expectedOf pieceAs
 plain-only l = once (eqb (letter l) 101) (times (count l) (numbersIn (piece l))) (times (count l) (rowOf (piece l))) []
 
 pub all-expected : (ls : List (List ℕ)) → each (lineGives 101 101) ls ≡ each expectedOf ls
-all-expected ls = each-same (lineGives 101 101) expectedOf plain-only ls
+all-expected ls = each-ext (lineGives 101 101) expectedOf plain-only ls

@@ -1,6 +1,6 @@
 -- Laws of reading a line's fields one after the other. Assumes nothing.
 use Prim.Native.Nat.{ℕ, suc, _+_, _-_, _≤_, _<_}
-use mathlib.Core.Bool.{Bool, true, false, _&&_, and-true}
+use mathlib.Core.Bool.{Bool, true, _&&_, and-true, and-assoc}
 use mathlib.Core.List.{List, [], _∷_, map}
 use mathlib.Core.Path.{_≡_, refl, sym, ap, _∙_}
 use native.Mathlib.Omega.{arith}
@@ -13,10 +13,6 @@ use Rattle.text_fields.specs.Parts.{untilByte}
 use Rattle.text_fields.specs.Spelling.{numberOf}
 use Rattle.text_line.specs.Line.{isNumber, valueOf, spelled, fieldsOf}
 use Rattle.text_fields.proofs.PartLaws.{up-within, parts-last, parts-more, tail-is}
-
-and-and : (a b c : Bool) → ((a && b) && c) ≡ (a && (b && c))
-and-and true b c = refl
-and-and false b c = refl
 
 -- where j fields of the line were read to the rows from base on, good says that they are spelled right, and rest is left of the line
 pub record FieldsRead (line : List ℕ) (rows₀ : List ℤ) (base : ℕ) (rows : List ℤ) (rest : List ℕ) (j : ℕ) (good : Bool) : Type 0 where
@@ -47,7 +43,7 @@ module _ (line : List ℕ) (rows₀ : List ℤ) (base : ℕ) (rows : List ℤ) (
       let q : base + (j + 1) ≡ suc (base + j) = omega arith in
       rw (tail-is (length f + 1) rest)
       (record {
-        spelling = and-and good (isNumber (numberOf f)) (spelled (fieldsOf (drop (length f + 1) rest))) ∙ (rw p at (r .spelling));
+        spelling = and-assoc good (isNumber (numberOf f)) (spelled (fieldsOf (drop (length f + 1) rest))) ∙ (rw p at (r .spelling));
         stores = rw q (rw p at (r .stores));
         count = omega (arith, ap length p, r .count);
         within = simp length-drop (omega (arith, r .within));
