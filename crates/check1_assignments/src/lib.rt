@@ -2,7 +2,7 @@
 // the activity's requirements, lasts as long as its work, and starts no earlier than the releases.
 ghost use mathlib.Core.Path.{_≡_};
 ghost use Prim.Native.Nat.{_+_, _*_, _<_, _≤_};
-ghost use mathlib.Core.Bool.{true, false};
+ghost use mathlib.Core.Bool.{true, false, cond};
 ghost use mathlib.Core.Option.{some};
 ghost use lib.Dec.{ltb};
 ghost use lib.IntN.{pos, _-ℤ_};
@@ -121,6 +121,13 @@ fn takes_unit(rows: &[i64], held: &[u8; 800], a: usize, parts: bool, k: usize, j
     false
 }
 
+fn more(n: u64, yes: bool) -> u64
+    requires { ⌜ n < 18446744073709551615 ⌝ }
+    ensures { λ r. ⌜ r ≡ n + cond yes 1 0 ⌝ }
+{
+    if yes { n + 1 } else { n }
+}
+
 // How many bookings before booking k take a unit of its piece.
 fn uses_before(
     rows: &[i64],
@@ -137,7 +144,7 @@ fn uses_before(
     let mut used = 0;
     let mut j = owners::first_owned(rows, owned, a, 23);
     while j < k {
-        used = owners::more(used, takes_unit(rows, held, a, parts, k, j));
+        used = more(used, takes_unit(rows, held, a, parts, k, j));
         j = owners::next_owned(rows, owned, a, 23, j);
     }
     used

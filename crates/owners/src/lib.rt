@@ -41,7 +41,7 @@ fn is_constraint(rows: &[i64], k: usize) -> bool
 }
 
 // One more where the test holds.
-pub fn more(n: u64, yes: bool) -> u64
+fn more(n: u64, yes: bool) -> u64
     requires { ⌜ n < 18446744073709551615 ⌝ }
     ensures { λ r. ⌜ r ≡ n + cond yes 1 0 ⌝ }
 {
