@@ -33,7 +33,7 @@ def absent(sheet, row):
     if column and getattr(row, column) not in sheet.resource:
         yield f"resource {getattr(row, column)} is not in the sheet"
     for column in {8: ["predecessor"], 17: ["before", "after"], 19: ["activity"]}.get(row.kind, []):
-        yield from without_time(sheet, getattr(row, column), "nothing is said of this row")
+        yield from without_time(sheet, getattr(row, column), "the checks pass this row over")
     if row.kind == 22:
         yield from silent_member(sheet, row)
     if row.kind == 23:
@@ -52,7 +52,7 @@ def without_time(sheet, activity, what):
 def silent_member(sheet, row):
     constraint = sheet.constraints[row.constraint]
     if constraint.kind == 21:
-        yield from without_time(sheet, row.activity, f"nothing is said of constraint {row.constraint} ({line(constraint)})")
+        yield from without_time(sheet, row.activity, f"the checks pass constraint {row.constraint} ({line(constraint)}) over")
     elif not any(b.resource == constraint.resource for b in sheet.bookings_of[row.activity]):
         yield f"activity {row.activity} is not booked on resource {constraint.resource}: it is passed over"
 

@@ -38,7 +38,7 @@ def unknown_kind(lines, place):
     kind = lines[place].split(b",")[0]
     if not reading.is_number(kind) or int(kind) in COLUMNS:
         return Explained(place, "", None, [])
-    return Explained(place, f"The line begins with {int(kind)}, and there is no kind {int(kind)}.", 0, [])
+    return Explained(place, f"The line begins with {int(kind)}, and there is no kind {int(kind)}. Was the kind left out?", 0, [])
 
 
 def crowded(lines, place):
@@ -183,9 +183,10 @@ def twice(rows, row):
     if before is None:
         return Explained(row.place, "", None, [])
     what = {1: "task {0}", 2: "activity {0}", 11: "resource {0}", 3: "the overlap of activity {0}", 4: "the split of activity {0}",
-            9: "the timing of activity {0} on resource {1}", 10: "the timing of activity {0} on resource {1}",
-            14: "the transport from resource {0} to {1}"}[row.kind].format(row[2], row[3] if len(row) > 3 else "")
+            9: "the speed of activity {0} on resource {1}", 10: "the fixed timing of activity {0} on resource {1}",
+            14: "the transport from resource {0} to {1}"}[before.kind].format(row[2], row[3] if len(row) > 3 else "")
     words = f"{what[0].upper() + what[1:]} stands on {line(before)} already."
+    words += " There it has a speed or a fixed timing, not both." * (row.kind != before.kind)
     return Explained(row.place, words + (" The later row is refused: delete one of them, or give it another id." if row.kind in OWNERS else " Delete one of them."),
                      None, [before.place])
 

@@ -17,7 +17,7 @@ MISTYPED = [  # a pattern for a whole field, and what is wrong with it
     (rb"-?\d{1,3}([_' .]\d{3}){2,}|-?\d{1,3}([_' ]\d{3})+", "has marks between its digits: leave them out"),
     (rb"-?\d*\.\d*", "has a decimal point: numbers are whole, times are whole milliseconds"),
     (rb"-?\d+(\.\d+)?[eE][+-]?\d+", "has an exponent, as spreadsheets write large numbers: type all its digits"),
-    (rb"-?\d{19,}", "is too large: a number lies above -2^63 and below 2^63"),
+    (rb"-?\d{19,}", "is too far from 0: a number lies above -2^63 and below 2^63"),
     (rb"0[xX][0-9a-fA-F]+", "is in hexadecimal: type it in decimal"),
     (rb"\d{1,2}:\d{2}(:\d{2})?", "is a clock time: instants are milliseconds from the zero of the sheet"),
     (rb"\d{4}-\d{2}-\d{2}.*|\d{1,2}[./]\d{1,2}[./]\d{2,4}", "is a date: instants are milliseconds from the zero of the sheet"),
@@ -113,7 +113,7 @@ def mistyped(fields, number, bare):
     kind = kind_of(fields)
     if kind and 0 < number <= len(COLUMNS[kind]) and CLASSES[kind][number - 1] in ("share", "speed"):
         try:
-            return f"is typed as the whole number that has the bits of the float: for {float(bare)!r} that is {reading.bits_of(float(bare))}"
+            return f"must be typed as the whole number that has the bits of the float: for {float(bare)!r} that is {reading.bits_of(float(bare))}"
         except ValueError:
             pass
     for pattern, words in MISTYPED:

@@ -65,8 +65,8 @@ Needed = collections.namedtuple("Needed", "figure words rows")
 def needed(sheet, booking):
     """What a booking needs: its own setup with the derived process and teardown; in words; the rows that it comes from."""
     time = derived(sheet, booking)
-    words = f"setup {booking.setup} + process {time.process} + teardown {time.teardown}"
-    if time.teardown.parts:
-        words += f" (with {time.teardown.parts[1]} of overhead)"
-    figure = total("needed", typed(booking, "setup"), time.process, time.teardown)
+    teardown, *overhead = time.teardown.parts or [time.teardown]
+    words = f"setup {booking.setup} + process {time.process} + teardown {teardown}"
+    words += "".join(f" + overhead {of_part} ({line(of_part.row)})" for of_part in overhead)
+    figure = total("needed", typed(booking, "setup"), time.process, teardown, *overhead)
     return Needed(figure, words + (f"; {time.how}" if time.how else ""), [sheet.activity[booking.activity], *time.timings])

@@ -36,12 +36,17 @@ def usage(sheet, booking):
     return Figure("usage", 1)
 
 
+def usage_words(usage):
+    """Where a usage other than 1 stands."""
+    return f", usage on {line(usage.row)}" if usage.value != 1 else ""
+
+
 def over(sheet, resource, instant, active, limit, limit_words):
     peak = total("peak", *(u for _, u in active))
     taking = [(b, u) for b, u in active if u.value > 0]
     words = f"Resource {resource} holds {peak} at {instant}, its limit is {limit} ({limit_words})."
     if taking:
-        words += " Then run " + listed([f"activity {b.activity}, {b.start}..{b.end}, taking {u} ({line(b)})" for b, u in taking], 5) + "."
+        words += " Then run " + listed([f"activity {b.activity}, {b.start}..{b.end}, taking {u} ({line(b)}{usage_words(u)})" for b, u in taking], 5) + "."
     else:
         words += " Even a booking that takes nothing is above it."
     at = Figure("instant", instant)

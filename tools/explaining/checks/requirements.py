@@ -65,7 +65,7 @@ def lacking_skills(sheet, place, requirement, booking):
     for wanted in sheet.wanted_skills[requirement.activity, place]:
         if wanted.skill not in has.value:
             words = f"Resource {booking.resource} fills requirement {place} of activity {requirement.activity} ({line(requirement)}), which wants "
-            words += f"skill {wanted.skill} ({line(wanted)}). It has " + (f"only {listed(sorted(has.value))}." if has.value else "none.")
+            words += f"skill {wanted.skill} ({line(wanted)}). It has " + (f"only skill{'s' * (len(has.value) > 1)} {listed(sorted(has.value))}." if has.value else "no skill.")
             because = [Relation(typed(wanted, "skill"), "not among", has)]
             yield Reason("skill lacking", booking.resource, booking, words, because, [requirement] + sheet.skills[booking.resource])
 
@@ -74,7 +74,7 @@ def unfilled(sheet, piece, place, requirement, claimed, taken):
     pool = sheet.candidates[requirement.activity, place]
     wants = f"{requirement.quantity} of type {requirement.type}"
     if pool:
-        wants = f"{requirement.quantity} of the candidates {listed([row.resource for row in pool])}"
+        wants = f"{requirement.quantity} of the candidates (resource{'s' * (len(pool) > 1)} {listed([row.resource for row in pool])})"
     words = f"{piece.words}, requirement {place}, wants {wants} and gets {len(claimed)}"
     words += f" (resource {listed([b.resource for b in claimed])})." if claimed else "."
     if not piece.bookings:
@@ -91,7 +91,7 @@ def why_not(sheet, piece, place, requirement, booking, taken):
     """Why the resource of a booking does not fill the requirement."""
     resource, holder = sheet.resource.get(booking.resource), piece.held.get(booking.resource)
     if holder:
-        return f"is held as companion of {holder.resource} ({line(holder)})"
+        return f"is held as companion of {holder.resource} ({line(holder)}), and so fills nothing"
     if booking in taken:
         return f"fills the requirement on {line(taken[booking])} already"
     if resource is None:
