@@ -62,7 +62,7 @@ def without_effect(sheet, row):
     if row.kind == 1 and not sheet.activities_of[row.id]:
         yield "no activity is of this task"
     if row.kind == 3 and 0 < row.start_after <= 1024:
-        yield f"start after {row.start_after} are the bits of {reading.float_of(row.start_after)!r}; those of 1.0 are {reading.bits_of(1.0)}"
+        yield f"start after {row.start_after} is a share of next to nothing, the bits of {reading.float_of(row.start_after)!r}; those of 1.0 are {reading.bits_of(1.0)}"
     if row.kind == 5 and row.quantity < 1:
         yield f"quantity {row.quantity} asks for nothing"
     if row.kind == 11 and row.capacity < 1:

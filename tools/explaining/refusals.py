@@ -110,6 +110,8 @@ def wrong_value(value, mark):
     words = f"{value}: it holds {CLASS_WORDS[mark]}."
     if mark in ("share", "speed"):
         words += bits_words(value, mark)
+    if mark == "t" and 10**13 <= value < 10**14:
+        words += " Was a date typed?"
     if mark in ("t", "m") and value >= 10**14:
         words += " Were microseconds typed for milliseconds?"
     return words

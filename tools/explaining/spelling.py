@@ -40,7 +40,7 @@ def faults(line, is_ended, place):
     whole = not_a_row(inner)
     if whole:
         return edges + [Fault(whole, start)]
-    return edges + (list(wrong_fields(inner, start)) or list(wrong_count(inner, start)))
+    return edges + list(wrong_fields(inner, start)) + list(wrong_count(inner, start))
 
 
 def at_the_edges(line, is_ended, place):
@@ -123,7 +123,10 @@ def mistyped(fields, number, bare):
 
 
 def wrong_count(line, start):
-    """Too few or too many fields for the kind; nothing is said where the kind is unknown, for that is refusal 2."""
+    """Too few or too many fields for the kind; nothing is said where the kind is unknown, for that is refusal 2.
+
+    What commas were left out is said only where the row is in range with them at its end.
+    """
     fields = line.split(b",")
     kind, typed = kind_of(fields), len(fields) - 1
     columns = [column.replace("_", " ") for column in COLUMNS.get(kind, [])]
@@ -132,14 +135,24 @@ def wrong_count(line, start):
     wanted = f"{one_or_more(len(columns), 'column')} after the kind: {', '.join(columns)}" if columns else "no column after the kind"
     words = f"A row of kind {kind} ({NAMES[kind]}) has {wanted}. Typed are {typed}: "
     if typed > len(columns):
-        words += f"{one_or_more(typed - len(columns), 'comma')} too many" + " at the end" * (not any(fields[1 + len(columns) :]))
+        words += f"{one_or_more(typed - len(columns), 'comma')} too many"
+        words += ": does one stand inside a number, or was the kind left out?" if any(fields[1 + len(columns) :]) else " at the end."
     else:
         commas = len(columns) - typed
-        words += f"{one_or_more(commas, 'comma')} missing"
-        if all(c.endswith("?") for c in CLASSES[kind][typed:]):
-            words += f". {listed(columns[typed:]).capitalize()} may be empty, but {'its comma' if commas == 1 else 'their commas'} must stand: "
-            words += f"type {(line + b',' * commas).decode()} with the comma{'s' * (commas > 1)} at the end"
-    yield Fault(words + ".", start + len(line))
+        words += f"{one_or_more(commas, 'comma')} missing. "
+        bare = [field.strip(b" \t") for field in fields] + [b""] * commas
+        if in_range(kind, bare[1:]):
+            words += f"{listed(columns[typed:]).capitalize()} may be empty, but {'its comma' if commas == 1 else 'their commas'} must stand: "
+            words += f"type {b','.join(bare).decode()} with the comma{'s' * (commas > 1)} at the end."
+        else:
+            words += f"Which column is not there? Is {kind} its kind?"
+    yield Fault(words, start + len(line))
+
+
+def in_range(kind, fields):
+    """Whether the fields, as many as the kind has, are numbers of their classes, or empty where they may be."""
+    return all(field == b"" and optional or reading.is_number(field) and least <= int(field) <= greatest
+               for field, (least, greatest, optional) in zip(fields, reading.COLUMNS[kind]))
 
 
 def same_elsewhere(lines, place):
