@@ -141,7 +141,7 @@ def wrong_count(line, start):
         commas = len(columns) - typed
         words += f"{one_or_more(commas, 'comma')} missing. "
         bare = [field.strip(b" \t") for field in fields] + [b""] * commas
-        if in_range(kind, bare[1:]):
+        if in_range(bare):
             words += f"{listed(columns[typed:]).capitalize()} may be empty, but {'its comma' if commas == 1 else 'their commas'} must stand: "
             words += f"type {b','.join(bare).decode()} with the comma{'s' * (commas > 1)} at the end."
         else:
@@ -149,10 +149,10 @@ def wrong_count(line, start):
     yield Fault(words, start + len(line))
 
 
-def in_range(kind, fields):
-    """Whether the fields, as many as the kind has, are numbers of their classes, or empty where they may be."""
-    return all(field == b"" and optional or reading.is_number(field) and least <= int(field) <= greatest
-               for field, (least, greatest, optional) in zip(fields, reading.COLUMNS[kind]))
+def in_range(fields):
+    """Whether fields, as many as their kind has, would not be refused by 3."""
+    well_spelt = all(field == b"" or reading.is_number(field) for field in fields)
+    return well_spelt and not reading.out_of_range([reading.NONE if field == b"" else int(field) for field in fields])
 
 
 def same_elsewhere(lines, place):
