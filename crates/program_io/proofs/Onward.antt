@@ -98,13 +98,13 @@ pub within-begun : {place : Place} (room : ℕ) → place ≡ begun → Within p
 within-begun room e = rw e (record { inside = omega arith; some = omega arith; few = omega arith })
 
 -- a loop's turn: the step that it made, the room that it lent
-module _ {step : ReadStep} (place next : Place) (lent most room : ℕ) (t : Transfer) (w : Within place room) (l : place .done + lent ≡ most) (m : most ≡ room)
-    (e : step ≡ afterRead place lent t) (q : step ≡ read.On next) where
+module _ {step : ReadStep} (place next : Place) (lent after before room : ℕ) (t : Transfer) (w : Within place room) (l : place .done + lent ≡ after)
+    (m : after ≡ before) (k : before ≡ room) (e : step ≡ afterRead place lent t) (q : step ≡ read.On next) where
   pub read-within : Within next room
-  read-within = onward-within room (read-on place lent t (sym q ∙ e)) (l ∙ m) w
+  read-within = onward-within room (read-on place lent t (sym q ∙ e)) (l ∙ m ∙ k) w
 
   pub read-nearer : ahead next room < ahead place room
-  read-nearer = onward-nearer room (read-on place lent t (sym q ∙ e)) (l ∙ m) w
+  read-nearer = onward-nearer room (read-on place lent t (sym q ∙ e)) (l ∙ m ∙ k) w
 
 module _ {step : WriteStep} (place next : Place) (lent room : ℕ) (t : Transfer) (w : Within place room) (l : place .done + lent ≡ room)
     (e : step ≡ afterWrite place lent t) (q : step ≡ write.On next) where
@@ -148,6 +148,6 @@ held place lent buffer t l e q = held-by place lent buffer l t (sym q ∙ e)
 pub matched : {A : Type 0} {x y z : A} → x ≡ y → x ≡ z → y ≡ z
 matched e q = sym e ∙ q
 
-pub ruleset reading = (needs, within-begun, read-within, read-nearer, held, matched)
+pub ruleset reading = (needs, within-begun, read-within, read-nearer)
 
-pub ruleset writing = (needs, within-begun, write-within, write-nearer, matched)
+pub ruleset writing = (needs, within-begun, write-within, write-nearer)

@@ -2,7 +2,7 @@ use Prim.Native.Nat.{_≤_}
 use mathlib.Core.Path.{_≡_}
 use lib.ListN.{length}
 use borrow.Author.Needs.{needs}
-use Rattle.program_io.proofs.Onward.{Within, ahead, reading}
+use Rattle.program_io.proofs.Onward.{Within, ahead, held, matched, reading}
 use Rattle.program_io.proofs.read_to_end.Statement.{statement}
 use Rattle.program_io.proofs.read_to_end.Tie as tie
 
@@ -40,7 +40,7 @@ same-length : tie.Need-same-length Inv-loop μ-loop
 same-length c = search needs
 
 returns : tie.Need-returns Inv-loop μ-loop
-returns c = search reading
+returns c = (search (needs, matched), search (needs, held))
 
 pub read-to-end-spec : {M : Type 1} → statement M
 read-to-end-spec =

@@ -1,6 +1,6 @@
 use lib.ListN.{length}
 use borrow.Author.Needs.{needs}
-use Rattle.program_io.proofs.Onward.{Within, ahead, writing}
+use Rattle.program_io.proofs.Onward.{Within, ahead, matched, writing}
 use Rattle.program_io.proofs.write_to_end.Statement.{statement}
 use Rattle.program_io.proofs.write_to_end.Tie as tie
 
@@ -35,7 +35,7 @@ enum-known-step-2 : tie.Need-enum-known-step-2 Inv-loop μ-loop
 enum-known-step-2 c = search needs
 
 returns : tie.Need-returns Inv-loop μ-loop
-returns c = search writing
+returns c = search (needs, matched)
 
 pub write-to-end-spec : {M : Type 1} → statement M
 write-to-end-spec =

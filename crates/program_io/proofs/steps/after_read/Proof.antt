@@ -1,4 +1,5 @@
 use borrow.Author.Needs.{needs}
+use Rattle.program_io.proofs.Tests.{reads}
 use Rattle.program_io.proofs.steps.after_read.Statement.{statement}
 use Rattle.program_io.proofs.steps.after_read.Tie as tie
 
@@ -24,13 +25,13 @@ enum-told-2 : tie.Need-enum-told-2
 enum-told-2 c = search needs
 
 returns : tie.Need-returns
-returns c = cc
+returns c = search reads
 
 returns-2 : tie.Need-returns-2
-returns-2 c = cc
+returns-2 c = search reads
 
 returns-3 : tie.Need-returns-3
-returns-3 c = cc
+returns-3 c = search reads
 
 pub after-read-spec : {M : Type 1} → statement M
 after-read-spec =
