@@ -5,7 +5,7 @@ use mathlib.Core.List.{List}
 use mathlib.Core.Path.{_≡_, refl, sym, _∙_}
 use native.Mathlib.Omega.{arith}
 use borrow.Author.Needs.{needs}
-use borrow.Author.Tests.{leb-true, leb-false, eqb-true, eqb-false}
+use borrow.Author.Tests.{leb-false, eqb-false}
 use lib.Dec.{leb, eqb}
 use lib.ListN.{length}
 use Rattle.io.proofs.Counting.{counts}

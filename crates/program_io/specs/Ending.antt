@@ -1,7 +1,8 @@
 -- How reading and writing go on and end, one answer of the system after the other. What it answers, no contract can say; what is made of each answer is said
--- here: a read that failed is no end of the input, and neither is one that was interrupted. Assumes nothing.
+-- here: a read that failed is no end of the input, and neither is one that was interrupted. Left to believe is that `read` and `write` of `system.rt` lend the
+-- bytes that they are handed and tell the answer as it came: the fields of `Answer` are private, so no other code makes one. Assumes nothing.
 use Prim.Native.Nat.{ℕ, _+_, _-_}
-use mathlib.Core.Bool.{Bool, true, false, cond}
+use mathlib.Core.Bool.{Bool, false, cond}
 use mathlib.Core.Path.{_≡_}
 use lib.Dec.{leb, eqb}
 use lib.IntN.{ℤ, pos, negsuc}

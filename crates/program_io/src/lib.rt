@@ -32,7 +32,7 @@ pub struct Reading {
 }
 
 // What came of writing: every byte was taken, or a write failed, or one took nothing.
-pub enum Output {
+enum Output {
     Written,
     Failed,
     Cut,

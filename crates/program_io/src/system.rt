@@ -1,5 +1,5 @@
 // What the system answers to a read or a write. An answer's fields are private, so that no other page can make one up: all that the crate decides, it decides
-// of what `read` and `write` below were answered. Which bytes these lend to the system and that they tell its answer as it came has to be believed: no
+// of what `read` and `write` below were answered. That these lend the bytes that they are handed and tell the answer as it came has to be believed: no
 // contract can say what the outside gives and takes.
 ghost use mathlib.Core.Path.{_≡_};
 ghost use lib.ListN.{length};
