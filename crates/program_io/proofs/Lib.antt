@@ -1,2 +1,3 @@
-pub mod Transfers
-pub mod Endings
+pub mod Answers
+pub mod Tests
+pub mod Onward

@@ -1,26 +1,22 @@
 // A program's arguments, its standard input and its standard output. A read that failed is never taken for the end of the input, and an answer that could
-// not be written is never lost in silence: each is told in a line on standard error. What the outside gives and takes, no contract can say.
+// not be written is never lost in silence: each is told in a line on standard error. What the outside gives and takes, no contract can say; what is made of
+// each answer of the system, the page `Ending` says.
+mod steps;
+mod system;
+
 ghost use mathlib.Core.Path.{_≡_};
-ghost use Prim.Native.Nat.{_-_, _≤_};
+ghost use Prim.Native.Nat.{_+_, _≤_};
 ghost use lib.Dec.{eqb};
 ghost use lib.ListN.{length, take, drop};
-ghost use Rattle.program_io.specs.declared.Transfer.the-variants.{Moved};
-ghost use Rattle.program_io.specs.Ending.{readingOf, inputBy, writingOf, outputBy};
+ghost use Rattle.program_io.specs.Ending.{ReadToEnd, WrittenToEnd};
 ghost use Rattle.program_io.specs.inner.Input.{Held};
-ghost use Rattle.program_io.specs.inner.Transfer.{transferOf, Within};
 use libc::STDERR_FILENO;
 use libc::STDIN_FILENO;
 use libc::STDOUT_FILENO;
-
-// How often a read or a write is tried that signals interrupt; then it has failed.
-const TRIES: usize = 100;
-
-// What came of one read or write: so many bytes moved, a signal interrupted it before it moved any, or it failed, as errno tells.
-pub enum Transfer {
-    Moved(usize),
-    Interrupted,
-    Failed,
-}
+use steps::Place;
+use steps::ReadStep;
+use steps::WriteStep;
+use system::Answer;
 
 // What came of reading: so many bytes at the start of the buffer, after which the input ended or the buffer was full; or a read failed.
 pub enum Input {
@@ -28,10 +24,10 @@ pub enum Input {
     Failed,
 }
 
-// How reading ended: the last read, how many bytes the reads before it moved, and the input by these.
+// How reading ended: from where the last read was asked for, its answer, and the input by these.
 pub struct Reading {
-    pub last: Transfer,
-    pub done: usize,
+    from: Place,
+    last: Answer,
     pub input: Input,
 }
 
@@ -42,11 +38,11 @@ enum Output {
     Cut,
 }
 
-// How writing ended: the last write, how many bytes the writes before it took, and the output by these.
+// How writing ended: from where the last write was asked for, its answer, and the output by these.
 struct Writing {
-    pub last: Transfer,
-    pub done: usize,
-    pub output: Output,
+    from: Place,
+    last: Answer,
+    output: Output,
 }
 
 // A line on standard error.
@@ -85,118 +81,47 @@ pub fn arguments(count: usize, usage: &[u8]) -> Started
     }
 }
 
-// What the system's answer to a read or a write of the buffer says, where errno told of an interruption or not.
-fn transfer_of(got: isize, interrupted: bool, buffer: &[u8]) -> Transfer
-    ensures { λ r. ⌜ r ≡ transferOf got interrupted (length (now (buffer .entry))) ⌝ }
+// The system's answer to a read to the buffer's bytes from the place on; those before it stay. Where there are none, it is not asked.
+fn read_at(fd: i32, buffer: &mut [u8], place: Place) -> Answer
+    requires { ⌜ place .done ≤ length (now buffer) ⌝ }
+    ensures { λ r. ⌜ place .done + r .lent ≡ length (now (buffer .exit)) ⌝ }
+    ensures { λ _. ⌜ take (place .done) (now (buffer .exit)) ≡ take (place .done) (now (buffer .entry)) ⌝ }
 {
-    if got >= 0 {
-        return Transfer::Moved(io::count(got, buffer));
+    let done = place.done();
+    if buffer.len() <= done {
+        return Answer::none();
     }
-    if interrupted {
-        return Transfer::Interrupted;
-    }
-    Transfer::Failed
+    system::read(fd, &mut buffer[done..])
 }
 
-// It means something only just after a call that failed.
-fn was_interrupted() -> bool {
-    os::errno() == libc::EINTR
-}
-
-fn read_once(fd: i32, buffer: &mut [u8]) -> Transfer
-    ensures { λ r. ⌜ Within r (length (now (buffer .exit))) ⌝ }
-{
-    let got = libc::read(fd, buffer);
-    let interrupted = was_interrupted();
-    transfer_of(got, interrupted, buffer)
-}
-
-// A read that is taken up again where it was interrupted.
-fn read_some(fd: i32, buffer: &mut [u8]) -> Transfer
-    ensures { λ r. ⌜ Within r (length (now (buffer .exit))) ⌝ }
-{
-    let mut left = TRIES;
-    while left > 0 {
-        let read = read_once(fd, buffer);
-        let Transfer::Interrupted = read else {
-            return read;
-        };
-        left -= 1;
-    }
-    Transfer::Failed
-}
-
-// A read to the buffer's bytes from place `done` on; those before it stay.
-fn read_from(fd: i32, buffer: &mut [u8], done: usize) -> Transfer
-    requires { ⌜ done ≤ length (now buffer) ⌝ }
-    ensures { λ r. ⌜ Within r (length (now (buffer .entry)) - done) ⌝ }
-    ensures { λ _. ⌜ take done (now (buffer .exit)) ≡ take done (now (buffer .entry)) ⌝ }
-{
-    read_some(fd, &mut buffer[done..])
-}
-
-// The input by the last read, where the reads before it moved `done` bytes.
-fn reading_of(last: Transfer, done: usize, room: usize) -> Reading
-    ensures { λ r. ⌜ r ≡ readingOf last done room ⌝ }
-{
-    if room <= done {
-        return Reading {
-            last: last,
-            done: done,
-            input: Input::Read(done),
-        };
-    }
-    Reading {
-        last: last,
-        done: done,
-        input: input_of(last, done),
-    }
-}
-
-// A read that moved nothing is the end of the input.
-fn ended_by(n: usize, done: usize) -> Input
-    ensures { λ r. ⌜ r ≡ inputBy (Moved n) done ⌝ }
-{
-    if n == 0 {
-        return Input::Read(done);
-    }
-    Input::Failed
-}
-
-// One that failed is none.
-fn input_of(last: Transfer, done: usize) -> Input
-    ensures { λ r. ⌜ r ≡ inputBy last done ⌝ }
-{
-    match last {
-        Transfer::Moved(n) => ended_by(n, done),
-        Transfer::Interrupted => Input::Failed,
-        Transfer::Failed => Input::Failed,
-    }
-}
-
-// Reads until the input ends or the buffer is full. A read that moves nothing is the end, and none follows it: at a terminal another would wait for more.
+// Reads until the input ends or the buffer is full. No read follows the end: at a terminal it would wait for more.
 fn read_to_end(fd: i32, buffer: &mut [u8]) -> Reading
-    ensures { λ r. ⌜ r ≡ readingOf (r .last) (r .done) (length (now (buffer .exit))) ⌝ }
+    ensures { λ r. ⌜ ReadToEnd r (length (now (buffer .exit))) ⌝ }
     ensures { λ r. ⌜ Held (r .input) (now (buffer .exit)) ⌝ }
 {
-    let mut done = 0;
-    while done < buffer.len() {
-        let read = read_from(fd, buffer, done);
-        let Transfer::Moved(n) = read else {
-            return reading_of(read, done, buffer.len());
-        };
-        if n == 0 {
-            return reading_of(read, done, buffer.len());
+    let mut place = Place::begin();
+    loop {
+        let last = read_at(fd, buffer, place);
+        let step = steps::after_read(place, last);
+        match step {
+            ReadStep::On(next) => {
+                place = next;
+            }
+            ReadStep::Ended(input) => {
+                return Reading {
+                    from: place,
+                    last: last,
+                    input: input,
+                };
+            }
         }
-        done += n;
     }
-    reading_of(Transfer::Moved(0), done, buffer.len())
 }
 
 // Reads standard input to its end, or to the buffer's. At a terminal a line says first what is awaited. Where a read fails, a line names the input and
 // gives the system's words.
 pub fn read_input(input: &[u8], awaited: &[u8], buffer: &mut [u8]) -> Reading
-    ensures { λ r. ⌜ r ≡ readingOf (r .last) (r .done) (length (now (buffer .exit))) ⌝ }
+    ensures { λ r. ⌜ ReadToEnd r (length (now (buffer .exit))) ⌝ }
     ensures { λ r. ⌜ Held (r .input) (now (buffer .exit)) ⌝ }
 {
     if libc::isatty(STDIN_FILENO) == 1 {
@@ -210,23 +135,6 @@ pub fn read_input(input: &[u8], awaited: &[u8], buffer: &mut [u8]) -> Reading
     reading
 }
 
-// A write that is taken up again where it was interrupted.
-fn write_some(fd: i32, bytes: &[u8]) -> Transfer
-    ensures { λ r. ⌜ Within r (length (now (bytes .entry))) ⌝ }
-{
-    let mut left = TRIES;
-    while left > 0 {
-        let got = libc::write(fd, bytes);
-        let interrupted = was_interrupted();
-        let written = transfer_of(got, interrupted, bytes);
-        let Transfer::Interrupted = written else {
-            return written;
-        };
-        left -= 1;
-    }
-    Transfer::Failed
-}
-
 // What is left to write after the first `done` bytes.
 fn rest_of(bytes: &[u8], done: usize) -> &[u8]
     requires { ⌜ done ≤ length (now bytes) ⌝ }
@@ -235,59 +143,39 @@ fn rest_of(bytes: &[u8], done: usize) -> &[u8]
     &bytes[done..]
 }
 
-// A write of them.
-fn write_from(fd: i32, bytes: &[u8], done: usize) -> Transfer
-    requires { ⌜ done ≤ length (now bytes) ⌝ }
-    ensures { λ r. ⌜ Within r (length (now (bytes .entry)) - done) ⌝ }
+// The system's answer to a write of them. Where there are none, it is not asked.
+fn write_at(fd: i32, bytes: &[u8], place: Place) -> Answer
+    requires { ⌜ place .done ≤ length (now bytes) ⌝ }
+    ensures { λ r. ⌜ place .done + r .lent ≡ length (now (bytes .entry)) ⌝ }
 {
-    write_some(fd, rest_of(bytes, done))
-}
-
-// The output by the last write, where the writes before it took `done` bytes.
-fn writing_of(last: Transfer, done: usize, size: usize) -> Writing
-    ensures { λ r. ⌜ r ≡ writingOf last done size ⌝ }
-{
-    if size <= done {
-        return Writing {
-            last: last,
-            done: done,
-            output: Output::Written,
-        };
+    let done = place.done();
+    if bytes.len() <= done {
+        return Answer::none();
     }
-    Writing {
-        last: last,
-        done: done,
-        output: output_of(last),
-    }
-}
-
-// A write that took nothing, or that failed, left bytes behind.
-fn output_of(last: Transfer) -> Output
-    ensures { λ r. ⌜ r ≡ outputBy last ⌝ }
-{
-    match last {
-        Transfer::Moved(_) => Output::Cut,
-        Transfer::Interrupted => Output::Failed,
-        Transfer::Failed => Output::Failed,
-    }
+    system::write(fd, rest_of(bytes, done))
 }
 
 // Writes until every byte is taken, or a write fails or takes nothing.
 fn write_to_end(fd: i32, bytes: &[u8]) -> Writing
-    ensures { λ r. ⌜ r ≡ writingOf (r .last) (r .done) (length (now (bytes .entry))) ⌝ }
+    ensures { λ r. ⌜ WrittenToEnd r (length (now (bytes .entry))) ⌝ }
 {
-    let mut done = 0;
-    while done < bytes.len() {
-        let written = write_from(fd, bytes, done);
-        let Transfer::Moved(n) = written else {
-            return writing_of(written, done, bytes.len());
-        };
-        if n == 0 {
-            return writing_of(written, done, bytes.len());
+    let mut place = Place::begin();
+    loop {
+        let last = write_at(fd, bytes, place);
+        let step = steps::after_write(place, last);
+        match step {
+            WriteStep::On(next) => {
+                place = next;
+            }
+            WriteStep::Ended(output) => {
+                return Writing {
+                    from: place,
+                    last: last,
+                    output: output,
+                };
+            }
         }
-        done += n;
     }
-    writing_of(Transfer::Moved(0), done, bytes.len())
 }
 
 // Writes all that the program has to say to standard output, and closes it, since a file on another machine may fail only then. Where that fails, a line

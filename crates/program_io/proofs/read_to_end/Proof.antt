@@ -1,62 +1,45 @@
-use Rattle.program_io.proofs.Transfers.{moved-within}
-use Rattle.program_io.proofs.Endings.{reading-own, reading-held}
 use mathlib.Core.Path.{_≡_}
 use lib.ListN.{length}
-use Prim.Native.Nat.{_≤_, _-_}
 use borrow.Author.Needs.{needs}
+use Rattle.program_io.proofs.Onward.{Within, ahead, held, matched, reading}
 use Rattle.program_io.proofs.read_to_end.Statement.{statement}
 use Rattle.program_io.proofs.read_to_end.Tie as tie
 
 abbrev Inv-loop : tie.InvT-loop
-Inv-loop fd buffer₀ done₀ buffer done = (done ≤ length buffer) × (length buffer ≡ length buffer₀)
+Inv-loop fd buffer₀ place₀ buffer place = Within place (length buffer₀) × (length buffer ≡ length buffer₀)
 
 abbrev μ-loop : tie.MeasureT-loop
-μ-loop fd buffer₀ done₀ buffer done = length buffer - done
+μ-loop fd buffer₀ place₀ buffer place = ahead place (length buffer₀)
+
+begin-requires : tie.Need-begin-requires Inv-loop μ-loop
+begin-requires c κs = search needs
 
 loop-holds : tie.Need-loop-holds Inv-loop μ-loop
-loop-holds c = search needs
+loop-holds c = search reading
 
-read-from-requires : tie.Need-read-from-requires Inv-loop μ-loop
-read-from-requires c κs = search needs
+read-at-requires : tie.Need-read-at-requires Inv-loop μ-loop
+read-at-requires c κs = search reading
 
-enum-known-read : tie.Need-enum-known-read Inv-loop μ-loop
-enum-known-read c = search needs
+after-read-requires : tie.Need-after-read-requires Inv-loop μ-loop
+after-read-requires c κs = search reading
 
-reading-of-requires : tie.Need-reading-of-requires Inv-loop μ-loop
-reading-of-requires c κs = search needs
+enum-known-step : tie.Need-enum-known-step Inv-loop μ-loop
+enum-known-step c = search needs
+
+loop-less : tie.Need-loop-less Inv-loop μ-loop
+loop-less c = search reading
+
+loop-again : tie.Need-loop-again Inv-loop μ-loop
+loop-again c = search reading
+
+enum-known-step-2 : tie.Need-enum-known-step-2 Inv-loop μ-loop
+enum-known-step-2 c = search needs
 
 same-length : tie.Need-same-length Inv-loop μ-loop
 same-length c = search needs
 
 returns : tie.Need-returns Inv-loop μ-loop
-returns c = (search (needs, reading-own), reading-held _ _ _ _ (c .reading-of .ensures) (search needs))
-
-reading-of-requires-2 : tie.Need-reading-of-requires-2 Inv-loop μ-loop
-reading-of-requires-2 c κs = search needs
-
-same-length-2 : tie.Need-same-length-2 Inv-loop μ-loop
-same-length-2 c = search needs
-
-returns-2 : tie.Need-returns-2 Inv-loop μ-loop
-returns-2 c = (search (needs, reading-own), reading-held _ _ _ _ (c .reading-of2 .ensures) (search needs))
-
-add-done : tie.Need-add-done Inv-loop μ-loop
-add-done c = let h = moved-within (c .before .before .read .given .1) (c .before .before .before .before .before .before .read-from .ensures .0) in search needs
-
-loop-less : tie.Need-loop-less Inv-loop μ-loop
-loop-less c = search needs
-
-loop-again : tie.Need-loop-again Inv-loop μ-loop
-loop-again c = let h = moved-within (c .before .before .read .given .1) (c .before .before .before .before .before .before .read-from .ensures .0) in search needs
-
-reading-of-requires-3 : tie.Need-reading-of-requires-3 Inv-loop μ-loop
-reading-of-requires-3 c κs = search needs
-
-same-length-3 : tie.Need-same-length-3 Inv-loop μ-loop
-same-length-3 c = search needs
-
-returns-3 : tie.Need-returns-3 Inv-loop μ-loop
-returns-3 c = (search (needs, reading-own), reading-held _ _ _ _ (c .reading-of3 .ensures) (search needs))
+returns c = (search (needs, matched), search (needs, held))
 
 pub read-to-end-spec : {M : Type 1} → statement M
 read-to-end-spec =
@@ -64,18 +47,13 @@ read-to-end-spec =
     (tie.spec
     Inv-loop
     μ-loop
+    begin-requires
     loop-holds
-    read-from-requires
-    enum-known-read
-    reading-of-requires
-    same-length
-    returns
-    reading-of-requires-2
-    same-length-2
-    returns-2
-    add-done
+    read-at-requires
+    after-read-requires
+    enum-known-step
     loop-less
     loop-again
-    reading-of-requires-3
-    same-length-3
-    returns-3)
+    enum-known-step-2
+    same-length
+    returns)

@@ -1,52 +1,41 @@
-use Rattle.program_io.proofs.Transfers.{moved-within}
-use Rattle.program_io.proofs.Endings.{writing-own}
-use Prim.Native.Nat.{_≤_, _-_}
 use lib.ListN.{length}
 use borrow.Author.Needs.{needs}
+use Rattle.program_io.proofs.Onward.{Within, ahead, matched, writing}
 use Rattle.program_io.proofs.write_to_end.Statement.{statement}
 use Rattle.program_io.proofs.write_to_end.Tie as tie
 
 abbrev Inv-loop : tie.InvT-loop
-Inv-loop fd bytes done₀ done = done ≤ length bytes
+Inv-loop fd bytes place₀ place = Within place (length bytes)
 
 abbrev μ-loop : tie.MeasureT-loop
-μ-loop fd bytes done₀ done = length bytes - done
+μ-loop fd bytes place₀ place = ahead place (length bytes)
+
+begin-requires : tie.Need-begin-requires Inv-loop μ-loop
+begin-requires c κs = search needs
 
 loop-holds : tie.Need-loop-holds Inv-loop μ-loop
-loop-holds c = search needs
+loop-holds c = search writing
 
-write-from-requires : tie.Need-write-from-requires Inv-loop μ-loop
-write-from-requires c κs = search needs
+write-at-requires : tie.Need-write-at-requires Inv-loop μ-loop
+write-at-requires c κs = search writing
 
-enum-known-written : tie.Need-enum-known-written Inv-loop μ-loop
-enum-known-written c = search needs
+after-write-requires : tie.Need-after-write-requires Inv-loop μ-loop
+after-write-requires c κs = search writing
 
-writing-of-requires : tie.Need-writing-of-requires Inv-loop μ-loop
-writing-of-requires c κs = search needs
-
-returns : tie.Need-returns Inv-loop μ-loop
-returns c = search (needs, writing-own)
-
-writing-of-requires-2 : tie.Need-writing-of-requires-2 Inv-loop μ-loop
-writing-of-requires-2 c κs = search needs
-
-returns-2 : tie.Need-returns-2 Inv-loop μ-loop
-returns-2 c = search (needs, writing-own)
-
-add-done : tie.Need-add-done Inv-loop μ-loop
-add-done c = let h = moved-within (c .before .before .written .given .1) (c .before .before .before .before .write-from .ensures) in search needs
+enum-known-step : tie.Need-enum-known-step Inv-loop μ-loop
+enum-known-step c = search needs
 
 loop-less : tie.Need-loop-less Inv-loop μ-loop
-loop-less c = search needs
+loop-less c = search writing
 
 loop-again : tie.Need-loop-again Inv-loop μ-loop
-loop-again c = let h = moved-within (c .before .before .written .given .1) (c .before .before .before .before .write-from .ensures) in search needs
+loop-again c = search writing
 
-writing-of-requires-3 : tie.Need-writing-of-requires-3 Inv-loop μ-loop
-writing-of-requires-3 c κs = search needs
+enum-known-step-2 : tie.Need-enum-known-step-2 Inv-loop μ-loop
+enum-known-step-2 c = search needs
 
-returns-3 : tie.Need-returns-3 Inv-loop μ-loop
-returns-3 c = search (needs, writing-own)
+returns : tie.Need-returns Inv-loop μ-loop
+returns c = search (needs, matched)
 
 pub write-to-end-spec : {M : Type 1} → statement M
 write-to-end-spec =
@@ -54,15 +43,12 @@ write-to-end-spec =
     (tie.spec
     Inv-loop
     μ-loop
+    begin-requires
     loop-holds
-    write-from-requires
-    enum-known-written
-    writing-of-requires
-    returns
-    writing-of-requires-2
-    returns-2
-    add-done
+    write-at-requires
+    after-write-requires
+    enum-known-step
     loop-less
     loop-again
-    writing-of-requires-3
-    returns-3)
+    enum-known-step-2
+    returns)
