@@ -160,7 +160,7 @@ def keep(folder):
     files, hand = stored(folder), {remark: (numbers_of(lines), said(findings)) for remark, lines, findings in NAMED + LATER}
     known = {remark for cases in files.values() for remark, *_ in cases}
     files[list(files)[-1]] += [(remark, numbers, [ROOM], None) for remark, (numbers, _) in hand.items() if remark not in known]
-    changed = []
+    changed, written = [], {}
     for file, cases in files.items():
         c = Calls()
         for remark, numbers, judged, _ in cases:
@@ -171,8 +171,10 @@ def keep(folder):
             lines = [[int(x) for x in line[1:].split(b",")] for line in text.split(b"\n") if line[:1] in (b"e", b"C")]
             if [x for times, *finding in lines[:-1] for x in finding * times] != expected or lines[-1] != judged:
                 changed.append(remark)
+        written[file] = b"".join(made)
+    for file, text in written.items():  # all or none: where a sheet stops the run, the next one still lists every change
         with open(os.path.join(folder, file), "wb") as out:
-            out.write(b"".join(made))
+            out.write(text)
     print(f"{sum(map(len, files.values()))} cases, {len(changed)} changed or new" + "".join(f"\n  {remark}" for remark in changed))
 
 

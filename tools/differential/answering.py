@@ -11,12 +11,24 @@ BUILT = os.path.join(ROOT, "target", "differential")
 ROOM = 10**9  # for a sheet without a word before it: room for all findings
 
 
+def source():
+    """The folder of the Rust's source; the run ends where it is not there."""
+    folder = os.path.abspath(os.environ.get("U_SCHEDULE") or os.path.join(ROOT, "..", "shared", "docs", "src"))
+    if not os.path.isfile(os.path.join(folder, "src", "scheduler", "feasibility.rs")):
+        raise SystemExit(f"the Rust's source is not in {folder}: name its folder by U_SCHEDULE=FOLDER (tools/differential/README.md)")
+    return folder
+
+
+def cargo(manifest, *words, **more):
+    """Builds what a manifest describes, over that source, by these words and variables."""
+    words = ["cargo", "build", "--offline", "--quiet", *words, "--manifest-path", manifest]
+    if subprocess.run(words, env=dict(os.environ, CARGO_TARGET_DIR=BUILT, U_SCHEDULE=source(), **more)).returncode:
+        raise SystemExit(f"{os.path.relpath(os.path.dirname(manifest), ROOT)} was not built: cargo says why")
+
+
 def build(profile="dev"):
     """Builds the reference; gives the path of its program. dev: overflow checks on; release: for timing."""
-    words = ["cargo", "build", "--offline", "--quiet", "--profile", profile]
-    words += ["--manifest-path", os.path.join(HERE, "reference", "Cargo.toml")]
-    if subprocess.run(words, env=dict(os.environ, CARGO_TARGET_DIR=BUILT)).returncode:
-        raise SystemExit("the reference was not built: cargo says why")
+    cargo(os.path.join(HERE, "reference", "Cargo.toml"), "--profile", profile)
     if patches():
         print("the reference: the source, patched by " + ", ".join(patches()), file=sys.stderr)
     return os.path.join(BUILT, "debug" if profile == "dev" else profile, "reference")
