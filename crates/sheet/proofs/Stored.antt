@@ -32,6 +32,20 @@ nth-below rows q m = below rows (nthPlace q m (rowCount rows)) (λ k e. nth-at q
 
 -- ---- what it names
 
+-- as it is read, and as it is written
+module _ (rows : List ℤ) {n : ℕ} (e : n ≡ rowCount rows) where
+  pub stored-some : {k : ℕ} → k < n → some k ≡ storedPlace rows k
+  unfolding storedPlace
+  stored-some {k} l = rw (lt-ltb k (rowCount rows) (rw e at l))
+
+  pub stored-none : {k : ℕ} → n ≤ k → none ≡ storedPlace rows k
+  unfolding storedPlace
+  stored-none {k} l = rw (le-ltb k (rowCount rows) (rw e at l))
+
+  pub end-none : {x : Option ℕ} → x ≡ none → n ≡ orEnd rows x
+  unfolding orEnd
+  end-none f = rw f e
+
 module _ (rows : List ℤ) where
   -- a place that was stored names the row that it was found at
   pub stored : (x : Option ℕ) {o : ℕ} → o ≡ orEnd rows x → ((k : ℕ) → x ≡ some k → k < rowCount rows) → storedPlace rows o ≡ x
