@@ -15,6 +15,9 @@ use Rattle.loops.proofs.TableLaws.{first-found, first-absent}
 use Rattle.rows.specs.Cells.{rowCount}
 use Rattle.sheet.specs.Places.{placeOf, nthPlace}
 use Rattle.sheet.specs.inner.Index.{orEnd, storedPlace}
+use Rattle.sheet.specs.declared.Found.{Found}
+use Rattle.sheet.specs.declared.Found.the-variants.{Nothing}
+use Rattle.sheet.specs.inner.Found.{foundOf}
 use Rattle.sheet.proofs.Lookups.{nth-at, placed}
 
 -- ---- it is at most the number of rows
@@ -42,9 +45,9 @@ module _ (rows : List ℤ) {n : ℕ} (e : n ≡ rowCount rows) where
   unfolding storedPlace
   stored-none {k} l = rw (le-ltb k (rowCount rows) (rw e at l))
 
-  pub end-none : {x : Option ℕ} → x ≡ none → n ≡ orEnd rows x
+  pub end-none : {f : Found} → f ≡ Nothing → n ≡ orEnd rows (foundOf f)
   unfolding orEnd
-  end-none f = rw f e
+  end-none q = rw q e
 
 module _ (rows : List ℤ) where
   -- a place that was stored names the row that it was found at
