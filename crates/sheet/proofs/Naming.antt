@@ -1,14 +1,14 @@
 -- Laws of the table of kinds and names: its fill, and the chains by kind and column 1, which other pairs may share. Assumes nothing.
 use Prim.Native.Nat.{ℕ, suc, _+_, _-_, _<_, _≤_}
 use mathlib.Core.Path.{_≡_, refl, sym, _∙_}
-use mathlib.Core.Bool.{Bool, true, false, not, _&&_, true≢false, and-false, and-true}
+use mathlib.Core.Bool.{Bool, true, false, true≢false}
 use mathlib.Core.List.{List}
 use native.Mathlib.Omega.{arith}
 use lib.IntN.{ℤ}
 use lib.ListN.{length, getD, set, replicate, length-replicate}
 use mir.Syntax.{w64}
 use mir.Val.{Fits}
-use borrow.Author.Tests.{eq-eqb, not-true, not-false}
+use borrow.Author.Tests.{eq-eqb}
 use Rattle.loops.specs.inner.Chain.{same, First, Stands, Blind, Links, part}
 use Rattle.loops.proofs.BoolLaws.{and-left, and-right}
 use Rattle.loops.proofs.ChainLaws.{fits}
@@ -134,13 +134,6 @@ module _ (rows : List ℤ) (x id : ℕ) where
   pub pair-blind : (other : ℕ) → Blind (same (nameKey rows) (nameHash x id)) (namedPair rows x id other)
   unfolding namedPair
   pair-blind other = record { still = λ k e. rw (name-blind .still k e) }
-
--- a test whose second half is made first
-pub half-fails : {r b : Bool} (a : Bool) → r ≡ b → not r ≡ true → false ≡ (a && b)
-half-fails {r} a e f = rw (sym e ∙ not-true r f, and-false)
-
-pub half-holds : {r b s a : Bool} → r ≡ b → not r ≡ false → s ≡ a → s ≡ (a && b)
-half-holds {r} e f q = rw (sym e ∙ not-false r f, and-true) q
 
 -- what an answer and the branch that it takes say of the test
 pub told : {r b v : Bool} → r ≡ b → r ≡ v → b ≡ v
