@@ -8,6 +8,8 @@ use lib.IntN.{ℤ}
 use Rattle.loops.specs.Search.{anyBelow}
 use Rattle.rows.specs.Cells.{num}
 use Rattle.sheet.specs.Places.{named}
+use Rattle.sheet.specs.Refusals.{repeated}
+use Rattle.sheet.proofs.Groups.{by-groups}
 use Rattle.sheet.specs.inner.Groups.{group, namedPair, repeatedIn, repeatedBy}
 
 module _ (rows : List ℤ) (k g id other : ℕ) (q : g ≡ group (num rows k 0)) (e : id ≡ num rows k 1) (f : other ≡ num rows k 2) where
@@ -32,3 +34,9 @@ module _ (rows : List ℤ) (k g id other : ℕ) (q : g ≡ group (num rows k 0))
 pub may-repeat : (rows : List ℤ) (k g : ℕ) → g ≡ group (num rows k 0) → g ≡ 0 → false ≡ repeatedBy rows k
 unfolding repeatedIn
 may-repeat rows k g q z = rw (← q, z)
+
+pub group-read : {x v r : ℕ} → x ≡ v → r ≡ group x → r ≡ group v
+group-read e q = rw e at q
+
+pub repeat-read : (rows : List ℤ) (k : ℕ) {r : Bool} → r ≡ repeatedBy rows k → r ≡ repeated rows k
+repeat-read rows k e = e ∙ sym (by-groups rows k)
