@@ -7,13 +7,13 @@ num-at-requires : tie.Need-num-at-requires
 num-at-requires c κs = search needs
 
 returns : tie.Need-returns
-returns c = search (needs, booked)
+returns c = search booked
 
 owner-kind-requires : tie.Need-owner-kind-requires
 owner-kind-requires c κs = search needs
 
 returns-2 : tie.Need-returns-2
-returns-2 c = search (needs, ownerless)
+returns-2 c = search ownerless
 
 row-count-requires : tie.Need-row-count-requires
 row-count-requires c κs = search needs
@@ -22,22 +22,22 @@ owner-of-requires : tie.Need-owner-of-requires
 owner-of-requires c κs = search needs
 
 returns-3 : tie.Need-returns-3
-returns-3 c = search (needs, gone)
+returns-3 c = search gone
 
 owner-of-requires-2 : tie.Need-owner-of-requires-2
 owner-of-requires-2 c κs = search needs
 
 returns-4 : tie.Need-returns-4
-returns-4 c = search (needs, of-requirement)
+returns-4 c = search of-requirement
 
 has-members-requires : tie.Need-has-members-requires
 has-members-requires c κs = search needs
 
 returns-5 : tie.Need-returns-5
-returns-5 c = search (needs, of-constraint)
+returns-5 c = search of-constraint
 
 returns-6 : tie.Need-returns-6
-returns-6 c = search (needs, found)
+returns-6 c = search found
 
 pub is-unowned-spec : {M : Type 1} → statement M
 is-unowned-spec =
