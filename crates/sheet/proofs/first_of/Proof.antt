@@ -15,7 +15,6 @@ element-copy-out-result c = search needs
 cast-result : tie.Need-cast-result
 cast-result c = search (needs, kind-head-fits)
 
--- src/lib.rt
 returns : tie.Need-returns
 returns c = search (needs, kind-head)
 
