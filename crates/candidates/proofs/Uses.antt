@@ -12,9 +12,11 @@ use Rattle.loops.specs.Search.{someIf, firstPlace, anyBelow}
 use Rattle.loops.specs.inner.Chain.{Stands, Blind}
 use Rattle.loops.proofs.BoolLaws.{and-left}
 use Rattle.loops.proofs.ListLaws.{keep-collect, head-collect}
+use Rattle.loops.proofs.Walks.{seek-hit, seek-end}
 use Rattle.rows.specs.Cells.{rowCount, num, is}
 use Rattle.sheet.specs.Places.{placeOf}
 use Rattle.sheet.specs.Refusals.{refusalOf}
+use Rattle.sheet.proofs.Lookups.{placed}
 use Rattle.owners.specs.inner.Owners.{ownerKind, ownPlace, ownedBy}
 use Rattle.model.specs.Sheet.{sheet}
 use Rattle.model.specs.Activity.{requirementAt, requirements, candidates, isCandidate, usageOn}
@@ -96,7 +98,7 @@ module _ (rows : List ℤ) (a k : ℕ) where
       go true h false g = rw (requirement-row rows (num rows a 1) q h, h, g)
       go false h d g = rw (requirement-none rows (num rows a 1) q h, h)
 
-  pub usage-found : {x : Option ℕ} → placeOf rows 2 (num rows a 1) ≡ some a → x ≡ firstPlace takes (rowCount rows)
+  usage-found : {x : Option ℕ} → placeOf rows 2 (num rows a 1) ≡ some a → x ≡ firstPlace takes (rowCount rows)
       → option x 1 (λ q. num rows q 4) ≡ usageOn (sheet rows) (activityOf rows a) (resourceOf rows k)
   unfolding usageOn requirements
   usage-found {x} p e =
@@ -115,3 +117,16 @@ module _ (rows : List ℤ) (a k : ℕ) where
 
   pub usage-most : {n N i r : ℕ} → refusalOf rows ≡ none → i < N → N ≡ n → Stands (ownedBy rows a 5) n i → r ≡ num rows i 4 → r ≤ 1000000
   usage-most {i = i} acc l z s e = rw e (at-most rows (accepted rows acc) i 5 4 (is-requirement l z s))
+
+  -- what the loop answers, at the requirement that it stops at and at its end
+  module _ {n i : ℕ} (s : Stands (ownedBy rows a 5) (rowCount rows) i) (f : firstPlace takes i ≡ none) (p : placeOf rows 2 (num rows a 1) ≡ some a)
+      (z : n ≡ rowCount rows) where
+    pub usage-here : {r : ℕ} {b : Bool} → b ≡ isCandidate (sheet rows) (requirementOf rows i) (resourceOf rows k) → b ≡ true → i < n → r ≡ num rows i 4
+        → r ≡ usageOn (sheet rows) (activityOf rows a) (resourceOf rows k)
+    usage-here e t l q = q ∙ usage-found p (seek-hit takes (rowCount rows) n i l z f (takes-test l z s e t))
+
+    pub usage-none : n ≤ i → 1 ≡ usageOn (sheet rows) (activityOf rows a) (resourceOf rows k)
+    usage-none l = usage-found p (seek-end takes (rowCount rows) n i l z s f)
+
+pub activity-within : (rows : List ℤ) {a : ℕ} → placeOf rows 2 (num rows a 1) ≡ some a → a ≤ rowCount rows
+activity-within rows {a} p = omega (arith, placed rows 2 (num rows a 1) a p .within)

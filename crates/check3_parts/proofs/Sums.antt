@@ -1,17 +1,18 @@
 -- Sums over the indices, one booking more. Assumes nothing.
 use Prim.Native.Nat.{ℕ, zero, suc, _+_, _*_, _-_, _<_, _≤_}
 use mathlib.Core.Path.{_≡_, refl, ap, sym, _∙_}
-use mathlib.Core.Bool.{Bool, true, false, cond, not}
+use mathlib.Core.Bool.{Bool, true, false, cond, not, _||_}
 use mathlib.Core.List.{List, [], _∷_, _++_, append-nil}
 use mathlib.Core.Option.{some}
 use native.Mathlib.Omega.{arith}
 use native.Mathlib.Decide.{ℕ-discrete}
-use borrow.Author.Tests.{eq-eqb, ne-eqb}
+use borrow.Author.Tests.{eq-eqb, ne-eqb, lt-ltb, le-ltb}
 use lib.Dec.{eqb, ltb}
 use lib.IntN.{ℤ, pos}
 use lib.Signed.{ltZ}
 use mir.Syntax.{w64}
-use mir.Val.{Fits, boolByte}
+use mir.Val.{Fits, SFits, boolByte, toZ, ofZ}
+use mir.Facts.{toZ-ofZ}
 use Rattle.loops.specs.Lists.{option}
 use Rattle.loops.proofs.Walks.{stands-end}
 use Rattle.loops.specs.inner.Chain.{First, Stands, Blind}
@@ -117,7 +118,7 @@ module _ (rows : List ℤ) (x mode : ℕ) where
   sum-end o a l z h = h ∙ ap (λ k. measured (measureOf rows x mode) (partsOf (partsBelow rows o k))) (stands-end a l z)
 
 -- a test as a number
-pub byte-is : (b : Bool) → boolByte b ≡ cond b 1 0
+byte-is : (b : Bool) → boolByte b ≡ cond b 1 0
 byte-is true = refl
 byte-is false = refl
 
@@ -142,10 +143,30 @@ module _ (rows : List ℤ) (o : ℕ) where
   unfolding wholeAt
   whole-here l z a e f = rw (a .here (omega arith), ← e) f
 
-pub outside-low : (most i : ℤ) → ltZ i (pos 0) ≡ true → true ≡ outside most i
-unfolding outside
-outside-low most i h = rw h
+-- whether an index is outside, of the two cells as they were read
+module _ (most i z : ℤ) (f : SFits w64 z) (q : z ≡ i) where
+  pub outside-low : ltZ (toZ w64 (ofZ w64 z)) (pos 0) ≡ true → true ≡ outside most i
+  unfolding outside
+  outside-low h = rw (← q, rw (toZ-ofZ f) at h)
 
-pub outside-not : (most i : ℤ) → ltZ i (pos 0) ≡ false → not (ltZ i most) ≡ outside most i
-unfolding outside
-outside-not most i h = rw h
+  pub outside-not : {y : ℤ} → ltZ (toZ w64 (ofZ w64 z)) (pos 0) ≡ false → SFits w64 y → y ≡ most → not (ltZ (toZ w64 (ofZ w64 z)) (toZ w64 (ofZ w64 y))) ≡ outside most i
+  unfolding outside
+  outside-not h g p = rw (toZ-ofZ f, toZ-ofZ g, p, ← q, rw (toZ-ofZ f) at h)
+
+-- more indices than the split has parts, or some outside
+module _ (b : Bool) {v w n : ℕ} (e : v ≡ w) where
+  pub beyond-yes : v < n → true ≡ (ltb w n || b)
+  beyond-yes l = rw (← e, lt-ltb v n l)
+
+  pub beyond-no : n ≤ v → b ≡ (ltb w n || b)
+  beyond-no l = rw (← e, le-ltb v n l)
+
+-- the last two measures
+module _ (rows : List ℤ) (x mode : ℕ) (i : ℤ) (w : ℕ) (f : mode ≡ 0 → ⊥) (g : mode ≡ 1 → ⊥) where
+  pub measure-short : {m : ℕ} → mode ≡ 2 → m ≡ num rows x 3 → boolByte (ltb w m) ≡ measureOf rows x mode i w
+  unfolding measureOf
+  measure-short {m} e q = rw (ne-eqb mode 0 f, ne-eqb mode 1 g, eq-eqb mode 2 e, ← q) (byte-is (ltb w m))
+
+  pub measure-outside : {b : Bool} → (mode ≡ 2 → ⊥) → b ≡ outside (cell rows x 2) i → boolByte b ≡ measureOf rows x mode i w
+  unfolding measureOf
+  measure-outside {b} e q = rw (ne-eqb mode 0 f, ne-eqb mode 1 g, ne-eqb mode 2 e, ← q) (byte-is b)

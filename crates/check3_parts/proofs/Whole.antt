@@ -1,5 +1,5 @@
 -- Check 3 by rows is check 3. Assumes nothing.
-use Prim.Native.Nat.{ℕ, _<_}
+use Prim.Native.Nat.{ℕ, suc, _<_, _≤_}
 use mathlib.Core.Path.{_≡_, refl, ap, ap₂, sym, _∙_}
 use mathlib.Core.Bool.{Bool, Bool·beq, true, false, cond, not, _&&_, true≢false, or-false}
 use mathlib.Core.List.{List, [], _∷_, _++_, append-nil}
@@ -10,16 +10,20 @@ use Rattle.loops.specs.Numbers.{toNat}
 use Rattle.loops.specs.Lists.{given, anyOf, head, option, isSome, isEmpty, each}
 use Rattle.loops.specs.Range.{collect}
 use Rattle.loops.specs.Search.{someIf, firstPlace}
-use Rattle.loops.specs.inner.Chain.{only}
+use Rattle.loops.specs.inner.Chain.{First, Stands, only}
 use Rattle.loops.proofs.RangeLaws.{collect-ext}
 use Rattle.loops.proofs.ListLaws.{each-collect, each-keep, any-keep, any-collect, head-collect}
 use Rattle.loops.proofs.PlaceLaws.{any-same}
 use Rattle.findings.specs.inner.Sink.{Sink, emit}
 use Rattle.findings.proofs.SinkLaws.{emit-then, emit-none}
+use Rattle.findings.proofs.Reports.{emit-end, emit-turn}
 use Rattle.rows.specs.Cells.{rowCount, cell, num, is}
 use Rattle.rows.specs.Ranges.{isNone}
 use Rattle.sheet.specs.Places.{ofKind, placeOf}
 use Rattle.sheet.specs.inner.Accepted.{Accepted}
+use Rattle.sheet.specs.inner.Found.{foundOf}
+use Rattle.sheet.specs.declared.Found.{Found}
+use Rattle.sheet.specs.declared.Found.the-variants.{At, Nothing}
 use Rattle.owners.specs.inner.Owners.{ownerKind, ownedBy}
 use Rattle.model.specs.Sheet.{number, nothing, sheet, rowAt}
 use Rattle.model.specs.inner.Records.{numAt, intAt, activityOf}
@@ -150,25 +154,38 @@ module _ (rows : List ℤ) (acc : Accepted rows) where
         ∙ ap (λ b. twoWorks (num rows o 1) [] (partsBelow rows o (rowCount rows)) ++ cond b [] (checkPartsOf (num rows o 1) (num rows o 5) (splitOf rows x) (wholeIn rows o) (partsOf (partsBelow rows o (rowCount rows)))))
         (empty-is rows x (partsBelow rows o (rowCount rows)))
 
-    pub activity-told : (x : ℕ) (s : Sink) {s₁ s₂ : Sink} → some x ≡ firstPlace (ownedBy rows o 4) (rowCount rows)
+    pub activity-told : (s : Sink) {s₁ s₂ : Sink} {f : Found} {x : ℕ} → f ≡ At x → foundOf f ≡ firstPlace (ownedBy rows o 4) (rowCount rows)
         → s₁ ≡ emit s (twoWorks (num rows o 1) [] (partsBelow rows o (rowCount rows))) → s₂ ≡ emit s₁ (splitFindings rows x o) → s₂ ≡ emit s (activityFindings rows o)
     unfolding checkActivityParts
-    activity-told x s f q r =
+    activity-told s {x = x} g f q r =
         emit-then _ _ s q r
         ∙ ap (emit s) (sym (ap (λ y. option y [] (checkSplit (sheet rows) (activityOf rows o)))
-        (split-is ∙ ap (λ y. option y none (λ k. some (splitOf rows k))) (sym f))
+        (split-is ∙ ap (λ y. option y none (λ k. some (splitOf rows k))) (sym (rw g at f)))
         ∙ activity-with x))
 
-    pub activity-quiet : (s : Sink) → none ≡ firstPlace (ownedBy rows o 4) (rowCount rows) → s ≡ emit s (activityFindings rows o)
+    pub activity-quiet : (s : Sink) {f : Found} → f ≡ Nothing → foundOf f ≡ firstPlace (ownedBy rows o 4) (rowCount rows) → s ≡ emit s (activityFindings rows o)
     unfolding checkActivityParts
-    activity-quiet s f =
+    activity-quiet s g f =
         sym (ap (emit s) (ap (λ y. option y [] (checkSplit (sheet rows) (activityOf rows o)))
-        (split-is ∙ ap (λ y. option y none (λ k. some (splitOf rows k))) (sym f))) ∙ emit-none s)
+        (split-is ∙ ap (λ y. option y none (λ k. some (splitOf rows k))) (sym (rw g at f)))) ∙ emit-none s)
 
   whole : collect (only (ofKind rows 1) (taskFindings rows)) (rowCount rows) ≡ checkParts (sheet rows)
   unfolding checkParts taskFindings
   whole = tasks-by-rows rows acc (checkActivityParts (sheet rows)) (activityFindings rows) (λ o l h. unfold activityFindings in refl)
 
-pub by-rows : (rows : List ℤ) {kinds links owned : List ℕ} → Indexed rows kinds links owned
-    → collect (only (ofKind rows 1) (taskFindings rows)) (rowCount rows) ≡ checkParts (sheet rows)
-by-rows rows h = whole rows (accepted rows (h .accepted))
+-- ---- the loops over the tasks, and over the activities of a task
+
+module _ (rows : List ℤ) (s₀ : Sink) {N i : ℕ} {s : Sink} where
+  pub activities-turn : (t : ℕ) {j : ℕ} {s′ : Sink} → First (ownedBy rows t 2) (suc i) (rowCount rows) j → Stands (ownedBy rows t 2) (rowCount rows) i → N ≡ rowCount rows → i < N
+      → s ≡ emit s₀ (collect (only (ownedBy rows t 2) (activityFindings rows)) i) → s′ ≡ emit s (activityFindings rows i)
+      → s′ ≡ emit s₀ (collect (only (ownedBy rows t 2) (activityFindings rows)) j)
+  activities-turn t f a z l r q = emit-turn _ _ s₀ f l z a r q
+
+  pub tasks-turn : {j : ℕ} {s′ : Sink} → First (ofKind rows 1) (suc i) (rowCount rows) j → Stands (ofKind rows 1) (rowCount rows) i → N ≡ rowCount rows → i < N
+      → s ≡ emit s₀ (collect (only (ofKind rows 1) (taskFindings rows)) i) → s′ ≡ emit s (taskFindings rows i)
+      → s′ ≡ emit s₀ (collect (only (ofKind rows 1) (taskFindings rows)) j)
+  tasks-turn f a z l r q = emit-turn _ _ s₀ f l z a r q
+
+  pub tasks-end : {kinds links owned : List ℕ} → Indexed rows kinds links owned → Stands (ofKind rows 1) (rowCount rows) i → N ≤ i → N ≡ rowCount rows
+      → s ≡ emit s₀ (collect (only (ofKind rows 1) (taskFindings rows)) i) → s ≡ emit s₀ (checkParts (sheet rows))
+  tasks-end h a l z r = emit-end _ (rowCount rows) N i s₀ l z a r ∙ ap (emit s₀) (whole rows (accepted rows (h .accepted)))

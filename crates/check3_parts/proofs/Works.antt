@@ -9,22 +9,24 @@ use native.Mathlib.Numerals.{add-one}
 use native.Mathlib.Decide.{decLt}
 use lib.Dec.{eqb}
 use lib.IntN.{ℤ}
+use borrow.Author.Tests.{eq-eqb, ne-eqb}
 use lib.Signed.{ltZ}
 use Rattle.loops.specs.Lists.{given, keep, option}
 use Rattle.loops.specs.Ordered.{Entry, upsert}
 use Rattle.loops.specs.Range.{collect}
-use Rattle.loops.specs.inner.Chain.{First, Silent, only}
+use Rattle.loops.specs.inner.Chain.{First, Stands, Silent, only}
 use Rattle.loops.proofs.OrderedLaws.{alike, integer-order, lookup, sorted, sorted-upsert, lookup-upsert, scan-is}
 use Rattle.loops.proofs.BoolLaws.{not-true}
 use Rattle.loops.proofs.Walks.{collect-first, collect-next}
 use Rattle.loops.proofs.RangeLaws.{collect-step}
-use Rattle.rows.specs.Cells.{cell, num}
+use Rattle.rows.specs.Cells.{rowCount, cell, num, is}
 use Rattle.rows.specs.Ranges.{isNone}
 use Rattle.sheet.specs.inner.Accepted.{Accepted}
 use Rattle.owners.specs.inner.Owners.{ownedBy}
 use Rattle.findings.specs.declared.Violation.{Violation}
 use Rattle.findings.specs.inner.Sink.{Sink, emit}
 use Rattle.findings.proofs.SinkLaws.{emit-none}
+use Rattle.findings.proofs.Reports.{emit-end}
 use Rattle.model.specs.Schedule.{Part, unknownActivity}
 use Rattle.definition.specs.Pieces.{sameIndex}
 use Rattle.definition.specs.CheckParts.{partsOf, workOf, twoWorks}
@@ -51,7 +53,27 @@ work-is l i = scan-is ltZ integer-order i (partsOf l) (sorted-from l [] (unfold 
 pub work-more : (l : List Part) (p : Part) (i : ℤ) → workOf (l ++ p ∷ []) i ≡ cond (alike ltZ i (p .index)) (some (p .work)) (workOf l i)
 work-more l p i = rw (work-is (l ++ p ∷ []) i, parts-more l p, work-is l i) (lookup-upsert ltZ integer-order (p .index) (p .work) (λ w. p .work) i (partsOf l))
 
+-- the work of an index, after a booking
+module _ (rows : List ℤ) (i k e : ℕ) {b : Bool} (q : b ≡ hasPart rows i) where
+  pub after-whole : b ≡ false → e ≡ cond (hasPart rows i && eqb (keyAt rows i) (keyAt rows k)) (num rows i 8 + 1) e
+  after-whole f = rw (sym q ∙ f)
+
+  module _ {v w : ℕ} (f : b ≡ true) (x : v ≡ keyAt rows i) (y : w ≡ keyAt rows k) where
+    pub after-same : {p : ℕ} → v ≡ w → p ≡ num rows i 8 → p + 1 ≡ cond (hasPart rows i && eqb (keyAt rows i) (keyAt rows k)) (num rows i 8 + 1) e
+    after-same z h = rw (sym q ∙ f, ← x, ← y, eq-eqb v w z) (ap (λ m. m + 1) h)
+
+    pub after-other : (v ≡ w → ⊥) → e ≡ cond (hasPart rows i && eqb (keyAt rows i) (keyAt rows k)) (num rows i 8 + 1) e
+    after-other z = rw (sym q ∙ f, ← x, ← y, ne-eqb v w z)
+
 -- ---- the bookings of the activity
+
+-- where a loop along the rows of an owner stands
+module _ (rows : List ℤ) (o x : ℕ) {n N k : ℕ} (a : Stands (ownedBy rows o x) n k) (l : k < N) (z : N ≡ n) where
+  pub owned-here : ownedBy rows o x k ≡ true
+  owned-here = a .here (omega arith)
+
+  pub kind-here : is rows k 0 x ≡ true
+  kind-here = owned-kind rows o x k owned-here
 
 module _ (rows : List ℤ) (o : ℕ) where
   pub part-silent : Silent (ownedBy rows o 23) (partAt rows o)
@@ -92,12 +114,14 @@ module _ (rows : List ℤ) (o : ℕ) where
         ∙ same-key (cell rows i 7) (cell rows k 7) (index-class rows acc i (owned-kind rows o 23 i a)) (index-class rows acc k (owned-kind rows o 23 k b))
 
     module _ (k : ℕ) (b : ownedBy rows o 23 k ≡ true) (q : hasPart rows k ≡ true) where
-      pub work-turn : (n e : ℕ) {i j e′ : ℕ} → ownedBy rows o 23 i ≡ true → First (ownedBy rows o 23) (suc i) n j
-          → decoded e ≡ workOf (partsBelow rows o i) (cell rows k 7)
+      pub work-turn : (e : ℕ) {n i j e′ : ℕ} → First (ownedBy rows o 23) (suc i) n j → Stands (ownedBy rows o 23) (rowCount rows) i → i < k → k < rowCount rows
           → e′ ≡ cond (hasPart rows i && eqb (keyAt rows i) (keyAt rows k)) (num rows i 8 + 1) e
-          → decoded e′ ≡ workOf (partsBelow rows o j) (cell rows k 7)
-      work-turn n e {i} {j} {e′} a s r t = ap decoded t ∙ go (hasPart rows i) refl ∙ ap (λ l. workOf l (cell rows k 7)) (sym (parts-next s))
+          → decoded e ≡ workOf (partsBelow rows o i) (cell rows k 7) → decoded e′ ≡ workOf (partsBelow rows o j) (cell rows k 7)
+      work-turn e {n} {i} {j} {e′} s at l m t r = ap decoded t ∙ go (hasPart rows i) refl ∙ ap (λ l. workOf l (cell rows k 7)) (sym (parts-next s))
         where
+          a : ownedBy rows o 23 i ≡ true
+          a = at .here (omega arith)
+
           pick : (c : Bool) → decoded (cond c (num rows i 8 + 1) e) ≡ cond c (some (num rows i 8)) (decoded e)
           pick true = rw add-one
           pick false = refl
@@ -152,6 +176,10 @@ module _ (rows : List ℤ) (o : ℕ) where
   unfolding collect partsBelow
   works-are zero = unfold twoWorks in refl
   works-are (suc n) = ap (λ x. x ++ worksAt n) (works-are n) ∙ sym (two-append (num rows o 1) [] (partsBelow rows o n) (partAt rows o n))
+
+  pub works-end : (s₀ : Sink) {N k : ℕ} {s : Sink} → Stands (ownedBy rows o 23) (rowCount rows) k → N ≤ k → N ≡ rowCount rows → s ≡ emit s₀ (collect worksAt k)
+      → s ≡ emit s₀ (twoWorks (num rows o 1) [] (partsBelow rows o (rowCount rows)))
+  works-end s₀ {N} {k} a l z r = emit-end worksAt (rowCount rows) N k s₀ l z a r ∙ ap (emit s₀) (works-are (rowCount rows))
 
   -- a booking of a part
   pub work-told : (k before : ℕ) (s : Sink) {s′ : Sink} {w id : ℕ} {t : Bool} → ownedBy rows o 23 k ≡ true → hasPart rows k ≡ true

@@ -137,8 +137,8 @@ module _ (rows : List ℤ) (k : ℕ) where
     neither h = two false false (absent-plain 1 (and-left (plain kind 1) (plain kind 2) h)) (absent-plain 2 (and-right (plain kind 1) (plain kind 2) h))
 
     -- bookings and time-only spans name no owner
-    pub booked : 22 < kind → unowned rows k ≡ false
-    booked l = go (decLt kind 25)
+    pub booked : 22 < kind → false ≡ unowned rows k
+    booked l = sym (go (decLt kind 25))
       where
         go : Dec (kind < 25) → unowned rows k ≡ false
         go (yes h) = neither (rw (lt-ltb 22 kind l) at (agree-at kind h))
@@ -148,8 +148,8 @@ module _ (rows : List ℤ) (k : ℕ) where
       is-kind : (v : ℕ) → x ≡ v → ownerKind kind ≡ v
       is-kind v w = sym q ∙ w
 
-      pub ownerless : x ≡ 0 → unowned rows k ≡ false
-      ownerless w = neither (rw (le-ltb 22 kind l, is-kind 0 w) at (agree-at kind (omega arith)))
+      pub ownerless : x ≡ 0 → false ≡ unowned rows k
+      ownerless w = sym (neither (rw (le-ltb 22 kind l, is-kind 0 w) at (agree-at kind (omega arith))))
 
       pub by-task : x ≡ 1 → unowned rows k ≡ isAbsent (ownerOf rows 1 k)
       unfolding lacks ownerOf
@@ -237,7 +237,7 @@ module _ (rows : List ℤ) (k : ℕ) where
 
         pub found : (x ≡ 5 → ⊥) → (x ≡ 17 → ⊥) → o < n → false ≡ unowned rows k
         found a b m =
-            each-owner (λ w. sym (ownerless w))
+            each-owner ownerless
             (λ w. sym (by-task w ∙ ap isAbsent (there-is 1 w m)))
             (λ w. sym (by-activity w ∙ ap isAbsent (there-is 2 w m)))
             (λ w. absurd (a w))

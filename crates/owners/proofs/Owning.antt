@@ -1,27 +1,47 @@
 -- Laws of the chains by owner and kind: two kinds may share a chain, and the reader passes over the rows of the other kind. Assumes nothing.
-use Prim.Native.Nat.{ℕ, suc, _+_, _*_, _%_, _<_, _≤_}
+use Prim.Native.Nat.{ℕ, suc, _+_, _-_, _*_, _%_, _<_, _≤_}
 use mathlib.Core.Path.{_≡_, refl, sym, ap, _∙_}
 use mathlib.Core.Bool.{Bool, true, false, true≢false}
 use mathlib.Core.List.{List}
 use native.Mathlib.Omega.{arith}
 use native.Mathlib.Decide.{decLt}
-use lib.Dec.{eqb}
+use lib.Dec.{eqb, ltb}
 use lib.IntN.{ℤ}
-use lib.ListN.{replicate}
+use lib.ListN.{getD, set, replicate}
 use borrow.Author.Tests.{eqb-true, eq-eqb}
+use mir.Syntax.{w64}
+use mir.Val.{Fits}
+use Rattle.loops.specs.Search.{anyBelow}
 use Rattle.loops.specs.inner.Chain.{same, First, Links, Stands, Blind}
 use Rattle.loops.proofs.BoolLaws.{and-left, and-right}
-use Rattle.loops.proofs.ChainLaws.{links-start}
+use Rattle.loops.proofs.ChainLaws.{links-start, links-again, links-next, fits}
+use Rattle.loops.proofs.TableLaws.{first-below}
+use Rattle.loops.proofs.Walks.{stands}
 use Rattle.rows.specs.Cells.{rowCount, num, is}
 use Rattle.sheet.proofs.Lookups.{is-num}
-use Rattle.owners.specs.inner.Owners.{ownPlace, ownedBy, ownedKey}
+use Rattle.owners.specs.inner.Owners.{ownPlace, ownedBy, ownedKey, Owned}
+use Rattle.owners.proofs.Tables.{owned-below}
+
+-- ---- the fill
 
 -- the table that was cleared
-pub owned-start : (key : ℕ → ℕ) (n : ℕ) {t : List ℕ} (N : ℕ) → N ≡ 8810 → t ≡ replicate N n → n ≤ 800 → Links key 8010 n n t
-owned-start key n N a q l = rw (q, a) (links-start key 8010 n l (omega arith))
+module _ (rows : List ℤ) {n : ℕ} (e : n ≡ rowCount rows) (u : rowCount rows ≤ 800) where
+  pub owned-start : {t : List ℕ} (N : ℕ) → N ≡ 8810 → t ≡ replicate N n → Links (ownedKey rows) 8010 n n t
+  owned-start N a q = rw (q, a) (links-start (ownedKey rows) 8010 n (omega arith) (omega arith))
+
+  -- row i - 1 before the other rows of its key
+  pub owned-again : {i k : ℕ} {t t′ : List ℕ} → 0 < i → i ≤ n → k ≡ ownedKey rows (i - 1) → Links (ownedKey rows) 8010 i n t
+      → t′ ≡ set (set t (i - 1) (getD t (800 + k) 0)) (800 + k) (i - 1) → Links (ownedKey rows) 8010 (i - 1) n t′
+  owned-again {i} {k} {t} {t′} z l q h s = links-again (ownedKey rows) 8010 n i k t t′ z l (omega arith) q (owned-below rows _ refl u) h s
+
+-- ---- what is read
+
+-- whether there is one
+pub first-any : {p : ℕ → Bool} {n N j : ℕ} → First p 0 n j → N ≡ n → ltb j N ≡ anyBelow p n
+first-any {p} {n} {N} {j} f e = ap (ltb j) e ∙ first-below n (omega arith) f
 
 -- a chain in a chain: what is first from the first on is first
-pub first-join : (p q : ℕ → Bool) (i n j r : ℕ) → Blind p q → First p i n j → First q j n r → First q i n r
+first-join : (p q : ℕ → Bool) (i n j r : ℕ) → Blind p q → First p i n j → First q j n r → First q i n r
 first-join p q i n j r h f g = record {
   low = omega (arith, f .low, g .low);
   high = g .high;
@@ -82,8 +102,8 @@ module _ (rows : List ℤ) (o x : ℕ) where
     here = λ m. keyed-owned i (h .at .here m) (sym e ∙ f);
   }
 
-  pub skip-next : (j i N s : ℕ) {r : Bool} → Skipping j i → First (same (ownedKey rows) key) (suc i) (rowCount rows) s → r ≡ is rows i 0 x → r ≡ false → Skipping j s
-  skip-next j i N s h f e q = record {
+  passed : (j i s : ℕ) → Skipping j i → First (same (ownedKey rows) key) (suc i) (rowCount rows) s → is rows i 0 x ≡ false → Skipping j s
+  passed j i s h f e = record {
     at = record { high = f .high; here = f .here };
     low = omega (arith, h .low, f .low);
     none = λ k a b. go k a b (decLt k i) (decLt i k);
@@ -92,7 +112,21 @@ module _ (rows : List ℤ) (o x : ℕ) where
       go : (k : ℕ) → j ≤ k → k < s → Dec (k < i) → Dec (i < k) → ownedBy rows o x k ≡ false
       go k a b (yes l) d = h .none k a l
       go k a b (no l) (yes m) = owned-blind .still k (f .none k m b)
-      go k a b (no l) (no m) = let w : k ≡ i = omega arith in rw w (unowned-kind i (sym e ∙ q))
+      go k a b (no l) (no m) = let w : k ≡ i = omega arith in rw w (unowned-kind i e)
+
+  -- the next place of the chain, as it is read
+  module _ {t : List ℕ} {j i n : ℕ} (w : Owned rows t) (h : Skipping j i) (l : i < n) (e : n ≡ rowCount rows) where
+    after : First (same (ownedKey rows) key) (suc i) (rowCount rows) (getD t i 0)
+    after = links-next _ _ _ _ _ _ (w .links) (h .at .here (omega arith)) (omega arith)
+
+    pub skip-fits : Fits w64 (getD t i 0)
+    skip-fits = fits _ _ _ _ after (w .short)
+
+    pub skip-less : n - getD t i 0 < n - i
+    skip-less = omega (arith, after .low)
+
+    pub skip-next : {r : Bool} → r ≡ is rows i 0 x → r ≡ false → Skipping j (getD t i 0)
+    skip-next f q = passed j i (getD t i 0) h after (sym f ∙ q)
 
   pub skip-end : (j i N : ℕ) → Skipping j i → N ≤ i → N ≡ rowCount rows → First (ownedBy rows o x) j (rowCount rows) i
   skip-end j i N h l z = record {
@@ -102,5 +136,30 @@ module _ (rows : List ℤ) (o x : ℕ) where
     here = λ m. absurd (omega arith);
   }
 
-  pub owned-stands : (i : ℕ) → Stands (ownedBy rows o x) (rowCount rows) i → Stands (same (ownedKey rows) key) (rowCount rows) i
-  owned-stands i s = record { high = s .high; here = λ l. owned-keyed i (s .here l) }
+  -- the first row of the chain, and the first of the kind
+  module _ {t : List ℕ} (h : Owned rows t) (l : o ≤ rowCount rows) where
+    head : First (same (ownedKey rows) key) 0 (rowCount rows) (getD t (800 + key) 0)
+    head = h .links .head key (omega (arith, h .short))
+
+    pub head-fits : Fits w64 (getD t (800 + key) 0)
+    head-fits = fits _ _ _ _ head (h .short)
+
+    pub head-stands : Stands (same (ownedKey rows) key) (rowCount rows) (getD t (800 + key) 0)
+    head-stands = stands _ _ _ head
+
+    pub head-join : {r : ℕ} → First (ownedBy rows o x) (getD t (800 + key) 0) (rowCount rows) r → First (ownedBy rows o x) 0 (rowCount rows) r
+    head-join f = first-join _ _ _ _ _ _ owned-blind head f
+
+  -- the next row of the chain, and the next of the kind
+  module _ {t : List ℕ} {i : ℕ} (h : Owned rows t) (s : Stands (ownedBy rows o x) (rowCount rows) i) (l : i < rowCount rows) where
+    next : First (same (ownedKey rows) key) (suc i) (rowCount rows) (getD t i 0)
+    next = links-next _ _ _ _ _ _ (h .links) (owned-keyed i (s .here l)) l
+
+    pub next-fits : Fits w64 (getD t i 0)
+    next-fits = fits _ _ _ _ next (h .short)
+
+    pub next-stands : Stands (same (ownedKey rows) key) (rowCount rows) (getD t i 0)
+    next-stands = stands _ _ _ next
+
+    pub next-join : {r : ℕ} → First (ownedBy rows o x) (getD t i 0) (rowCount rows) r → First (ownedBy rows o x) (suc i) (rowCount rows) r
+    next-join f = first-join _ _ _ _ _ _ owned-blind next f

@@ -1,5 +1,5 @@
 -- Laws of the loops that fill the tables, and how large their entries are. Assumes nothing.
-use Prim.Native.Nat.{ℕ, suc, _+_, _<_, _≤_}
+use Prim.Native.Nat.{ℕ, suc, _+_, _*_, _%_, _<_, _≤_}
 use mathlib.Core.Path.{_≡_, refl, sym, ap, _∙_}
 use mathlib.Core.Bool.{Bool, true, false, cond}
 use mathlib.Core.List.{List}
@@ -15,13 +15,16 @@ use lib.IntN.{ℤ}
 use mir.Syntax.{w64}
 use mir.Val.{Fits}
 use borrow.Author.Tests.{eq-eqb, ne-eqb}
-use Rattle.loops.specs.Search.{orElse, countBelow}
-use Rattle.loops.proofs.SearchLaws.{count-le}
+use Rattle.loops.specs.Search.{orElse, firstPlace, countBelow}
+use Rattle.loops.specs.inner.Chain.{First, Stands}
+use Rattle.loops.proofs.SearchLaws.{count-le, counted-le}
+use Rattle.loops.proofs.PlaceLaws.{count-next}
+use Rattle.loops.proofs.Walks.{itself, seek-hit, seek-next}
 use Rattle.rows.specs.Cells.{rowCount, num, is}
-use Rattle.sheet.specs.Places.{named, placeOf, nthPlace, isConstraint, requirementPlace, constraintPlace}
+use Rattle.sheet.specs.Places.{named, placeOf, isNth, nthPlace, isConstraint, requirementPlace, constraintPlace}
 use Rattle.sheet.specs.inner.Index.{orEnd}
-use Rattle.sheet.proofs.Lookups.{is-nth, nth-at, nth-step, too-few, placed}
-use Rattle.sheet.proofs.Stored.{below, named-below}
+use Rattle.sheet.proofs.Lookups.{is-nth, nth-here, nth-other, nth-blind, nth-at, nth-step, too-few, placed}
+use Rattle.sheet.proofs.Stored.{below, named-below, nth-below}
 use Rattle.owners.specs.inner.Owners.{ownerKind, ownerOf, ownerPlace, ownPlace, resPlace, ownedKey, Numbered, Linked}
 
 -- ---- how large the entries are
@@ -54,18 +57,41 @@ res-below rows k = go (is rows k 0 23)
     go false = omega arith
 
 -- an entry that was read
-pub small : {x y : ℕ} (n : ℕ) → x ≡ y → y ≤ n → n ≤ 800 → Fits w64 x
-small n e l h = record { fits = omega arith }
+module _ (rows : List ℤ) (k : ℕ) {r : ℕ} where
+  pub own-read : r ≡ ownPlace rows k → rowCount rows ≤ 800 → r ≤ 800
+  own-read e l = omega (arith, own-below rows k)
 
-pub own-read : (rows : List ℤ) (k : ℕ) {r : ℕ} → r ≡ ownPlace rows k → rowCount rows ≤ 800 → r ≤ 800
-own-read rows k e l = omega (arith, own-below rows k)
+  pub own-times : r ≡ ownPlace rows k → rowCount rows ≤ 800 → Fits w64 (r * 10)
+  own-times e l = record { fits = omega (arith, own-below rows k) }
 
-pub res-read : (rows : List ℤ) (k : ℕ) {r : ℕ} → r ≡ resPlace rows k → rowCount rows ≤ 800 → r ≤ 800
-res-read rows k e l = omega (arith, res-below rows k)
+  pub own-digit : (d : ℕ) → r ≡ ownPlace rows k → rowCount rows ≤ 800 → Fits w64 (r * 10 + d % 10)
+  own-digit d e l = record { fits = omega (arith, own-below rows k) }
 
-pub owned-below : (rows : List ℤ) (k : ℕ) → rowCount rows ≤ 800 → ownedKey rows k < 8010
-unfolding ownedKey
-owned-below rows k l = omega (arith, own-below rows k)
+  pub res-read : r ≡ resPlace rows k → rowCount rows ≤ 800 → r ≤ 800
+  res-read e l = omega (arith, res-below rows k)
+
+  pub owned-below : r ≡ ownedKey rows k → rowCount rows ≤ 800 → r < 8010
+  unfolding ownedKey
+  owned-below e l = omega (arith, own-below rows k)
+
+module _ (rows : List ℤ) {t : List ℕ} where
+  pub number-at : (m : ℕ) → Numbered rows t → m < 800 → getD t m 0 ≡ orEnd rows (constraintPlace rows m)
+  number-at m h l = h .number m l
+
+  pub number-fits : {m : ℕ} → Numbered rows t → m < 800 → Fits w64 (getD t m 0)
+  number-fits {m} h l = record { fits = omega (arith, h .short, h .number m l, nth-below rows (isConstraint rows) m) }
+
+  pub own-entry : (k : ℕ) → Linked rows t → k < rowCount rows → getD t k 0 ≡ ownPlace rows k
+  own-entry k h l = h .own k l
+
+  pub own-fits : {k : ℕ} → Linked rows t → k < rowCount rows → Fits w64 (getD t k 0)
+  own-fits {k} h l = record { fits = omega (arith, h .short, h .own k l, own-below rows k) }
+
+  pub res-entry : (k : ℕ) → Linked rows t → k < rowCount rows → getD t (800 + k) 0 ≡ resPlace rows k
+  res-entry k h l = h .res k l
+
+  pub res-fits : {k : ℕ} → Linked rows t → k < rowCount rows → Fits w64 (getD t (800 + k) 0)
+  res-fits {k} h l = record { fits = omega (arith, h .short, h .res k l, res-below rows k) }
 
 -- ---- the numbers of the constraints
 
@@ -117,9 +143,12 @@ module _ (rows : List ℤ) (k seen : ℕ) (t : List ℕ) (h : Numbering rows k s
     number = λ m z. rw (q, nth-step p m k, is-nth p m k {y = false} {b = false} (h .count) e refl) (h .number m z ∙ ap (orEnd rows) (or-none (nthPlace p m k)));
   }
 
-  pub numbering-turn : (b : Bool) (seen′ : ℕ) (t′ : List ℕ) → b ≡ p k → k < 800 → seen ≤ k → t′ ≡ cond b (set t seen k) t → seen′ ≡ seen + cond b 1 0
-      → Numbering rows (k + 1) seen′ t′
-  numbering-turn b seen′ t′ e l s q r = rw add-one (turn b seen′ t′ e l s q r)
+  pub numbering-fits : {n : ℕ} → k < n → n ≡ rowCount rows → rowCount rows ≤ 800 → seen < 18446744073709551615
+  numbering-fits l z u = omega (arith, counted-le p k (h .count))
+
+  pub numbering-turn : (b : Bool) {n : ℕ} (seen′ : ℕ) (t′ : List ℕ) → k < n → n ≡ rowCount rows → rowCount rows ≤ 800 → b ≡ p k
+      → t′ ≡ cond b (set t seen k) t → seen′ ≡ seen + cond b 1 0 → Numbering rows (k + 1) seen′ t′
+  numbering-turn b seen′ t′ l z u e q r = rw add-one (turn b seen′ t′ e (omega arith) (counted-le p k (h .count)) q r)
 
 pub numbering-end : (rows : List ℤ) (k seen n : ℕ) (t : List ℕ) → Numbering rows k seen t → k ≤ n → n ≤ k → n ≡ rowCount rows → rowCount rows ≤ 800 → Numbered rows t
 numbering-end rows k seen n t h a b e s = record {
@@ -149,15 +178,15 @@ filling-start rows n N a q = rw (q, a) (record {
   rest = λ j l u. (getD-replicate {A = ℕ} 1600 j n 0 (omega arith), getD-replicate {A = ℕ} 1600 (800 + j) n 0 (omega arith));
 })
 
-pub filling-turn : (rows : List ℤ) (n k a b : ℕ) (t t′ : List ℕ) → k < 800 → a ≡ ownPlace rows k → b ≡ resPlace rows k → t′ ≡ set (set t k a) (800 + k) b
-    → Filling rows n k t → Filling rows n (k + 1) t′
-filling-turn rows n k a b t t′ l e f q h = record {
+pub filling-turn : (rows : List ℤ) (n k : ℕ) {a b : ℕ} {t t′ : List ℕ} → Filling rows n k t → a ≡ ownPlace rows k → b ≡ resPlace rows k → k < n → n ≡ rowCount rows
+    → rowCount rows ≤ 800 → t′ ≡ set (set t k a) (800 + k) b → Filling rows n (k + 1) t′
+filling-turn rows n k {a} {b} {t} {t′} h e f l d u q = record {
   size = ap length q ∙ length-set (set t k a) (800 + k) b ∙ length-set t k a ∙ h .size;
   own = λ j z. rw q (getD-set-other (set t k a) (800 + k) j b 0 (λ w. omega arith) ∙ owns j z (ℕ-discrete j k));
   res = λ j z. rw q (ress j z (ℕ-discrete j k));
-  rest = λ j z u. rw q (
-    kept j (λ w. omega arith) (λ w. omega arith) ∙ h .rest j (omega arith) u .0,
-    kept (800 + j) (λ w. omega arith) (λ w. omega arith) ∙ h .rest j (omega arith) u .1,
+  rest = λ j z v. rw q (
+    kept j (λ w. omega arith) (λ w. omega arith) ∙ h .rest j (omega arith) v .0,
+    kept (800 + j) (λ w. omega arith) (λ w. omega arith) ∙ h .rest j (omega arith) v .1,
   );
 }
   where
@@ -191,6 +220,18 @@ module _ (rows : List ℤ) (k : ℕ) {kind x : ℕ} (e : kind ≡ num rows k 0) 
   unfolding ownerOf orEnd
   own-none a b c d f = sym (rw (ne-eqb x 1 a, ne-eqb x 2 b, ne-eqb x 5 c, ne-eqb x 11 d, ne-eqb x 17 f) at (sym (own-at x refl)))
 
+  pub own-task : {v r : ℕ} {f : Option ℕ} → x ≡ 1 → v ≡ num rows k 2 → f ≡ placeOf rows 1 v → r ≡ orEnd rows f → r ≡ ownPlace rows k
+  unfolding ownerOf
+  own-task w v f r = r ∙ ap (orEnd rows) (rw v at f) ∙ own-at 1 w
+
+  pub own-activity : {v r : ℕ} {f : Option ℕ} → x ≡ 2 → v ≡ num rows k 1 → f ≡ placeOf rows 2 v → r ≡ orEnd rows f → r ≡ ownPlace rows k
+  unfolding ownerOf
+  own-activity w v f r = r ∙ ap (orEnd rows) (rw v at f) ∙ own-at 2 w
+
+  pub own-resource : {v r : ℕ} {f : Option ℕ} → x ≡ 11 → v ≡ num rows k 1 → f ≡ placeOf rows 11 v → r ≡ orEnd rows f → r ≡ ownPlace rows k
+  unfolding ownerOf
+  own-resource w v f r = r ∙ ap (orEnd rows) (rw v at f) ∙ own-at 11 w
+
   pub own-requirement : {a m r : ℕ} {f : Option ℕ} → x ≡ 5 → a ≡ num rows k 1 → m ≡ num rows k 2 → f ≡ requirementPlace rows a m → r ≡ orEnd rows f → r ≡ ownPlace rows k
   unfolding ownerOf
   own-requirement w a m f r = r ∙ ap (orEnd rows) (rw (a, m) at f) ∙ own-at 5 w
@@ -198,3 +239,28 @@ module _ (rows : List ℤ) (k : ℕ) {kind x : ℕ} (e : kind ≡ num rows k 0) 
   pub own-constraint : {m r : ℕ} → x ≡ 17 → m ≡ num rows k 1 → r ≡ orEnd rows (constraintPlace rows m) → r ≡ ownPlace rows k
   unfolding ownerOf
   own-constraint w m r = (rw m at r) ∙ own-at 17 w
+
+-- the row of a booking's resource
+module _ (rows : List ℤ) (k : ℕ) {b : Bool} (e : b ≡ is rows k 0 23) where
+  pub res-found : {v r : ℕ} {f : Option ℕ} → b ≡ true → v ≡ num rows k 3 → f ≡ placeOf rows 11 v → r ≡ orEnd rows f → r ≡ resPlace rows k
+  unfolding resPlace
+  res-found q v f r = rw (sym e ∙ q, ← v, ← f) r
+
+  pub res-none : {n : ℕ} → b ≡ false → n ≡ rowCount rows → n ≡ resPlace rows k
+  unfolding resPlace
+  res-none q r = rw (sym e ∙ q) r
+
+-- the place of number m of the rows that pass a test, along the chain of these rows
+module _ {q : ℕ → Bool} {n N i seen : ℕ} (l : i < N) (z : N ≡ n) (s : Stands q n i) (e : seen ≡ countBelow q i) where
+  pub nth-fits : n ≤ 800 → Fits w64 (seen + 1)
+  nth-fits u = record { fits = omega (arith, counted-le q i e) }
+
+  pub nth-found : {m : ℕ} → firstPlace (isNth q m) i ≡ none → seen ≡ m → some i ≡ nthPlace q m n
+  unfolding nthPlace
+  nth-found f r = seek-hit _ n N i l z f (nth-here _ _ _ e (s .here (omega arith)) r)
+
+  pub nth-counted : {j : ℕ} → First q (suc i) n j → seen + 1 ≡ countBelow q j
+  nth-counted f = count-next _ f (itself _) e (rw (s .here (omega arith)))
+
+  pub nth-passed : {m j : ℕ} → First q (suc i) n j → firstPlace (isNth q m) i ≡ none → (seen ≡ m → ⊥) → firstPlace (isNth q m) j ≡ none
+  nth-passed f g r = seek-next _ f (nth-blind _ (itself _)) g (nth-other _ _ _ e (s .here (omega arith)) r)

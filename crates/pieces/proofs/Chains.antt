@@ -18,7 +18,10 @@ use Rattle.sheet.specs.Places.{named, placeOf, activityPlace, resourcePlace}
 use Rattle.sheet.specs.Refusals.{isAbsent, lacks}
 use Rattle.sheet.specs.inner.Accepted.{Accepted}
 use Rattle.sheet.specs.inner.Index.{orEnd}
-use Rattle.sheet.proofs.Lookups.{is-num}
+use Rattle.sheet.specs.inner.Found.{foundOf}
+use Rattle.sheet.specs.declared.Found.{Found}
+use Rattle.sheet.specs.declared.Found.the-variants.{At, Nothing}
+use Rattle.sheet.proofs.Lookups.{is-num, placed}
 use Rattle.owners.specs.inner.Owners.{ownerKind, ownerOf, ownerPlace, ownPlace, ownedBy}
 use Rattle.model.proofs.Accepting.{has-owner}
 use Rattle.pieces.specs.inner.Bookings.{inPiece, sameBooking, firstOn, names, holdsFor, keyAt}
@@ -64,8 +67,15 @@ module _ (rows : List ℤ) where
       (w i (names-kind x a b i f) ∙ ap (λ z. orEnd rows (placeOf rows y z)) (names-first x a b i f) ∙ ap (orEnd rows) (sym p) ∙ (unfold orEnd in refl))
 
   -- the companions of a resource, the timings of an activity
-  pub companions-blind : (o b : ℕ) {a a′ : ℕ} → a ≡ a′ → some o ≡ placeOf rows 11 a′ → Blind (ownedBy rows o 13) (names rows 13 a b)
-  companions-blind o b e p = rw e (names-blind 13 11 o _ b (λ i h. own-resource 13 i (unfold ownerKind in refl) h) p)
+  pub companions-blind : (o b : ℕ) {a a′ : ℕ} {f : Found} → f ≡ At o → foundOf f ≡ placeOf rows 11 a′ → a ≡ a′ → Blind (ownedBy rows o 13) (names rows 13 a b)
+  companions-blind o b q p e = rw e (names-blind 13 11 o _ b (λ i h. own-resource 13 i (unfold ownerKind in refl) h) (rw q at p))
+
+  pub found-within : (x a : ℕ) {o : ℕ} {f : Found} → f ≡ At o → foundOf f ≡ placeOf rows x a → o ≤ rowCount rows
+  found-within x a {o} q p = omega (arith, placed rows x a o (sym (rw q at p)) .within)
+
+  -- a test of a column against a number that was read
+  pub read-is : (j c : ℕ) {v w : ℕ} {r b : Bool} → v ≡ w → r ≡ is rows j c v → r ≡ b → is rows j c w ≡ b
+  read-is j c e q h = rw (← e) (sym q ∙ h)
 
   pub timings-blind : (x o b : ℕ) {a a′ : ℕ} → ownerKind x ≡ 2 → a ≡ a′ → some o ≡ placeOf rows 2 a′ → Blind (ownedBy rows o x) (names rows x a b)
   timings-blind x o b k e p = rw e (names-blind x 2 o _ b (λ i h. own-activity x i k h) p)
@@ -122,11 +132,18 @@ module _ (q : ℕ → Bool) where
   place-never n h = place-below n (none-below q n h)
 
   -- whether there is any, by the search
-  pub any-found : (n i : ℕ) → some i ≡ firstPlace q n → true ≡ anyBelow q n
+  any-found : (n i : ℕ) → some i ≡ firstPlace q n → true ≡ anyBelow q n
   any-found n i e = let f = found-at q n i (sym e) in any-hit q i n n (f .0) refl (f .1)
 
-  pub none-found : (n : ℕ) → none ≡ firstPlace q n → false ≡ anyBelow q n
+  none-found : (n : ℕ) → none ≡ firstPlace q n → false ≡ anyBelow q n
   none-found n e = sym (none-below q n (place-none q n (sym e)))
+
+module _ (rows : List ℤ) (x b n : ℕ) {v a : ℕ} {f : Found} (e : v ≡ a) (p : foundOf f ≡ firstPlace (names rows x v b) n) where
+  pub any-named : {k : ℕ} → f ≡ At k → true ≡ anyBelow (names rows x a b) n
+  any-named q = rw (← e) (any-found _ n _ (rw q at p))
+
+  pub none-named : f ≡ Nothing → false ≡ anyBelow (names rows x a b) n
+  none-named q = rw (← e) (none-found _ n (rw q at p))
 
 -- ---- rows that name an owner which is not in the sheet: there are none
 
@@ -144,9 +161,9 @@ module _ (rows : List ℤ) (acc : Accepted rows) where
           (sym (absent (placeOf rows y (num rows i 1)) (ap (placeOf rows y) (names-first rows x a b i f) ∙ sym p)) ∙ w i m (names-kind rows x a b i f)))
       go false f = f
 
-  pub no-companions : (a b : ℕ) → none ≡ placeOf rows 11 a → false ≡ anyBelow (names rows 13 a b) (rowCount rows)
-  no-companions a b p =
-      sym (none-below (names rows 13 a b) (rowCount rows) (unnamed 13 11 a b (λ i m g. unfold lacks in (has-owner rows acc i 13 1 m g)) p))
+  pub no-companions : (a b : ℕ) {f : Found} → f ≡ Nothing → foundOf f ≡ placeOf rows 11 a → false ≡ anyBelow (names rows 13 a b) (rowCount rows)
+  no-companions a b q p =
+      sym (none-below (names rows 13 a b) (rowCount rows) (unnamed 13 11 a b (λ i m g. unfold lacks in (has-owner rows acc i 13 1 m g)) (rw q at p)))
 
 -- ---- the first booking of its piece on its resource holds what the others hold
 

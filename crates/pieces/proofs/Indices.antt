@@ -2,6 +2,7 @@
 use Prim.Native.Nat.{ℕ, suc, _+_, _-_, _<_, _≤_}
 use mathlib.Core.Path.{_≡_, refl, sym, ap₂, _∙_}
 use mathlib.Core.Bool.{Bool, Bool·beq, true, false, cond, not, _&&_, true≢false, false≢true}
+use mathlib.Core.List.{List}
 use mathlib.Core.Option.{Option, none, some}
 use native.Mathlib.Omega.{arith}
 use native.Mathlib.Decide.{decLt}
@@ -9,19 +10,20 @@ use lib.Dec.{eqb, ltb, leb, T}
 use lib.IntN.{ℤ, pos, negsuc, subℕ, _+ℤ_, natAbs}
 use lib.Signed.{ltZ, leZ, nonNeg}
 use mir.Syntax.{w64}
-use mir.Val.{SFits, toZ, ofZ}
+use mir.Val.{Fits, SFits, toZ, ofZ}
 use mir.Facts.{toZ-ofZ}
 use borrow.Author.Tests.{ltb-true, ltb-false, leb-true, lt-ltb, le-ltb}
 use Rattle.loops.specs.Numbers.{toNat}
 use Rattle.loops.proofs.BoolLaws.{and-left, and-right, or-left}
 use Rattle.loops.proofs.NumberLaws.{eqb-swap, neither-below}
+use Rattle.rows.specs.Cells.{cell}
 use Rattle.rows.specs.Class.{n-c, n?-c}
 use Rattle.rows.specs.Ranges.{between, isNone, inRange, inClass}
 use Rattle.rows.proofs.Signed.{number-low, number-high}
 use Rattle.model.specs.Sheet.{number, nothing}
 use Rattle.model.specs.Schedule.{asPart}
 use Rattle.definition.specs.Pieces.{indexOf, beforeIndex, sameIndex}
-use Rattle.pieces.specs.inner.Bookings.{indexKey}
+use Rattle.pieces.specs.inner.Bookings.{indexKey, keyAt}
 
 sub-up : (a b : ℕ) → b ≤ a → subℕ a b ≡ pos (a - b)
 sub-up a b h = rw (le-ltb a b h)
@@ -40,7 +42,7 @@ low-is (negsuc n) e = go (ltb-true 999999 n e) (decLt 1000001 (suc n))
     go l (yes h) = sym (sub-down 1000001 (suc n) h)
     go l (no h) = rw (sub-up 1000001 (suc n) (omega arith)) (omega arith)
 
-pub record Middle (z : ℤ) : Type 0 where
+record Middle (z : ℤ) : Type 0 where
   pub n : ℕ
   pub sum : z +ℤ pos 1000001 ≡ pos n
   pub small : n < 9223372036854775808
@@ -67,18 +69,47 @@ abs-small : (z : ℤ) → SFits w64 z → T (nonNeg z) → natAbs z < 9223372036
 abs-small (pos n) f h = f .sfits
 abs-small (negsuc n) f h = absurd h
 
-pub pos-fits : (n : ℕ) → n < 9223372036854775808 → SFits w64 (pos n)
+pos-fits : (n : ℕ) → n < 9223372036854775808 → SFits w64 (pos n)
 pos-fits n h = record { sfits = omega arith }
 
 module _ (z : ℤ) (f : SFits w64 z) where
   pub low : ltZ (toZ w64 (ofZ w64 z)) (negsuc 999999) ≡ true → 0 ≡ indexKey z
   low e = low-is z (rw (toZ-ofZ f) at e)
 
-  pub middle : ltZ (toZ w64 (ofZ w64 z)) (negsuc 999999) ≡ false → ltZ (toZ w64 (ofZ w64 z)) (pos 0) ≡ true → Middle z
-  middle e d = middle-is z (rw (toZ-ofZ f) at e) (rw (toZ-ofZ f) at d)
+  -- below 0 the sum is the number
+  module _ (e : ltZ (toZ w64 (ofZ w64 z)) (negsuc 999999) ≡ false) (d : ltZ (toZ w64 (ofZ w64 z)) (pos 0) ≡ true) where
+    middle : Middle z
+    middle = middle-is z (rw (toZ-ofZ f) at e) (rw (toZ-ofZ f) at d)
 
-  pub upper : ltZ (toZ w64 (ofZ w64 z)) (pos 0) ≡ false → T (nonNeg z) × (natAbs z + 1000001 ≡ indexKey z) × (natAbs z < 9223372036854775808)
-  upper d = let u = upper-is z (rw (toZ-ofZ f) at d) in (u .0, u .1, abs-small z f (u .0))
+    sum-is : toZ w64 (ofZ w64 (toZ w64 (ofZ w64 z) +ℤ pos 1000001)) ≡ pos (middle .n)
+    sum-is = rw (toZ-ofZ f, middle .sum) (toZ-ofZ (pos-fits _ (middle .small)))
+
+    pub sum-fits : SFits w64 (toZ w64 (ofZ w64 z) +ℤ pos 1000001)
+    sum-fits = rw (toZ-ofZ f, middle .sum) (pos-fits _ (middle .small))
+
+    pub sum-sign : T (nonNeg (toZ w64 (ofZ w64 (toZ w64 (ofZ w64 z) +ℤ pos 1000001))))
+    sum-sign = rw sum-is tt
+
+    pub sum-held : Fits w64 (natAbs (toZ w64 (ofZ w64 (toZ w64 (ofZ w64 z) +ℤ pos 1000001))))
+    sum-held = rw sum-is (record { fits = omega (arith, middle .small) })
+
+    pub sum-key : natAbs (toZ w64 (ofZ w64 (toZ w64 (ofZ w64 z) +ℤ pos 1000001))) ≡ indexKey z
+    sum-key = rw sum-is (middle .key)
+
+  -- from 0 on it is counted on
+  module _ (d : ltZ (toZ w64 (ofZ w64 z)) (pos 0) ≡ false) where
+    upper : T (nonNeg z) × (natAbs z + 1000001 ≡ indexKey z)
+    upper = upper-is z (rw (toZ-ofZ f) at d)
+
+    pub up-fits : Fits w64 (natAbs (toZ w64 (ofZ w64 z)) + 1000001)
+    up-fits = rw (toZ-ofZ f) (record { fits = omega (arith, abs-small z f (upper .0)) })
+
+    pub up-key : natAbs (toZ w64 (ofZ w64 z)) + 1000001 ≡ indexKey z
+    up-key = rw (toZ-ofZ f) (upper .1)
+
+pub key-read : (rows : List ℤ) (k : ℕ) {x : ℤ} {r : ℕ} → x ≡ cell rows k 7 → SFits w64 x → r ≡ indexKey (toZ w64 (ofZ w64 x)) → r ≡ keyAt rows k
+unfolding keyAt
+key-read rows k q f e = rw (toZ-ofZ f, q) at e
 
 -- ---- the order of the numbers
 

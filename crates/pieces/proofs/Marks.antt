@@ -25,6 +25,9 @@ module _ (rows : List ℤ) (t : List ℕ) {j : ℕ} (h : Firsts rows t) (l : j <
   pub unmarked-first : (getD t j 0 ≡ 1 → ⊥) → firstOn rows j ≡ false
   unmarked-first e = sym (mark-is (firstOn rows j) (h .at j l)) ∙ ne-eqb (getD t j 0) 1 e
 
+pub marked-held : (rows : List ℤ) {t : List ℕ} {k : ℕ} → Held rows t → k < rowCount rows → eqb (getD t k 0) 1 ≡ heldAt rows k
+marked-held rows {t} {k} h l = mark-is (heldAt rows k) (h .at k l)
+
 -- ---- a loop that marks row by row
 
 -- the rows below k are marked

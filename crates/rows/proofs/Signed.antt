@@ -24,6 +24,9 @@ module _ (low high x : ℤ) (l : SFits w64 low) (h : SFits w64 high) (f : SFits 
   unfolding between
   below-low e = rw (rw (toZ-ofZ l, toZ-ofZ f) at e, e)
 
+  pub within-read : {r : Bool} → r ≡ between low high (toZ w64 (ofZ w64 x)) → r ≡ between low high x
+  within-read e = rw (toZ-ofZ f) at e
+
 -- the three ways through the test of a class
 module _ (cl : Class) (x : ℤ) (f : SFits w64 x) where
   pub in-range : {r : Bool} → r ≡ inRange cl (toZ w64 (ofZ w64 x)) → r ≡ true → true ≡ inClass cl x

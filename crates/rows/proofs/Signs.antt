@@ -1,19 +1,19 @@
 -- Cells past the rows, and a cell as a natural number. Assumes nothing.
 use Prim.Native.Nat.{ℕ, _+_, _*_, _<_, _≤_}
-use mathlib.Core.Path.{_≡_, refl, sym}
+use mathlib.Core.Path.{_≡_, refl, sym, ap}
 use mathlib.Core.Bool.{Bool, true, false, cond}
 use mathlib.Core.List.{List}
 use native.Mathlib.Omega.{arith}
-use lib.Dec.{ltb}
+use lib.Dec.{T, ltb}
 use lib.ListN.{length, getD, List·getD-eq-default}
 use lib.IntN.{ℤ, pos, negsuc, natAbs}
-use lib.Signed.{ltZ}
+use lib.Signed.{ltZ, nonNeg}
 use mir.Syntax.{w64}
-use mir.Val.{SFits, toZ, ofZ}
+use mir.Val.{Fits, SFits, toZ, ofZ}
 use mir.Facts.{toZ-ofZ}
 use borrow.Author.Tests.{le-ltb}
 use Rattle.loops.specs.Numbers.{toNat}
-use Rattle.loops.proofs.SignLaws.{below-zero, from-zero}
+use Rattle.loops.proofs.SignLaws.{below-zero, from-zero, cast}
 use Rattle.rows.specs.Cells.{cell}
 
 -- past the end a cell is 0
@@ -29,15 +29,28 @@ pub cell-wide : (rows : List ℤ) (k c : ℕ) → 10 ≤ c → pos 0 ≡ cell ro
 unfolding cell
 cell-wide rows k c h = rw (le-ltb c 10 h)
 
+-- a number that is held is below 2^63
+nat-held : (z : ℤ) → SFits w64 z → toNat z < 9223372036854775808
+nat-held (pos n) f = omega (arith, f .sfits)
+nat-held (negsuc n) f = omega arith
+
 -- what a test against 0 says of the number that a column is read as
 module _ (z : ℤ) (f : SFits w64 z) where
-  pub nat-under : ltZ (toZ w64 (ofZ w64 z)) (pos 0) ≡ true → 0 ≡ toNat z
-  nat-under e = rw (below-zero z f e .1)
+  pub nat-under : {v : ℤ} → ltZ (toZ w64 (ofZ w64 z)) (pos 0) ≡ true → z ≡ v → 0 ≡ toNat v
+  nat-under e q = rw (below-zero z f e .1) at (ap toNat q)
 
-  pub nat-over : ltZ (toZ w64 (ofZ w64 z)) (pos 0) ≡ false → natAbs (toZ w64 (ofZ w64 z)) ≡ toNat z
-  nat-over e = rw (toZ-ofZ f, from-zero z f e .1)
+  pub nat-over : {v : ℤ} → ltZ (toZ w64 (ofZ w64 z)) (pos 0) ≡ false → z ≡ v → natAbs (toZ w64 (ofZ w64 z)) ≡ toNat v
+  nat-over e q = rw (toZ-ofZ f, ← q, from-zero z f e .1)
 
--- a number that is held is below 2^63
-pub nat-bound : (z : ℤ) → SFits w64 z → toNat z < 9223372036854775808
-nat-bound (pos n) f = omega (arith, f .sfits)
-nat-bound (negsuc n) f = omega arith
+  pub nat-bound : ltZ (toZ w64 (ofZ w64 z)) (pos 0) ≡ false → natAbs (toZ w64 (ofZ w64 z)) < 9223372036854775808
+  nat-bound e = rw (nat-over e refl) (nat-held z f)
+
+  -- what a cast of it asks
+  pub cast-sign : ltZ (toZ w64 (ofZ w64 z)) (pos 0) ≡ false → T (nonNeg (toZ w64 (ofZ w64 z)))
+  cast-sign e = cast z f e .0
+
+  pub cast-fits : ltZ (toZ w64 (ofZ w64 z)) (pos 0) ≡ false → Fits w64 (natAbs (toZ w64 (ofZ w64 z)))
+  cast-fits e = cast z f e .1
+
+  pub nat-read : {v : ℤ} {r : ℕ} → r ≡ toNat (toZ w64 (ofZ w64 z)) → z ≡ v → r ≡ toNat v
+  nat-read e q = rw (toZ-ofZ f, q) at e

@@ -179,3 +179,6 @@ unfolding width
 class-wide kind zero h = absurd (omega arith)
 class-wide kind (suc c) h =
     let w : length (getD columns kind []) ≤ c = omega (arith, width-most kind) in List·getD-eq-default (getD columns kind []) blank-c w
+
+pub code-wide : (kind c : ℕ) → 10 ≤ c → 0 ≡ codeOf (classOf kind c)
+code-wide kind c h = rw (class-wide kind c h)

@@ -1,3 +1,4 @@
+pub mod Branches
 pub mod Groups
 pub mod Keeping
 pub mod Lookups

@@ -1,14 +1,14 @@
 -- Laws of the table of kinds and names: its fill, and the chains by kind and column 1, which other pairs may share. Assumes nothing.
 use Prim.Native.Nat.{ℕ, suc, _+_, _-_, _<_, _≤_}
 use mathlib.Core.Path.{_≡_, refl, sym, _∙_}
-use mathlib.Core.Bool.{Bool, true, false, not, true≢false, and-false, and-true}
+use mathlib.Core.Bool.{Bool, true, false, true≢false}
 use mathlib.Core.List.{List}
 use native.Mathlib.Omega.{arith}
 use lib.IntN.{ℤ}
 use lib.ListN.{length, getD, set, replicate, length-replicate}
 use mir.Syntax.{w64}
 use mir.Val.{Fits}
-use borrow.Author.Tests.{eq-eqb, not-true, not-false}
+use borrow.Author.Tests.{eq-eqb}
 use Rattle.loops.specs.inner.Chain.{same, First, Stands, Blind, Links, part}
 use Rattle.loops.proofs.BoolLaws.{and-left, and-right}
 use Rattle.loops.proofs.ChainLaws.{fits}
@@ -19,9 +19,9 @@ use Rattle.sheet.specs.inner.Groups.{namedPair}
 use Rattle.sheet.specs.inner.Index.{kindKey, nameHash, nameKey, Shaped, Kinds}
 use Rattle.sheet.proofs.Lookups.{is-num}
 
-pub hash-below : (x id : ℕ) → nameHash x id < 2048
+pub hash-below : {k : ℕ} (x id : ℕ) → k ≡ nameHash x id → k < 2048
 unfolding nameHash
-hash-below x id = omega arith
+hash-below x id e = omega arith
 
 -- ---- the fill
 
@@ -42,13 +42,21 @@ module _ (rows : List ℤ) (n : ℕ) (e : n ≡ rowCount rows) (s : Shaped rows)
     names = part-start (nameKey rows) 832 2048 n 3680 (omega arith);
   })
 
+  -- where row i - 1 and its kind stand
+  pub fill-place : {i : ℕ} {t : List ℕ} → 0 < i → Filled rows n i t → i - 1 < 800
+  fill-place z h = omega (arith, h .low, s .short)
+
+  pub fill-kind : {i x : ℕ} {t : List ℕ} → 0 < i → Filled rows n i t → x ≡ num rows (i - 1) 0 → x < 32
+  fill-kind {i} z h a = rw a (s .kinds (i - 1) (omega (arith, h .low)))
+
   -- row i - 1 is linked to the rows of its kind, then to those of its name
-  pub filled-again : {i x k : ℕ} {t t′ t″ : List ℕ} → 0 < i → Filled rows n i t → x ≡ num rows (i - 1) 0 → k ≡ nameHash (num rows (i - 1) 0) (num rows (i - 1) 1)
+  pub filled-again : {i x id k : ℕ} {t t′ t″ : List ℕ} → 0 < i → Filled rows n i t → x ≡ num rows (i - 1) 0 → id ≡ num rows (i - 1) 1 → k ≡ nameHash x id
       → t′ ≡ set (set t (i - 1) (getD t (800 + x) 0)) (800 + x) (i - 1)
       → t″ ≡ set (set t′ (832 + (i - 1)) (getD t′ (832 + (800 + k)) 0)) (832 + (800 + k)) (i - 1)
       → Filled rows n (i - 1) t″
   unfolding kindKey nameKey
-  filled-again {i} {x} {k} {t} {t′} {t″} z h a c q r =
+  filled-again {i} {x} {id} {k} {t} {t′} {t″} z h a d v q r =
+      let c : k ≡ nameHash (num rows (i - 1) 0) (num rows (i - 1) 1) = rw (a, d) at v in
       let u : n ≤ 800 = omega (arith, s .short) in
       let b : num rows (i - 1) 0 < 32 = s .kinds (i - 1) (omega (arith, h .low)) in
       record {
@@ -57,7 +65,7 @@ module _ (rows : List ℤ) (n : ℕ) (e : n ≡ rowCount rows) (s : Shaped rows)
             ∙ stores-size 0 0 t t′ (i - 1) (getD t (800 + x) 0) (800 + x) (i - 1) q ∙ h .size;
         links = rw (part-else-above 0 832 t′ t″ (832 + (i - 1)) (getD t′ (832 + (800 + k)) 0) (832 + (800 + k)) (i - 1) r (omega arith) (omega arith))
             (part-again (kindKey rows) 0 32 n i x (i - 1) (800 + x) t t′ (omega arith) (omega arith) z (h .low) u a b (h .links) q);
-        names = part-again (nameKey rows) 832 2048 n i k (832 + (i - 1)) (832 + (800 + k)) t′ t″ refl refl z (h .low) u c (hash-below _ _)
+        names = part-again (nameKey rows) 832 2048 n i k (832 + (i - 1)) (832 + (800 + k)) t′ t″ refl refl z (h .low) u c (hash-below _ _ refl)
             (rw (part-else-below 832 2848 t t′ (i - 1) (getD t (800 + x) 0) (800 + x) (i - 1) q (omega (arith, h .low)) (omega arith)) (h .names)) r;
       }
 
@@ -78,12 +86,18 @@ module _ (rows : List ℤ) (t : List ℕ) (h : Kinds rows t) where
   unfolding ofKind same kindKey is
   kind-head k l = part-head (kindKey rows) 0 32 (rowCount rows) t k (800 + k) (omega arith) (h .links) l
 
+  pub kind-head-fits : (k : ℕ) → k < 32 → Fits w64 (getD t (800 + k) 0)
+  kind-head-fits k l = fits _ _ _ _ (kind-head k l) (h .short)
+
   pub kind-next : (k i : ℕ) → Stands (ofKind rows k) (rowCount rows) i → i < rowCount rows → First (ofKind rows k) (suc i) (rowCount rows) (getD t i 0)
   unfolding ofKind same kindKey is
   kind-next k i s l = part-next (kindKey rows) 0 32 (rowCount rows) t k i i (omega arith) (h .short) (h .links) (s .here l) l
 
+  pub kind-next-fits : (k i : ℕ) → Stands (ofKind rows k) (rowCount rows) i → i < rowCount rows → Fits w64 (getD t i 0)
+  kind-next-fits k i s l = fits _ _ _ _ (kind-next k i s l) (h .short)
+
   pub name-head : {r : ℕ} (x id : ℕ) → r ≡ nameHash x id → First (same (nameKey rows) (nameHash x id)) 0 (rowCount rows) (getD t (832 + (800 + r)) 0)
-  name-head x id e = rw e (part-head (nameKey rows) 832 2048 (rowCount rows) t (nameHash x id) (832 + (800 + nameHash x id)) refl (h .names) (hash-below x id))
+  name-head x id e = rw e (part-head (nameKey rows) 832 2048 (rowCount rows) t (nameHash x id) (832 + (800 + nameHash x id)) refl (h .names) (hash-below x id refl))
 
   pub name-head-fits : {r : ℕ} (x id : ℕ) → r ≡ nameHash x id → Fits w64 (getD t (832 + (800 + r)) 0)
   name-head-fits x id e = fits _ _ _ _ (name-head x id e) (h .short)
@@ -120,15 +134,6 @@ module _ (rows : List ℤ) (x id : ℕ) where
   pub pair-blind : (other : ℕ) → Blind (same (nameKey rows) (nameHash x id)) (namedPair rows x id other)
   unfolding namedPair
   pair-blind other = record { still = λ k e. rw (name-blind .still k e) }
-
-  module _ (other i : ℕ) {r : Bool} (e : r ≡ is rows i 2 other) where
-    pub no-pair : not r ≡ true → false ≡ namedPair rows x id other i
-    unfolding namedPair
-    no-pair f = rw (sym e ∙ not-true r f, and-false) refl
-
-    pub its-pair : {b : Bool} → not r ≡ false → b ≡ named rows x id i → b ≡ namedPair rows x id other i
-    unfolding namedPair
-    its-pair f q = rw (sym e ∙ not-false r f, and-true) q
 
 -- what an answer and the branch that it takes say of the test
 pub told : {r b v : Bool} → r ≡ b → r ≡ v → b ≡ v

@@ -15,6 +15,9 @@ use Rattle.loops.proofs.TableLaws.{first-found, first-absent}
 use Rattle.rows.specs.Cells.{rowCount}
 use Rattle.sheet.specs.Places.{placeOf, nthPlace}
 use Rattle.sheet.specs.inner.Index.{orEnd, storedPlace}
+use Rattle.sheet.specs.declared.Found.{Found}
+use Rattle.sheet.specs.declared.Found.the-variants.{Nothing}
+use Rattle.sheet.specs.inner.Found.{foundOf}
 use Rattle.sheet.proofs.Lookups.{nth-at, placed}
 
 -- ---- it is at most the number of rows
@@ -31,6 +34,20 @@ pub nth-below : (rows : List ℤ) (q : ℕ → Bool) (m : ℕ) → orEnd rows (n
 nth-below rows q m = below rows (nthPlace q m (rowCount rows)) (λ k e. nth-at q m (rowCount rows) k e .0)
 
 -- ---- what it names
+
+-- as it is read, and as it is written
+module _ (rows : List ℤ) {n : ℕ} (e : n ≡ rowCount rows) where
+  pub stored-some : {k : ℕ} → k < n → some k ≡ storedPlace rows k
+  unfolding storedPlace
+  stored-some {k} l = rw (lt-ltb k (rowCount rows) (rw e at l))
+
+  pub stored-none : {k : ℕ} → n ≤ k → none ≡ storedPlace rows k
+  unfolding storedPlace
+  stored-none {k} l = rw (le-ltb k (rowCount rows) (rw e at l))
+
+  pub end-none : {f : Found} → f ≡ Nothing → n ≡ orEnd rows (foundOf f)
+  unfolding orEnd
+  end-none q = rw q e
 
 module _ (rows : List ℤ) where
   -- a place that was stored names the row that it was found at

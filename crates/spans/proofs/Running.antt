@@ -16,11 +16,16 @@ use Rattle.loops.proofs.RangeLaws.{fold-ext}
 use Rattle.calendar.specs.Clock.{clock}
 use Rattle.rows.specs.Cells.{rowCount, num, is}
 use Rattle.sheet.specs.Places.{ofKind, named, placeOf}
+use Rattle.sheet.specs.declared.Found.{Found}
+use Rattle.sheet.specs.declared.Found.the-variants.{At, Nothing}
+use Rattle.sheet.specs.inner.Found.{foundOf}
 use Rattle.model.specs.Sheet.{sheet}
 use Rattle.model.specs.Schedule.{Assignment, TimeOnlySpan, assignmentAt, assignmentsBelow, assignments, assignmentsForActivityAll, spanAt, timeOnlyBelow, timeOnly, timeOnlyForActivity, laterOf, latest, earlierOf, earliest}
 use Rattle.model.proofs.RowLaws.{assignment-row, assignment-none, span-row, span-none}
 use Rattle.definition.specs.ActivitySpan.{Span, spanFrom, activitySpan}
-use Rattle.spans.specs.inner.Activities.{widened, widenIf}
+use Rattle.spans.specs.declared.ActivitySpan.{ActivitySpan}
+use Rattle.spans.specs.declared.ActivitySpan.the-variants.{Between}
+use Rattle.spans.specs.inner.Activities.{spanMeant, widened, widenIf}
 
 -- ---- one loop for the earliest start and the latest end
 
@@ -106,15 +111,17 @@ module _ (rows : List ℤ) (id : ℕ) where
       ∙ head-collect _ (rowCount rows)
       ∙ first-most (rowCount rows)
 
-  pub runs-booked : {x : Option (Span ℤ)} → none ≡ placeOf rows 24 id → x ≡ fold (onlyAt (ofKind rows 23) (widenIf rows id)) none (rowCount rows)
-      → x ≡ activitySpan clock (sheet rows) id
-  unfolding activitySpan atMost
-  runs-booked h q = rw (timed-only, ← h) (q ∙ booked)
+  -- by what the lookup of such a span answered
+  module _ {f : Found} (h : foundOf f ≡ placeOf rows 24 id) where
+    pub runs-booked : {x : Option (Span ℤ)} → f ≡ Nothing → x ≡ fold (onlyAt (ofKind rows 23) (widenIf rows id)) none (rowCount rows)
+        → x ≡ activitySpan clock (sheet rows) id
+    unfolding activitySpan atMost
+    runs-booked g q = rw (timed-only, ← h, g) (q ∙ booked)
 
-  pub runs-timed : {k : ℕ} → some k ≡ placeOf rows 24 id
-      → some (record { start = pos (num rows k 3); end = pos (num rows k 4) }) ≡ activitySpan clock (sheet rows) id
-  unfolding activitySpan atMost timed
-  runs-timed h = rw (timed-only, ← h)
+    pub runs-timed : {k a e : ℕ} → f ≡ At k → a ≡ num rows k 3 → e ≡ num rows k 4
+        → some (record { start = pos a; end = pos e }) ≡ activitySpan clock (sheet rows) id
+    unfolding activitySpan atMost timed
+    runs-timed g p q = rw (timed-only, ← h, g, p, q)
 
 -- ---- the bookings of the activity alone
 
@@ -137,3 +144,8 @@ module _ (rows : List ℤ) (id : ℕ) where
       go true true w v = v
       go true false w v = absurd (true≢false (sym w))
       go false c w v = absurd (true≢false (sym w))
+
+-- a span that there is, widened
+pub widen-some : (start end : ℕ) {x : ActivitySpan} {a e r s : ℕ} → x ≡ Between a e → pos r ≡ cond (clock .before (pos start) (pos a)) (pos start) (pos a)
+    → pos s ≡ cond (clock .before (pos e) (pos end)) (pos end) (pos e) → some (record { start = pos r; end = pos s }) ≡ widened (spanMeant x) (pos start) (pos end)
+widen-some start end q p o = rw (q, p, o)

@@ -22,11 +22,18 @@ use Rattle.refusals.specs.declared.Verdict.{Verdict}
 use Rattle.refusals.specs.declared.Verdict.the-variants.{Fine, Refused}
 use Rattle.validation.specs.inner.Answer.{shapeRefusal, linkRefusal, Tables, Indexing}
 
-pub stops : (f : ℕ → Option Refusal) (i n N : ℕ) {v : Verdict} (a b : ℕ) → i < n → n ≡ N → first f i ≡ none → verdictOf v ≡ f i → v ≡ Refused a b → verdictOf v ≡ first f N
-stops f i n N a b h z p r q = ap verdictOf q ∙ sym (first-hit f i N (omega arith) p (sym r ∙ ap verdictOf q))
+pub stops : (f : ℕ → Option Refusal) (i n N : ℕ) {v : Verdict} {a b : ℕ} → v ≡ Refused a b → verdictOf v ≡ f i → first f i ≡ none → i < n → n ≡ N → verdictOf v ≡ first f N
+stops f i n N q r p h z = ap verdictOf q ∙ sym (first-hit f i N (omega arith) p (sym r ∙ ap verdictOf q))
 
-pub ends : (x y : Option Refusal) {v : Verdict} (a b : ℕ) → verdictOf v ≡ x → v ≡ Refused a b → verdictOf v ≡ orElse x y
-ends x y a b p q = ap verdictOf q ∙ sym (ap (λ z. orElse z y) (sym p ∙ ap verdictOf q))
+pub ends : (x y : Option Refusal) {v : Verdict} {a b : ℕ} → v ≡ Refused a b → verdictOf v ≡ x → verdictOf v ≡ orElse x y
+ends x y q p = ap verdictOf q ∙ sym (ap (λ z. orElse z y) (sym p ∙ ap verdictOf q))
+
+-- a step that refuses nothing
+pub passed : {x : Option Refusal} {v : Verdict} → v ≡ Fine → verdictOf v ≡ x → x ≡ none
+passed f e = sym e ∙ ap verdictOf f
+
+pub goes-on : {x y r : Option Refusal} {v : Verdict} → v ≡ Fine → verdictOf v ≡ x → r ≡ y → r ≡ orElse x y
+goes-on f e q = rw (passed f e) q
 
 or-assoc : (a b c : Option Refusal) → orElse (orElse a b) c ≡ orElse a (orElse b c)
 or-assoc none b c = refl
@@ -39,9 +46,10 @@ in-two rows = sym (or-assoc (refuse (misshapen (length rows)) 1 0) (first (colum
 
 -- ---- what the first step leaves
 
-pub shaped : (rows : List ℤ) → shapeRefusal rows ≡ none → Shaped rows
+pub shaped : (rows : List ℤ) {v : Verdict} → v ≡ Fine → verdictOf v ≡ shapeRefusal rows → Shaped rows
 unfolding shapeRefusal misshapen columnFault knownKind
-shaped rows e =
+shaped rows q f =
+    let e : shapeRefusal rows ≡ none = passed q f in
     let m : misshapen (length rows) ≡ false = if-none (misshapen (length rows)) _ (or-none-left (refuse (misshapen (length rows)) 1 0) _ e) in
     let l : length rows ≤ 8000 = ltb-false 8000 (length rows) (neither-right (not (eqb (length rows % 10) 0)) (ltb 8000 (length rows)) m) in
     let f : first (columnFault rows) (rowCount rows) ≡ none = or-none-right (refuse (misshapen (length rows)) 1 0) (first (columnFault rows) (rowCount rows)) e in
@@ -53,27 +61,24 @@ shaped rows e =
     small : (k : ℕ) → knownKind rows k ≡ true → num rows k 0 < 32
     small k h = omega (arith, leb-true (num rows k 0) 24 (and-right (leb 1 (num rows k 0)) (leb (num rows k 0) 24) h))
 
-pub passed : (rows : List ℤ) {v : Verdict} → verdictOf v ≡ shapeRefusal rows → v ≡ Fine → shapeRefusal rows ≡ none
-passed rows e f = sym e ∙ ap verdictOf f
-
 -- ---- the answers of `index`
 
 some-none : (x : Refusal) → some x ≡ none → ⊥
 some-none x e = let z : _≡_ {A = ℕ} 0 1 = cc in omega arith
 
-pub refused : (rows : List ℤ) (v : Verdict) (a b : ℕ) (k l o : List ℕ) → verdictOf v ≡ shapeRefusal rows → v ≡ Refused a b → Indexing rows k l o v k l o
-refused rows v a b k l o e q = record {
-  verdict = ends (shapeRefusal rows) (linkRefusal rows) a b e q ∙ sym (in-two rows);
+pub refused : (rows : List ℤ) (v : Verdict) (k l o : List ℕ) {a b : ℕ} → v ≡ Refused a b → verdictOf v ≡ shapeRefusal rows → Indexing rows k l o v k l o
+refused rows v k l o q e = record {
+  verdict = ends (shapeRefusal rows) (linkRefusal rows) q e ∙ sym (in-two rows);
   tables = λ z. absurd (some-none _ (sym (ap verdictOf q) ∙ e ∙ z));
   kept = λ z. (refl, refl, refl);
 }
 
-pub indexed : (rows : List ℤ) (s v : Verdict) (k₀ l₀ o₀ k l o : List ℕ) → verdictOf s ≡ shapeRefusal rows → s ≡ Fine → verdictOf v ≡ linkRefusal rows
-    → Kinds rows k → Linked rows l → Owned rows o → Indexing rows k₀ l₀ o₀ v k l o
-indexed rows s v k₀ l₀ o₀ k l o e q f a b c = record {
-  verdict = f ∙ ap (λ y. orElse y (linkRefusal rows)) (sym (passed rows e q)) ∙ sym (in-two rows);
+pub indexed : (rows : List ℤ) (v : Verdict) (k₀ l₀ o₀ k l o : List ℕ) {s : Verdict} → Kinds rows k → Linked rows l → Owned rows o → s ≡ Fine
+    → verdictOf s ≡ shapeRefusal rows → verdictOf v ≡ linkRefusal rows → Indexing rows k₀ l₀ o₀ v k l o
+indexed rows v k₀ l₀ o₀ k l o a b c q e f = record {
+  verdict = f ∙ ap (λ y. orElse y (linkRefusal rows)) (sym (passed q e)) ∙ sym (in-two rows);
   tables = λ z. record { kinds = a; links = b; owned = c };
-  kept = λ z. absurd (z (passed rows e q));
+  kept = λ z. absurd (z (passed q e));
 }
 
 -- the tables of a sheet that is not refused

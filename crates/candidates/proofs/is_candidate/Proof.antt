@@ -14,7 +14,7 @@ is-listed-requires : tie.Need-is-listed-requires
 is-listed-requires c κs = search needs
 
 returns : tie.Need-returns
-returns c = by-list _ _ (c .before .before .before .before .pre .1) (c .before .before .before .before .pre .2) _ (c .before .before .before .has-owned .ensures) (c .before .before .if1 .taken) (c .before .num-at .ensures) (c .is-listed .ensures)
+returns c = search (needs, by-list)
 
 num-at-requires-2 : tie.Need-num-at-requires-2
 num-at-requires-2 c κs = search needs
@@ -23,7 +23,7 @@ is-at-requires : tie.Need-is-at-requires
 is-at-requires c κs = search needs
 
 returns-2 : tie.Need-returns-2
-returns-2 c = by-type _ _ (c .before .before .before .before .pre .1) (c .before .before .before .before .pre .2) _ (c .before .before .before .has-owned .ensures) (c .before .before .if1 .left) (c .before .num-at2 .ensures) (c .is-at .ensures)
+returns-2 c = search (needs, by-type)
 
 pub is-candidate-spec : {M : Type 1} → statement M
 is-candidate-spec =

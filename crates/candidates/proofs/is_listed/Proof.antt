@@ -1,8 +1,7 @@
 use borrow.Author.Needs.{needs}
 use Prim.Native.Nat.{_-_}
-use mathlib.Core.Path.{_≡_, sym, _∙_}
+use mathlib.Core.Path.{_≡_}
 use mathlib.Core.Bool.{false}
-use native.Mathlib.Omega.{arith}
 use Rattle.loops.specs.inner.Chain.{Stands}
 use Rattle.loops.specs.Search.{anyBelow}
 use Rattle.loops.proofs.SearchLaws.{any-hit}
@@ -23,7 +22,7 @@ row-count-requires : tie.Need-row-count-requires Inv-loop μ-loop
 row-count-requires c κs = search needs
 
 first-owned-requires : tie.Need-first-owned-requires Inv-loop μ-loop
-first-owned-requires c κs = ((c .before .pre .0), omega (arith, (c .before .pre .1)))
+first-owned-requires c κs = search needs
 
 loop-holds : tie.Need-loop-holds Inv-loop μ-loop
 loop-holds c = (search needs, any-first _ (c .first-owned .ensures) (lists-blind _ _ _))
@@ -32,7 +31,7 @@ is-at-requires : tie.Need-is-at-requires Inv-loop μ-loop
 is-at-requires c κs = search needs
 
 returns : tie.Need-returns Inv-loop μ-loop
-returns c = any-hit _ _ _ _ (c .before .before .loop-test .taken) (c .before .before .before .before .before .row-count .ensures) (lists-test _ _ _ (c .before .before .loop-test .taken) (c .before .before .before .before .before .row-count .ensures) ((c .before .before .before .loop .inv .0)) (c .before .is-at .ensures) (c .if1 .taken)) ∙ sym (listed-are _ _ ((c .before .before .before .before .before .before .pre .1)) ((c .before .before .before .before .before .before .pre .2)) _)
+returns c = search (needs, any-hit, lists-test, listed-are)
 
 next-owned-requires : tie.Need-next-owned-requires Inv-loop μ-loop
 next-owned-requires c κs = search needs
@@ -41,10 +40,10 @@ loop-less : tie.Need-loop-less Inv-loop μ-loop
 loop-less c = search needs
 
 loop-again : tie.Need-loop-again Inv-loop μ-loop
-loop-again c = (search needs, any-next _ (c .next-owned .ensures) (lists-blind _ _ _) ((c .before .before .before .before .loop .inv .1)) (lists-test _ _ _ (c .before .before .before .loop-test .taken) (c .before .before .before .before .before .before .row-count .ensures) ((c .before .before .before .before .loop .inv .0)) (c .before .before .is-at .ensures) (c .before .if1 .left)))
+loop-again c = search (needs, any-next, lists-blind, lists-test)
 
 returns-2 : tie.Need-returns-2 Inv-loop μ-loop
-returns-2 c = any-end _ _ _ _ (c .loop-test .left) (c .before .before .before .row-count .ensures) ((c .before .loop .inv .0)) ((c .before .loop .inv .1)) ∙ sym (listed-are _ _ ((c .before .before .before .before .pre .1)) ((c .before .before .before .before .pre .2)) _)
+returns-2 c = search (needs, any-end, listed-are)
 
 pub is-listed-spec : {M : Type 1} → statement M
 is-listed-spec =

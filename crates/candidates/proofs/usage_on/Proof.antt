@@ -1,14 +1,13 @@
 use borrow.Author.Needs.{needs}
-use Rattle.candidates.proofs.Uses.{takes, takes-blind, takes-test, is-requirement, usage-found, usage-most}
+use Rattle.candidates.proofs.Uses.{takes, takes-blind, takes-test, is-requirement, usage-most, activity-within, usage-here, usage-none}
 use Prim.Native.Nat.{_-_}
-use mathlib.Core.Path.{_≡_, _∙_}
+use mathlib.Core.Path.{_≡_}
 use mathlib.Core.Option.{none}
 use native.Mathlib.Omega.{arith}
 use Rattle.loops.specs.inner.Chain.{Stands}
 use Rattle.loops.specs.Search.{firstPlace}
-use Rattle.loops.proofs.Walks.{seek-first, seek-next, seek-end, seek-hit}
+use Rattle.loops.proofs.Walks.{seek-first, seek-next}
 use Rattle.rows.specs.Cells.{rowCount}
-use Rattle.sheet.proofs.Lookups.{placed}
 use Rattle.owners.specs.inner.Owners.{ownedBy}
 use Rattle.candidates.proofs.usage_on.Statement.{statement}
 use Rattle.candidates.proofs.usage_on.Tie as tie
@@ -23,19 +22,19 @@ row-count-requires : tie.Need-row-count-requires Inv-loop μ-loop
 row-count-requires c κs = search needs
 
 first-owned-requires : tie.Need-first-owned-requires Inv-loop μ-loop
-first-owned-requires c κs = let h = placed _ _ _ _ ((c .before .pre .2)) .within in ((c .before .pre .0), omega (arith, h))
+first-owned-requires c κs = search (needs, activity-within)
 
 loop-holds : tie.Need-loop-holds Inv-loop μ-loop
 loop-holds c = (search needs, seek-first _ (c .first-owned .ensures) (takes-blind _ _ _))
 
 is-candidate-requires : tie.Need-is-candidate-requires Inv-loop μ-loop
-is-candidate-requires c κs = ((c .before .before .before .before .pre .0), omega (arith, (c .loop-test .taken), (c .before .before .before .row-count .ensures)), is-requirement _ _ 0 (c .loop-test .taken) (c .before .before .before .row-count .ensures) ((c .before .loop .inv .0)))
+is-candidate-requires c κs = search (needs, is-requirement)
 
 num-at-requires : tie.Need-num-at-requires Inv-loop μ-loop
 num-at-requires c κs = search needs
 
 returns : tie.Need-returns Inv-loop μ-loop
-returns c = ((c .num-at .ensures) ∙ usage-found _ _ _ ((c .before .before .before .before .before .before .before .pre .2)) (seek-hit _ _ _ _ (c .before .before .before .loop-test .taken) (c .before .before .before .before .before .before .row-count .ensures) ((c .before .before .before .before .loop .inv .1)) (takes-test _ _ _ (c .before .before .before .loop-test .taken) (c .before .before .before .before .before .before .row-count .ensures) ((c .before .before .before .before .loop .inv .0)) (c .before .before .is-candidate .ensures) (c .before .if1 .taken))), usage-most _ _ 0 ((c .before .before .before .before .before .before .before .pre .1)) (c .before .before .before .loop-test .taken) (c .before .before .before .before .before .before .row-count .ensures) ((c .before .before .before .before .loop .inv .0)) (c .num-at .ensures))
+returns c = (search (needs, usage-here), search (needs, usage-most))
 
 next-owned-requires : tie.Need-next-owned-requires Inv-loop μ-loop
 next-owned-requires c κs = search needs
@@ -44,10 +43,10 @@ loop-less : tie.Need-loop-less Inv-loop μ-loop
 loop-less c = search needs
 
 loop-again : tie.Need-loop-again Inv-loop μ-loop
-loop-again c = (search needs, seek-next _ (c .next-owned .ensures) (takes-blind _ _ _) ((c .before .before .before .before .loop .inv .1)) (takes-test _ _ _ (c .before .before .before .loop-test .taken) (c .before .before .before .before .before .before .row-count .ensures) ((c .before .before .before .before .loop .inv .0)) (c .before .before .is-candidate .ensures) (c .before .if1 .left)))
+loop-again c = search (needs, seek-next, takes-blind, takes-test)
 
 returns-2 : tie.Need-returns-2 Inv-loop μ-loop
-returns-2 c = (usage-found _ _ _ ((c .before .before .before .before .pre .2)) (seek-end _ _ _ _ (c .loop-test .left) (c .before .before .before .row-count .ensures) ((c .before .loop .inv .0)) ((c .before .loop .inv .1))), omega arith)
+returns-2 c = (search (needs, usage-none), omega arith)
 
 pub usage-on-spec : {M : Type 1} → statement M
 usage-on-spec =

@@ -1,5 +1,3 @@
-use mathlib.Core.Path.{sym, ap, _∙_}
-use Rattle.sheet.specs.inner.Found.{foundOf}
 use Rattle.check3_parts.proofs.Whole.{activity-told, activity-quiet}
 use borrow.Author.Needs.{needs}
 use Rattle.check3_parts.proofs.check_activity.Statement.{statement}
@@ -15,7 +13,7 @@ enum-told : tie.Need-enum-told
 enum-told c = search needs
 
 returns : tie.Need-returns
-returns c = activity-quiet _ ((c .before .before .before .pre .0)) _ ((c .before .before .before .pre .2)) ((c .before .before .before .pre .3)) _ (sym (ap foundOf ((c .enum-told .given .1))) ∙ (c .before .before .find-owned .ensures))
+returns c = search (needs, activity-quiet)
 
 check-works-requires : tie.Need-check-works-requires
 check-works-requires c κs = search needs
@@ -27,7 +25,7 @@ same-length : tie.Need-same-length
 same-length c = search needs
 
 returns-2 : tie.Need-returns-2
-returns-2 c = activity-told _ ((c .before .before .before .before .before .before .before .before .before .before .pre .0)) _ ((c .before .before .before .before .before .before .before .before .before .before .pre .2)) ((c .before .before .before .before .before .before .before .before .before .before .pre .3)) _ _ (sym (ap foundOf ((c .before .before .before .before .before .before .before .x .given .1))) ∙ (c .before .before .before .before .before .before .before .before .before .find-owned .ensures)) (c .before .before .before .before .check-works .ensures) (c .before .check-split .ensures)
+returns-2 c = search (needs, activity-told)
 
 pub check-activity-spec : {M : Type 1} → statement M
 check-activity-spec =

@@ -1,14 +1,13 @@
 use Rattle.loops.specs.inner.Chain.{Stands, only}
 use Rattle.loops.specs.Range.{collect}
 use Rattle.rows.specs.Cells.{rowCount}
-use mathlib.Core.Path.{_≡_, ap, _∙_}
+use mathlib.Core.Path.{_≡_}
 use Prim.Native.Nat.{_-_}
-use native.Mathlib.Omega.{arith}
 use Rattle.findings.specs.inner.Sink.{sink, emit}
 use Rattle.findings.proofs.SinkLaws.{kept}
-use Rattle.findings.proofs.Reports.{emit-first, emit-end, emit-turn}
+use Rattle.findings.proofs.Reports.{emit-first}
 use Rattle.loops.proofs.Walks.{silent-only}
-use Rattle.check3_parts.proofs.Whole.{by-rows}
+use Rattle.check3_parts.proofs.Whole.{tasks-turn, tasks-end}
 use Rattle.model.proofs.Accepting.{accepted}
 use Rattle.check3_parts.specs.inner.Booked.{taskFindings}
 use Rattle.sheet.specs.Places.{ofKind}
@@ -26,13 +25,13 @@ row-count-requires : tie.Need-row-count-requires Inv-loop μ-loop
 row-count-requires c κs = search needs
 
 first-of-requires : tie.Need-first-of-requires Inv-loop μ-loop
-first-of-requires c κs = ((c .before .pre .by-kind), omega arith)
+first-of-requires c κs = search needs
 
 loop-holds : tie.Need-loop-holds Inv-loop μ-loop
 loop-holds c = (search needs, emit-first _ _ (c .first-of .ensures) (silent-only _ _))
 
 check-task-requires : tie.Need-check-task-requires Inv-loop μ-loop
-check-task-requires c κs = (accepted _ (c .before .before .before .before .before .pre .accepted), (c .before .before .before .before .before .pre .by-owner), (c .before .before .loop .inv .0 .high))
+check-task-requires c κs = search (needs, accepted)
 
 next-of-requires : tie.Need-next-of-requires Inv-loop μ-loop
 next-of-requires c κs = search needs
@@ -41,13 +40,13 @@ loop-less : tie.Need-loop-less Inv-loop μ-loop
 loop-less c = search needs
 
 loop-again : tie.Need-loop-again Inv-loop μ-loop
-loop-again c = (search needs, emit-turn _ _ _ (c .next-of .ensures) (c .before .before .before .before .loop-test .taken) (c .before .before .before .before .before .before .before .row-count .ensures) ((c .before .before .before .before .before .loop .inv .0)) ((c .before .before .before .before .before .loop .inv .1)) (c .before .before .check-task .ensures))
+loop-again c = (search needs, search tasks-turn)
 
 same-length : tie.Need-same-length Inv-loop μ-loop
-same-length c = kept _ _ _ ((c .before .loop .inv .1))
+same-length c = search (needs, kept)
 
 returns : tie.Need-returns Inv-loop μ-loop
-returns c = emit-end _ _ _ _ _ (c .loop-test .left) (c .before .before .before .row-count .ensures) ((c .before .loop .inv .0)) ((c .before .loop .inv .1)) ∙ ap (emit _) (by-rows _ ((c .before .before .before .before .pre)))
+returns c = search (needs, tasks-end)
 
 pub check-parts-spec : {M : Type 1} → statement M
 check-parts-spec = tie.close (tie.spec Inv-loop μ-loop row-count-requires first-of-requires loop-holds check-task-requires next-of-requires loop-less loop-again same-length returns)

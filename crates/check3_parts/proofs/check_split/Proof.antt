@@ -9,7 +9,7 @@ sum-of-requires : tie.Need-sum-of-requires
 sum-of-requires c κs = search needs
 
 returns : tie.Need-returns
-returns c = split-none _ _ _ _ (c .if1 .taken) (c .before .sum-of .ensures)
+returns c = search (needs, split-none)
 
 id-at-requires : tie.Need-id-at-requires
 id-at-requires c κs = search needs

@@ -1,6 +1,7 @@
+use Rattle.check3_parts.proofs.Whole.{activities-turn}
+use Rattle.check3_parts.proofs.Works.{kind-here}
 use borrow.Author.Needs.{needs}
 use Prim.Native.Nat.{_-_}
-use native.Mathlib.Omega.{arith}
 use mathlib.Core.Path.{_≡_}
 use Rattle.loops.specs.inner.Chain.{Stands, only}
 use Rattle.loops.specs.Range.{collect}
@@ -8,9 +9,8 @@ use Rattle.rows.specs.Cells.{rowCount}
 use Rattle.owners.specs.inner.Owners.{ownedBy}
 use Rattle.findings.specs.inner.Sink.{sink, emit}
 use Rattle.findings.proofs.SinkLaws.{kept}
-use Rattle.findings.proofs.Reports.{emit-first, emit-end, emit-turn}
+use Rattle.findings.proofs.Reports.{emit-first, emit-end}
 use Rattle.loops.proofs.Walks.{silent-only}
-use Rattle.pieces.proofs.Chains.{owned-kind}
 use Rattle.check3_parts.specs.inner.Booked.{activityFindings, taskFindings}
 use Rattle.check3_parts.proofs.check_task.Statement.{statement}
 use Rattle.check3_parts.proofs.check_task.Tie as tie
@@ -31,7 +31,7 @@ loop-holds : tie.Need-loop-holds Inv-loop μ-loop
 loop-holds c = (search needs, emit-first _ _ (c .first-owned .ensures) (silent-only _ _))
 
 check-activity-requires : tie.Need-check-activity-requires Inv-loop μ-loop
-check-activity-requires c κs = ((c .before .before .before .before .before .pre .0), (c .before .before .before .before .before .pre .1), omega (arith, (c .before .loop-test .taken), (c .before .before .before .before .row-count .ensures)), owned-kind _ _ 2 _ ((c .before .before .loop .inv .0 .here) (omega (arith, (c .before .loop-test .taken), (c .before .before .before .before .row-count .ensures)))))
+check-activity-requires c κs = search (needs, kind-here)
 
 next-owned-requires : tie.Need-next-owned-requires Inv-loop μ-loop
 next-owned-requires c κs = search needs
@@ -40,14 +40,14 @@ loop-less : tie.Need-loop-less Inv-loop μ-loop
 loop-less c = search needs
 
 loop-again : tie.Need-loop-again Inv-loop μ-loop
-loop-again c = (search needs, emit-turn _ _ _ (c .next-owned .ensures) (c .before .before .before .before .loop-test .taken) (c .before .before .before .before .before .before .before .row-count .ensures) (c .before .before .before .before .before .loop .inv .0) (c .before .before .before .before .before .loop .inv .1) (c .before .before .check-activity .ensures))
+loop-again c = (search needs, search activities-turn)
 
 same-length : tie.Need-same-length Inv-loop μ-loop
-same-length c = kept _ _ _ (c .before .loop .inv .1)
+same-length c = search (needs, kept)
 
 returns : tie.Need-returns Inv-loop μ-loop
 unfolding taskFindings
-returns c = emit-end _ _ _ _ _ (c .loop-test .left) (c .before .before .before .row-count .ensures) (c .before .loop .inv .0) (c .before .loop .inv .1)
+returns c = search (needs, emit-end)
 
 pub check-task-spec : {M : Type 1} → statement M
 check-task-spec =

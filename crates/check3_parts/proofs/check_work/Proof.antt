@@ -1,4 +1,4 @@
-use mathlib.Core.Path.{sym, _∙_}
+use Rattle.sheet.proofs.Naming.{told}
 use Rattle.check3_parts.proofs.Works.{work-told, work-quiet}
 use borrow.Author.Needs.{needs}
 use Rattle.check3_parts.proofs.check_work.Statement.{statement}
@@ -8,7 +8,7 @@ has-part-requires : tie.Need-has-part-requires
 has-part-requires c κs = search needs
 
 work-before-requires : tie.Need-work-before-requires
-work-before-requires c κs = ((c .before .before .pre .0), (c .before .before .pre .1), (c .before .before .pre .2), (c .before .before .pre .3), (c .before .before .pre .4), sym (c .before .has-part .ensures) ∙ (c .if1 .taken))
+work-before-requires c κs = search (needs, told)
 
 id-at-requires : tie.Need-id-at-requires
 id-at-requires c κs = search needs
@@ -26,10 +26,10 @@ same-length : tie.Need-same-length
 same-length c = search needs
 
 returns : tie.Need-returns
-returns c = work-told _ _ _ (c .before .before .before .before .before .before .work-before .result) _ (c .before .before .before .before .before .before .before .before .before .pre .4) (sym (c .before .before .before .before .before .before .before .before .has-part .ensures) ∙ (c .before .before .before .before .before .before .before .if1 .taken)) (c .before .before .before .before .before .before .work-before .ensures) (c .before .before .before .before .before .id-at .ensures .0) (c .before .before .before .id-at2 .ensures .0) (c .before .before .before .before .is-other .ensures) (c .before .report .ensures)
+returns c = search (needs, told, work-told)
 
 returns-2 : tie.Need-returns-2
-returns-2 c = work-quiet _ _ _ _ (sym (c .before .has-part .ensures) ∙ (c .if1 .left))
+returns-2 c = search (needs, told, work-quiet)
 
 pub check-work-spec : {M : Type 1} → statement M
 check-work-spec =

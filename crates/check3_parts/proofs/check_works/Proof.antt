@@ -1,15 +1,14 @@
 use borrow.Author.Needs.{needs}
 use Prim.Native.Nat.{_-_}
-use native.Mathlib.Omega.{arith}
-use mathlib.Core.Path.{_≡_, ap, _∙_}
+use mathlib.Core.Path.{_≡_}
 use Rattle.loops.specs.inner.Chain.{Stands}
 use Rattle.loops.specs.Range.{collect}
 use Rattle.rows.specs.Cells.{rowCount}
 use Rattle.owners.specs.inner.Owners.{ownedBy}
 use Rattle.findings.specs.inner.Sink.{sink, emit}
 use Rattle.findings.proofs.SinkLaws.{kept}
-use Rattle.findings.proofs.Reports.{emit-first, emit-next, emit-end}
-use Rattle.check3_parts.proofs.Works.{worksAt, works-silent, works-are}
+use Rattle.findings.proofs.Reports.{emit-first, emit-next}
+use Rattle.check3_parts.proofs.Works.{worksAt, works-silent, owned-here, works-end}
 use Rattle.check3_parts.proofs.check_works.Statement.{statement}
 use Rattle.check3_parts.proofs.check_works.Tie as tie
 
@@ -29,7 +28,7 @@ loop-holds : tie.Need-loop-holds Inv-loop μ-loop
 loop-holds c = (search needs, emit-first _ _ (c .first-owned .ensures) (works-silent _ _))
 
 check-work-requires : tie.Need-check-work-requires Inv-loop μ-loop
-check-work-requires c κs = ((c .before .before .before .before .before .pre .0), (c .before .before .before .before .before .pre .1), (c .before .before .before .before .before .pre .2), omega (arith, (c .before .loop-test .taken), (c .before .before .before .before .row-count .ensures)), (c .before .before .loop .inv .0 .here) (omega (arith, (c .before .loop-test .taken), (c .before .before .before .before .row-count .ensures))))
+check-work-requires c κs = search (needs, owned-here)
 
 next-owned-requires : tie.Need-next-owned-requires Inv-loop μ-loop
 next-owned-requires c κs = search needs
@@ -38,13 +37,13 @@ loop-less : tie.Need-loop-less Inv-loop μ-loop
 loop-less c = search needs
 
 loop-again : tie.Need-loop-again Inv-loop μ-loop
-loop-again c = (search needs, emit-next _ _ (c .next-owned .ensures) (works-silent _ _) (c .before .before .before .before .before .loop .inv .1) (c .before .before .check-work .ensures))
+loop-again c = search (needs, emit-next, works-silent)
 
 same-length : tie.Need-same-length Inv-loop μ-loop
-same-length c = kept _ _ _ (c .before .loop .inv .1)
+same-length c = search (needs, kept)
 
 returns : tie.Need-returns Inv-loop μ-loop
-returns c = emit-end _ _ _ _ _ (c .loop-test .left) (c .before .before .before .row-count .ensures) (c .before .loop .inv .0) (c .before .loop .inv .1) ∙ ap (emit _) (works-are _ _ _)
+returns c = search (needs, works-end)
 
 pub check-works-spec : {M : Type 1} → statement M
 check-works-spec =

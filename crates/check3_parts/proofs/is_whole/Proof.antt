@@ -33,7 +33,7 @@ has-part-requires c κs = search needs
 
 returns : tie.Need-returns Inv-loop μ-loop
 unfolding wholeIn
-returns c = any-hit _ _ _ _ (c .before .before .loop-test .taken) (c .before .before .before .before .before .row-count .ensures) (whole-here _ _ (c .before .before .loop-test .taken) (c .before .before .before .before .before .row-count .ensures) (c .before .before .before .loop .inv .0) (c .before .has-part .ensures) (c .if1 .taken))
+returns c = search (needs, any-hit, whole-here)
 
 next-owned-requires : tie.Need-next-owned-requires Inv-loop μ-loop
 next-owned-requires c κs = search needs
@@ -42,11 +42,11 @@ loop-less : tie.Need-loop-less Inv-loop μ-loop
 loop-less c = search needs
 
 loop-again : tie.Need-loop-again Inv-loop μ-loop
-loop-again c = (search needs, any-next _ (c .next-owned .ensures) (whole-blind _ _) (c .before .before .before .before .loop .inv .1) (whole-here _ _ (c .before .before .before .loop-test .taken) (c .before .before .before .before .before .before .row-count .ensures) (c .before .before .before .before .loop .inv .0) (c .before .before .has-part .ensures) (c .before .if1 .left)))
+loop-again c = search (needs, any-next, whole-blind, whole-here)
 
 returns-2 : tie.Need-returns-2 Inv-loop μ-loop
 unfolding wholeIn
-returns-2 c = any-end _ _ _ _ (c .loop-test .left) (c .before .before .before .row-count .ensures) (c .before .loop .inv .0) (c .before .loop .inv .1)
+returns-2 c = search (needs, any-end)
 
 pub is-whole-spec : {M : Type 1} → statement M
 is-whole-spec =

@@ -1,7 +1,7 @@
 use borrow.Author.Needs.{needs}
 use Prim.Native.Nat.{_-_, _≤_}
 use native.Mathlib.Omega.{arith}
-use mathlib.Core.Path.{_≡_, refl}
+use mathlib.Core.Path.{_≡_}
 use mathlib.Core.List.{[], _∷_}
 use Rattle.loops.specs.Range.{collect}
 use Rattle.findings.specs.inner.Sink.{sink, emit}
@@ -29,13 +29,13 @@ loop-less : tie.Need-loop-less Inv-loop μ-loop
 loop-less c = search needs
 
 loop-again : tie.Need-loop-again Inv-loop μ-loop
-loop-again c = (loop-turn _ _ _ (c .before .before .before .before .loop .inv .0) (c .before .report .ensures), omega (arith, (c .before .before .before .loop-test .taken)))
+loop-again c = search (needs, loop-turn)
 
 same-length : tie.Need-same-length Inv-loop μ-loop
-same-length c = kept _ _ _ (c .before .loop .inv .0)
+same-length c = search (needs, kept)
 
 returns : tie.Need-returns Inv-loop μ-loop
-returns c = loop-end _ _ _ _ _ (c .before .loop .inv .1) (c .loop-test .left) refl (c .before .loop .inv .0)
+returns c = search (needs, loop-end)
 
 pub report-short-spec : {M : Type 1} → statement M
 report-short-spec =

@@ -1,3 +1,4 @@
+use Rattle.check3_parts.proofs.Works.{owned-here}
 use borrow.Author.Needs.{needs}
 use Prim.Native.Nat.{_*_, _-_, _≤_}
 use native.Mathlib.Omega.{arith}
@@ -27,7 +28,7 @@ loop-holds : tie.Need-loop-holds Inv-loop μ-loop
 loop-holds c = (search needs, sum-first _ _ _ _ (c .first-owned .ensures), omega arith)
 
 add-part-requires : tie.Need-add-part-requires Inv-loop μ-loop
-add-part-requires c κs = ((c .before .before .before .before .pre .0), (c .before .before .before .before .pre .1), (c .before .before .before .before .pre .2), omega (arith, (c .loop-test .taken), (c .before .before .before .row-count .ensures)), (c .before .loop .inv .0 .here) (omega (arith, (c .loop-test .taken), (c .before .before .before .row-count .ensures))), (c .before .loop .inv .1), (c .before .loop .inv .2))
+add-part-requires c κs = search (needs, owned-here)
 
 next-owned-requires : tie.Need-next-owned-requires Inv-loop μ-loop
 next-owned-requires c κs = search needs
@@ -36,10 +37,10 @@ loop-less : tie.Need-loop-less Inv-loop μ-loop
 loop-less c = search needs
 
 loop-again : tie.Need-loop-again Inv-loop μ-loop
-loop-again c = (search needs, sum-next _ _ _ _ (c .next-owned .ensures) (c .before .add-part .ensures .0), omega (arith, (c .before .add-part .ensures .1), (c .next-owned .ensures .low)))
+loop-again c = search (needs, sum-next)
 
 returns : tie.Need-returns Inv-loop μ-loop
-returns c = sum-end _ _ _ _ (c .before .loop .inv .0) (c .loop-test .left) (c .before .before .before .row-count .ensures) (c .before .loop .inv .1)
+returns c = search (needs, sum-end)
 
 pub sum-of-spec : {M : Type 1} → statement M
 sum-of-spec =

@@ -1,6 +1,5 @@
 use borrow.Author.Needs.{needs}
 use Prim.Native.Nat.{_-_, _≤_}
-use native.Mathlib.Omega.{arith}
 use mathlib.Core.Path.{_≡_}
 use Rattle.loops.specs.inner.Chain.{Stands}
 use Rattle.rows.specs.Cells.{rowCount, cell}
@@ -21,22 +20,22 @@ first-owned-requires : tie.Need-first-owned-requires Inv-loop μ-loop
 first-owned-requires c κs = search needs
 
 loop-holds : tie.Need-loop-holds Inv-loop μ-loop
-loop-holds c = (search needs, work-first _ _ _ (c .first-owned .ensures), not-past _ (c .first-owned .ensures) (omega arith) (c .before .pre .4))
+loop-holds c = search (needs, work-first, not-past)
 
 work-after-requires : tie.Need-work-after-requires Inv-loop μ-loop
 work-after-requires c κs = search needs
 
 next-owned-requires : tie.Need-next-owned-requires Inv-loop μ-loop
-next-owned-requires c κs = ((c .before .before .before .before .pre .1), (c .before .before .loop .inv .0), omega (arith, (c .before .loop-test .taken), (c .before .before .before .before .pre .3)))
+next-owned-requires c κs = search needs
 
 loop-less : tie.Need-loop-less Inv-loop μ-loop
 loop-less c = search needs
 
 loop-again : tie.Need-loop-again Inv-loop μ-loop
-loop-again c = (search needs, work-turn _ _ (c .before .before .before .before .before .pre .0) _ (c .before .before .before .before .before .pre .4) (c .before .before .before .before .before .pre .5) _ (c .before .before .before .loop .e) (c .before .before .before .loop .inv .0 .here (omega (arith, (c .before .before .loop-test .taken), (c .before .before .before .before .before .pre .3)))) (c .next-owned .ensures) (c .before .before .before .loop .inv .1) (c .before .work-after .ensures), not-past _ (c .next-owned .ensures) (c .before .before .loop-test .taken) (c .before .before .before .before .before .pre .4))
+loop-again c = (search needs, search (needs, work-turn), search (needs, not-past))
 
 returns : tie.Need-returns Inv-loop μ-loop
-returns c = work-end _ _ _ (c .before .loop .e) (c .loop-test .left) (c .before .loop .inv .2) (c .before .loop .inv .1)
+returns c = search (needs, work-end)
 
 pub work-before-spec : {M : Type 1} → statement M
 work-before-spec =

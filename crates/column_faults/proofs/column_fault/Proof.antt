@@ -1,5 +1,6 @@
+use Rattle.sheet.proofs.Branches.{told-no, told-yes, if-yes, if-no, else-yes, else-no}
+use Rattle.sheet.proofs.Naming.{told}
 use borrow.Author.Needs.{needs}
-use mathlib.Core.Path.{sym, _∙_}
 use Rattle.sheet.specs.Refusals.{columnFault}
 use Rattle.column_faults.proofs.column_fault.Statement.{statement}
 use Rattle.column_faults.proofs.column_fault.Tie as tie
@@ -12,15 +13,15 @@ is-out-requires c κs = search needs
 
 returns : tie.Need-returns
 unfolding columnFault
-returns c = rw (sym (c .before .before .before .is-known .ensures) ∙ (c .before .before .if1 .taken), sym (c .before .is-out .ensures) ∙ (c .if2 .taken))
+returns c = search (needs, told, told-yes, if-yes, else-no)
 
 returns-2 : tie.Need-returns-2
 unfolding columnFault
-returns-2 c = rw (sym (c .before .before .before .is-known .ensures) ∙ (c .before .before .if1 .taken), sym (c .before .is-out .ensures) ∙ (c .if2 .left))
+returns-2 c = search (needs, told, told-yes, if-no, else-no)
 
 returns-3 : tie.Need-returns-3
 unfolding columnFault
-returns-3 c = rw (sym (c .before .is-known .ensures) ∙ (c .if1 .left))
+returns-3 c = search (needs, told-no, else-yes)
 
 pub column-fault-spec : {M : Type 1} → statement M
 column-fault-spec =

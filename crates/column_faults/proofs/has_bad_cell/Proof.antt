@@ -1,7 +1,8 @@
+use Rattle.sheet.proofs.Naming.{told}
 use borrow.Author.Needs.{needs}
 use Prim.Native.Nat.{_≤_, _-_}
 use mathlib.Core.Bool.{false}
-use mathlib.Core.Path.{_≡_, refl, sym, _∙_}
+use mathlib.Core.Path.{_≡_}
 use Rattle.loops.specs.Search.{anyBelow}
 use Rattle.loops.proofs.SearchLaws.{any-zero, any-miss, any-hit, any-done}
 use Rattle.sheet.specs.Refusals.{badCell}
@@ -21,7 +22,7 @@ is-bad-cell-requires : tie.Need-is-bad-cell-requires Inv-loop μ-loop
 is-bad-cell-requires c κs = search needs
 
 returns : tie.Need-returns Inv-loop μ-loop
-returns c = any-hit _ _ _ _ (c .before .before .loop-test .taken) refl (sym (c .before .is-bad-cell .ensures) ∙ (c .if1 .taken))
+returns c = search (needs, told, any-hit)
 
 add-c : tie.Need-add-c Inv-loop μ-loop
 add-c c = search needs
@@ -30,10 +31,10 @@ loop-less : tie.Need-loop-less Inv-loop μ-loop
 loop-less c = search needs
 
 loop-again : tie.Need-loop-again Inv-loop μ-loop
-loop-again c = (search needs, any-miss _ _ ((c .before .before .before .loop .inv .1)) (sym (c .before .is-bad-cell .ensures) ∙ (c .if1 .left)))
+loop-again c = (search needs, search (needs, told, any-miss))
 
 returns-2 : tie.Need-returns-2 Inv-loop μ-loop
-returns-2 c = any-done _ _ 10 _ ((c .before .loop .inv .0)) (c .loop-test .left) refl ((c .before .loop .inv .1))
+returns-2 c = search (needs, any-done)
 
 pub has-bad-cell-spec : {M : Type 1} → statement M
 has-bad-cell-spec =

@@ -1,8 +1,15 @@
+use mathlib.Core.Bool.{Bool, not, Bool·beq}
+use mathlib.Core.Path.{_≡_}
+use Rattle.sheet.proofs.Branches.{and-yes, and-no}
+use Rattle.sheet.proofs.Naming.{told}
 use borrow.Author.Needs.{needs}
-use mathlib.Core.Path.{sym, _∙_}
 use Rattle.sheet.specs.Refusals.{halfPart}
 use Rattle.column_faults.proofs.is_half.Statement.{statement}
 use Rattle.column_faults.proofs.is_half.Tie as tie
+
+-- two tests that differ, as they were read
+unlike : {a b r s : Bool} → r ≡ a → s ≡ b → not (Bool·beq r s) ≡ not (Bool·beq a b)
+unlike e f = rw (e, f)
 
 is-at-requires : tie.Need-is-at-requires
 is-at-requires c κs = search needs
@@ -15,11 +22,11 @@ is-none-at-requires-2 c κs = search needs
 
 returns : tie.Need-returns
 unfolding halfPart
-returns c = rw (sym (c .before .before .before .is-at .ensures) ∙ (c .before .before .if1 .taken), ← (c .before .is-none-at .ensures), ← (c .is-none-at2 .ensures))
+returns c = search (needs, told, and-yes, unlike)
 
 returns-2 : tie.Need-returns-2
 unfolding halfPart
-returns-2 c = rw (sym (c .before .is-at .ensures) ∙ (c .if1 .left))
+returns-2 c = search (needs, told, and-no)
 
 pub is-half-spec : {M : Type 1} → statement M
 is-half-spec =

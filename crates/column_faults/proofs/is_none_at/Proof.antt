@@ -1,10 +1,16 @@
+use mathlib.Core.Bool.{Bool}
+use mathlib.Core.Path.{_≡_}
+use lib.IntN.{ℤ}
+use mir.Syntax.{w64}
+use mir.Val.{SFits, toZ, ofZ}
 use borrow.Author.Needs.{needs}
-use mathlib.Core.Path.{ap, _∙_}
-use borrow.Author.Needs.{sfits-of}
 use mir.Facts.{toZ-ofZ}
 use Rattle.rows.specs.Ranges.{isNone}
 use Rattle.column_faults.proofs.is_none_at.Statement.{statement}
 use Rattle.column_faults.proofs.is_none_at.Tie as tie
+
+none-read : {x v : ℤ} {r : Bool} → x ≡ v → SFits w64 x → r ≡ isNone (toZ w64 (ofZ w64 x)) → r ≡ isNone v
+none-read q f e = rw (toZ-ofZ f, q) at e
 
 cell-at-requires : tie.Need-cell-at-requires
 cell-at-requires c κs = search needs
@@ -13,7 +19,7 @@ is-none-requires : tie.Need-is-none-requires
 is-none-requires c κs = search needs
 
 returns : tie.Need-returns
-returns c = (c .is-none .ensures) ∙ ap isNone (toZ-ofZ (sfits-of (c .before .cell-at .ok)) ∙ (c .before .cell-at .ensures))
+returns c = search (needs, none-read)
 
 pub is-none-at-spec : {M : Type 1} → statement M
 is-none-at-spec = tie.close (tie.spec cell-at-requires is-none-requires returns)

@@ -1,5 +1,4 @@
-use mathlib.Core.Path.{ap, _∙_}
-use Rattle.sheet.specs.inner.Groups.{group}
+use Rattle.link_faults.proofs.Repeats.{group-read}
 use borrow.Author.Needs.{needs}
 use Rattle.link_faults.proofs.group_at.Statement.{statement}
 use Rattle.link_faults.proofs.group_at.Tie as tie
@@ -11,7 +10,7 @@ group-of-requires : tie.Need-group-of-requires
 group-of-requires c κs = search needs
 
 returns : tie.Need-returns
-returns c = (c .group-of .ensures) ∙ ap group (c .before .num-at .ensures)
+returns c = search (needs, group-read)
 
 pub group-at-spec : {M : Type 1} → statement M
 group-at-spec = tie.close (tie.spec num-at-requires group-of-requires returns)

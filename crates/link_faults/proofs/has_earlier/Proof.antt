@@ -7,7 +7,7 @@ first-named-requires : tie.Need-first-named-requires
 first-named-requires c κs = search needs
 
 returns : tie.Need-returns
-returns c = first-below _ (c .before .pre .2) (c .first-named .ensures)
+returns c = search (needs, first-below)
 
 pub has-earlier-spec : {M : Type 1} → statement M
 has-earlier-spec = tie.close (tie.spec first-named-requires returns)

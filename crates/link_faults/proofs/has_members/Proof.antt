@@ -1,5 +1,5 @@
+use Rattle.sheet.proofs.Branches.{range-from, range-under}
 use borrow.Author.Needs.{needs}
-use borrow.Author.Tests.{le-leb, lt-leb}
 use Rattle.sheet.specs.Refusals.{hasMembers}
 use Rattle.link_faults.proofs.has_members.Statement.{statement}
 use Rattle.link_faults.proofs.has_members.Tie as tie
@@ -9,11 +9,11 @@ num-at-requires c κs = search needs
 
 returns : tie.Need-returns
 unfolding hasMembers
-returns c = rw (← (c .before .num-at .ensures), le-leb _ _ (c .if1 .taken))
+returns c = search (needs, range-from)
 
 returns-2 : tie.Need-returns-2
 unfolding hasMembers
-returns-2 c = rw (← (c .before .num-at .ensures), lt-leb _ _ (c .if1 .left))
+returns-2 c = search (needs, range-under)
 
 pub has-members-spec : {M : Type 1} → statement M
 has-members-spec = tie.close (tie.spec num-at-requires returns returns-2)

@@ -1,3 +1,4 @@
+use mathlib.Core.Path.{_∙_}
 use Rattle.link_faults.proofs.Repeats.{may-repeat, by-id, by-pair, by-first, by-second}
 use Rattle.sheet.proofs.Groups.{group-small}
 use borrow.Author.Needs.{needs}
@@ -8,7 +9,7 @@ group-at-requires : tie.Need-group-at-requires
 group-at-requires c κs = search needs
 
 returns : tie.Need-returns
-returns c = may-repeat _ _ _ (c .before .group-at .ensures) (c .if1 .taken)
+returns c = search may-repeat
 
 num-at-requires : tie.Need-num-at-requires
 num-at-requires c κs = search needs
@@ -20,28 +21,28 @@ has-earlier-pair-requires : tie.Need-has-earlier-pair-requires
 has-earlier-pair-requires c κs = search needs
 
 returns-2 : tie.Need-returns-2
-returns-2 c = by-pair _ _ _ _ _ (c .before .before .before .before .before .group-at .ensures) (c .before .before .before .num-at .ensures) (c .before .before .num-at2 .ensures) (c .before .if2 .taken) (c .has-earlier-pair .ensures)
+returns-2 c = search by-pair
 
 has-earlier-pair-requires-2 : tie.Need-has-earlier-pair-requires-2
 has-earlier-pair-requires-2 c κs = search needs
 
 returns-3 : tie.Need-returns-3
-returns-3 c = by-first _ _ _ _ _ (c .before .before .before .before .before .before .before .group-at .ensures) (c .before .before .before .before .before .num-at .ensures) (c .before .before .before .before .num-at2 .ensures) (c .before .before .if3 .taken) (c .before .has-earlier-pair2 .ensures) (c .if4 .taken)
+returns-3 c = search by-first
 
 has-earlier-pair-requires-3 : tie.Need-has-earlier-pair-requires-3
 has-earlier-pair-requires-3 c κs = search needs
 
 returns-4 : tie.Need-returns-4
-returns-4 c = by-second _ _ _ _ _ (c .before .before .before .before .before .before .before .before .group-at .ensures) (c .before .before .before .before .before .before .num-at .ensures) (c .before .before .before .before .before .num-at2 .ensures) (c .before .before .before .if3 .taken) (c .before .before .has-earlier-pair2 .ensures) (c .before .if4 .left) (c .has-earlier-pair3 .ensures)
+returns-4 c = c .has-earlier-pair3 .ensures ∙ search by-second
 
 cast-has-earlier : tie.Need-cast-has-earlier
 cast-has-earlier c = search needs
 
 has-earlier-requires : tie.Need-has-earlier-requires
-has-earlier-requires c κs = ((c .before .before .before .before .before .before .pre .0), group-small _ _ (c .before .before .before .before .before .group-at .ensures), (c .before .before .before .before .before .before .pre .1))
+has-earlier-requires c κs = search (needs, group-small)
 
 returns-5 : tie.Need-returns-5
-returns-5 c = by-id _ _ _ _ _ (c .before .before .before .before .before .before .group-at .ensures) (c .before .before .before .before .num-at .ensures) (c .before .before .before .num-at2 .ensures) (c .before .before .before .before .before .if1 .left) (c .before .if3 .left) (c .before .before .if2 .left) (c .has-earlier .ensures)
+returns-5 c = search by-id
 
 pub is-repeat-spec : {M : Type 1} → statement M
 is-repeat-spec =

@@ -1,5 +1,6 @@
+use Rattle.sheet.proofs.Branches.{if-yes, if-no}
+use Rattle.sheet.proofs.Naming.{told}
 use borrow.Author.Needs.{needs}
-use mathlib.Core.Path.{sym, _∙_}
 use Rattle.sheet.specs.Refusals.{ownerFault}
 use Rattle.link_faults.proofs.owner_fault.Statement.{statement}
 use Rattle.link_faults.proofs.owner_fault.Tie as tie
@@ -9,11 +10,11 @@ is-unowned-requires c κs = search needs
 
 returns : tie.Need-returns
 unfolding ownerFault
-returns c = rw (sym (c .before .is-unowned .ensures) ∙ (c .if1 .taken))
+returns c = search (needs, told, if-yes)
 
 returns-2 : tie.Need-returns-2
 unfolding ownerFault
-returns-2 c = rw (sym (c .before .is-unowned .ensures) ∙ (c .if1 .left))
+returns-2 c = search (needs, told, if-no)
 
 pub owner-fault-spec : {M : Type 1} → statement M
 owner-fault-spec = tie.close (tie.spec is-unowned-requires returns returns-2)

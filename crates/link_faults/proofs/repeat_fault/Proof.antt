@@ -1,7 +1,8 @@
+use Rattle.link_faults.proofs.Repeats.{repeat-read}
+use Rattle.sheet.proofs.Branches.{if-yes, if-no}
+use Rattle.sheet.proofs.Naming.{told}
 use borrow.Author.Needs.{needs}
-use mathlib.Core.Path.{sym, _∙_}
 use Rattle.sheet.specs.Refusals.{repeatFault}
-use Rattle.sheet.proofs.Groups.{by-groups}
 use Rattle.link_faults.proofs.repeat_fault.Statement.{statement}
 use Rattle.link_faults.proofs.repeat_fault.Tie as tie
 
@@ -10,11 +11,11 @@ is-repeat-requires c κs = search needs
 
 returns : tie.Need-returns
 unfolding repeatFault
-returns c = rw (by-groups _ _ ∙ sym (c .before .is-repeat .ensures) ∙ (c .if1 .taken))
+returns c = search (needs, told, repeat-read, if-yes)
 
 returns-2 : tie.Need-returns-2
 unfolding repeatFault
-returns-2 c = rw (by-groups _ _ ∙ sym (c .before .is-repeat .ensures) ∙ (c .if1 .left))
+returns-2 c = search (needs, told, repeat-read, if-no)
 
 pub repeat-fault-spec : {M : Type 1} → statement M
 repeat-fault-spec = tie.close (tie.spec is-repeat-requires returns returns-2)

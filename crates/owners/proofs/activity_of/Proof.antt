@@ -12,7 +12,7 @@ found-at-requires : tie.Need-found-at-requires
 found-at-requires c κs = search needs
 
 returns : tie.Need-returns
-returns c = (c .found-at .ensures) ∙ stored-place _ 2 _ (own-activity _ _ ((c .before .before .pre .2)) (c .before .owner-of .ensures))
+returns c = search (needs, _∙_, stored-place, own-activity)
 
 pub activity-of-spec : {M : Type 1} → statement M
 activity-of-spec = tie.close (tie.spec owner-of-requires found-at-requires returns)

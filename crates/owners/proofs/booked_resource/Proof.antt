@@ -12,7 +12,7 @@ found-at-requires : tie.Need-found-at-requires
 found-at-requires c κs = search needs
 
 returns : tie.Need-returns
-returns c = (c .found-at .ensures) ∙ stored-place _ 11 _ (own-resource _ _ ((c .before .before .pre .2)) (c .before .resource-of .ensures))
+returns c = search (needs, _∙_, stored-place, own-resource)
 
 pub booked-resource-spec : {M : Type 1} → statement M
 booked-resource-spec = tie.close (tie.spec resource-of-requires found-at-requires returns)

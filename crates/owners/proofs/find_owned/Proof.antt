@@ -11,7 +11,7 @@ found-at-requires : tie.Need-found-at-requires
 found-at-requires c κs = search needs
 
 returns : tie.Need-returns
-returns c = (c .found-at .ensures) ∙ stored-first _ (c .before .first-owned .ensures)
+returns c = search (needs, _∙_, stored-first)
 
 pub find-owned-spec : {M : Type 1} → statement M
 find-owned-spec = tie.close (tie.spec first-owned-requires found-at-requires returns)

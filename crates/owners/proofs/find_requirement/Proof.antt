@@ -1,13 +1,12 @@
+use Rattle.owners.proofs.Tables.{nth-found, nth-fits, nth-counted, nth-passed}
 use borrow.Author.Needs.{needs}
-use Rattle.sheet.proofs.Lookups.{nth-blind, nth-here, nth-other}
+use Rattle.sheet.proofs.Lookups.{nth-blind}
 use Rattle.sheet.specs.Places.{named, isNth, nthPlace}
 use Rattle.rows.specs.Cells.{rowCount}
-use Rattle.loops.proofs.SearchLaws.{counted-le}
-use Rattle.loops.proofs.PlaceLaws.{count-first, count-next}
-use Rattle.loops.proofs.Walks.{itself, seek-first, seek-next, seek-end, seek-hit}
+use Rattle.loops.proofs.PlaceLaws.{count-first}
+use Rattle.loops.proofs.Walks.{itself, seek-first, seek-end}
 use Rattle.loops.specs.Search.{firstPlace, countBelow}
 use Rattle.loops.specs.inner.Chain.{Stands}
-use native.Mathlib.Omega.{arith}
 use mathlib.Core.Option.{none}
 use mathlib.Core.Path.{_≡_}
 use Prim.Native.Nat.{_-_}
@@ -30,11 +29,10 @@ loop-holds : tie.Need-loop-holds Inv-loop μ-loop
 loop-holds c = (search needs, count-first _ (c .first-named .ensures) (itself _), seek-first _ (c .first-named .ensures) (nth-blind _ (itself _)))
 
 returns : tie.Need-returns Inv-loop μ-loop
-unfolding nthPlace
-returns c = seek-hit _ _ _ _ (c .before .loop-test .taken) (c .before .before .before .before .row-count .ensures) (c .before .before .loop .inv .2) (nth-here _ _ _ (c .before .before .loop .inv .1) ((c .before .before .loop .inv .0 .here) (omega (arith, (c .before .loop-test .taken), (c .before .before .before .before .row-count .ensures)))) (c .if1 .taken))
+returns c = search (needs, nth-found)
 
 add-seen : tie.Need-add-seen Inv-loop μ-loop
-add-seen c = let h = counted-le _ _ (c .before .before .loop .inv .1) in record { fits = omega (arith, (c .before .loop-test .taken), (c .before .before .before .before .row-count .ensures), (c .before .before .before .before .before .pre .short)) }
+add-seen c = search (needs, nth-fits)
 
 next-named-requires : tie.Need-next-named-requires Inv-loop μ-loop
 next-named-requires c κs = search needs
@@ -43,11 +41,11 @@ loop-less : tie.Need-loop-less Inv-loop μ-loop
 loop-less c = search needs
 
 loop-again : tie.Need-loop-again Inv-loop μ-loop
-loop-again c = (search needs, count-next _ (c .next-named .ensures) (itself _) (c .before .before .before .loop .inv .1) (rw ((c .before .before .before .loop .inv .0 .here) (omega (arith, (c .before .before .loop-test .taken), (c .before .before .before .before .before .row-count .ensures))))), seek-next _ (c .next-named .ensures) (nth-blind _ (itself _)) (c .before .before .before .loop .inv .2) (nth-other _ _ _ (c .before .before .before .loop .inv .1) ((c .before .before .before .loop .inv .0 .here) (omega (arith, (c .before .before .loop-test .taken), (c .before .before .before .before .before .row-count .ensures)))) (c .before .if1 .left)))
+loop-again c = search (needs, nth-counted, nth-passed)
 
 returns-2 : tie.Need-returns-2 Inv-loop μ-loop
 unfolding nthPlace
-returns-2 c = seek-end _ _ _ _ (c .loop-test .left) (c .before .before .before .row-count .ensures) (c .before .loop .inv .0) (c .before .loop .inv .2)
+returns-2 c = search (needs, seek-end)
 
 pub find-requirement-spec : {M : Type 1} → statement M
 find-requirement-spec =

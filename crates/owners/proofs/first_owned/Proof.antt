@@ -1,8 +1,5 @@
 use borrow.Author.Needs.{needs}
-use native.Mathlib.Omega.{arith}
-use Rattle.loops.proofs.ChainLaws.{fits}
-use Rattle.loops.proofs.Walks.{stands}
-use Rattle.owners.proofs.Owning.{first-join, owned-blind}
+use Rattle.owners.proofs.Owning.{head-fits, head-stands, head-join}
 use Rattle.owners.proofs.first_owned.Statement.{statement}
 use Rattle.owners.proofs.first_owned.Tie as tie
 
@@ -22,13 +19,13 @@ element-copy-out-j : tie.Need-element-copy-out-j
 element-copy-out-j c = search needs
 
 cast-j : tie.Need-cast-j
-cast-j c = fits _ _ _ _ ((c .before .pre .0 .links .head) _ (omega (arith, (c .before .pre .0 .short), (c .before .pre .1)))) ((c .before .pre .0 .short))
+cast-j c = search (needs, head-fits)
 
 skip-to-requires : tie.Need-skip-to-requires
-skip-to-requires c κs = ((c .before .pre .0), stands _ _ _ ((c .before .pre .0 .links .head) _ (omega (arith, (c .before .pre .0 .short), (c .before .pre .1)))))
+skip-to-requires c κs = search (needs, head-stands)
 
 returns : tie.Need-returns
-returns c = first-join _ _ _ _ _ _ (owned-blind _ _ _) ((c .before .before .pre .0 .links .head) _ (omega (arith, (c .before .before .pre .0 .short), (c .before .before .pre .1)))) (c .skip-to .ensures)
+returns c = search (needs, head-join)
 
 pub first-owned-spec : {M : Type 1} → statement M
 first-owned-spec =

@@ -1,7 +1,4 @@
-use native.Mathlib.Omega.{arith}
-use mathlib.Core.Path.{ap, _∙_}
-use lib.Dec.{ltb}
-use Rattle.loops.proofs.TableLaws.{first-below}
+use Rattle.owners.proofs.Owning.{first-any}
 use borrow.Author.Needs.{needs}
 use Rattle.owners.proofs.has_owned.Statement.{statement}
 use Rattle.owners.proofs.has_owned.Tie as tie
@@ -13,7 +10,7 @@ row-count-requires : tie.Need-row-count-requires
 row-count-requires c κs = search needs
 
 returns : tie.Need-returns
-returns c = ap (ltb _) (c .row-count .ensures) ∙ first-below _ (omega arith) (c .before .first-owned .ensures)
+returns c = search (needs, first-any)
 
 pub has-owned-spec : {M : Type 1} → statement M
 has-owned-spec = tie.close (tie.spec first-owned-requires row-count-requires returns)

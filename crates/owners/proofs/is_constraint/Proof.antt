@@ -1,6 +1,6 @@
-use borrow.Author.Needs.{needs}
-use borrow.Author.Tests.{le-leb, lt-leb}
 use Rattle.sheet.specs.Places.{isConstraint}
+use Rattle.sheet.proofs.Branches.{range-from, range-under}
+use borrow.Author.Needs.{needs}
 use Rattle.owners.proofs.is_constraint.Statement.{statement}
 use Rattle.owners.proofs.is_constraint.Tie as tie
 
@@ -9,11 +9,11 @@ num-at-requires c κs = search needs
 
 returns : tie.Need-returns
 unfolding isConstraint
-returns c = rw (← (c .before .num-at .ensures), le-leb _ _ (c .if1 .taken))
+returns c = search (needs, range-from)
 
 returns-2 : tie.Need-returns-2
 unfolding isConstraint
-returns-2 c = rw (← (c .before .num-at .ensures), lt-leb _ _ (c .if1 .left))
+returns-2 c = search (needs, range-under)
 
 pub is-constraint-spec : {M : Type 1} → statement M
 is-constraint-spec = tie.close (tie.spec num-at-requires returns returns-2)

@@ -1,6 +1,5 @@
 use borrow.Author.Needs.{needs}
 use Prim.Native.Nat.{_≤_, _-_}
-use native.Mathlib.Omega.{arith}
 use Rattle.owners.proofs.Tables.{Filling, filling-start, filling-turn, filling-end, own-read, res-read}
 use Rattle.owners.proofs.links_into.Statement.{statement}
 use Rattle.owners.proofs.links_into.Tie as tie
@@ -18,13 +17,13 @@ numbers-of-requires : tie.Need-numbers-of-requires Inv-loop μ-loop
 numbers-of-requires c κs = search needs
 
 cast-clear-table : tie.Need-cast-clear-table Inv-loop μ-loop
-cast-clear-table c = record { fits = omega (arith, (c .before .before .before .pre .0 .short), (c .before .before .row-count .ensures)) }
+cast-clear-table c = search needs
 
 clear-table-requires : tie.Need-clear-table-requires Inv-loop μ-loop
 clear-table-requires c κs = search needs
 
 loop-holds : tie.Need-loop-holds Inv-loop μ-loop
-loop-holds c = (omega arith, filling-start _ _ _ ((c .before .before .before .before .pre .1)) (c .clear-table .ensures))
+loop-holds c = search (needs, filling-start)
 
 own-place-requires : tie.Need-own-place-requires Inv-loop μ-loop
 own-place-requires c κs = search needs
@@ -33,7 +32,7 @@ res-place-requires : tie.Need-res-place-requires Inv-loop μ-loop
 res-place-requires c κs = search needs
 
 set-links-requires : tie.Need-set-links-requires Inv-loop μ-loop
-set-links-requires c κs = (omega (arith, (c .before .before .before .before .before .before .before .before .before .before .pre .0 .short), (c .before .before .before .before .before .before .before .before .before .row-count .ensures)), own-read _ _ (c .before .before .own-place .ensures) (c .before .before .before .before .before .before .before .before .before .before .pre .0 .short), res-read _ _ (c .before .res-place .ensures) (c .before .before .before .before .before .before .before .before .before .before .pre .0 .short))
+set-links-requires c κs = search (needs, own-read, res-read)
 
 add-k : tie.Need-add-k Inv-loop μ-loop
 add-k c = search needs
@@ -42,10 +41,10 @@ loop-less : tie.Need-loop-less Inv-loop μ-loop
 loop-less c = search needs
 
 loop-again : tie.Need-loop-again Inv-loop μ-loop
-loop-again c = (search needs, filling-turn _ _ _ _ _ _ _ (omega (arith, (c .before .before .before .before .before .before .before .before .before .before .before .pre .0 .short), (c .before .before .before .before .before .before .before .before .before .before .row-count .ensures))) (c .before .before .before .own-place .ensures) (c .before .before .res-place .ensures) (c .set-links .ensures) ((c .before .before .before .before .before .before .loop .inv .1)))
+loop-again c = (search needs, search filling-turn)
 
 returns : tie.Need-returns Inv-loop μ-loop
-returns c = filling-end _ _ _ _ (c .loop-test .left) ((c .before .loop .inv .0)) (c .before .before .before .before .before .row-count .ensures) (c .before .before .before .before .before .before .pre .0 .short) ((c .before .loop .inv .1))
+returns c = search (needs, filling-end)
 
 pub links-into-spec : {M : Type 1} → statement M
 links-into-spec =

@@ -2,7 +2,7 @@ use borrow.Author.Needs.{needs}
 use Prim.Native.Nat.{_≤_, _-_}
 use native.Mathlib.Omega.{arith}
 use Rattle.loops.proofs.SearchLaws.{counted-le}
-use Rattle.owners.proofs.Tables.{Numbering, numbering-start, numbering-turn, numbering-end}
+use Rattle.owners.proofs.Tables.{Numbering, numbering-start, numbering-turn, numbering-end, numbering-fits}
 use Rattle.owners.proofs.numbers_of.Statement.{statement}
 use Rattle.owners.proofs.numbers_of.Tie as tie
 
@@ -16,7 +16,7 @@ row-count-requires : tie.Need-row-count-requires Inv-loop μ-loop
 row-count-requires c κs = search needs
 
 cast-t : tie.Need-cast-t Inv-loop μ-loop
-cast-t c = record { fits = omega (arith, (c .before .pre), (c .row-count .ensures)) }
+cast-t c = search needs
 
 loop-holds : tie.Need-loop-holds Inv-loop μ-loop
 loop-holds c = (omega arith, numbering-start _ _ (c .row-count .ensures))
@@ -25,10 +25,10 @@ is-constraint-requires : tie.Need-is-constraint-requires Inv-loop μ-loop
 is-constraint-requires c κs = search needs
 
 number-row-requires : tie.Need-number-row-requires Inv-loop μ-loop
-number-row-requires c κs = let h = counted-le _ _ ((c .before .before .before .loop .inv .1 .count)) in (omega (arith, (c .before .before .before .before .before .pre), (c .before .before .before .before .row-count .ensures)), omega arith)
+number-row-requires c κs = search (needs, counted-le)
 
 more-requires : tie.Need-more-requires Inv-loop μ-loop
-more-requires c κs = let h = counted-le _ _ ((c .before .before .before .before .loop .inv .1 .count)) in omega (arith, (c .before .before .before .before .before .before .pre), (c .before .before .before .before .before .row-count .ensures))
+more-requires c κs = search (needs, numbering-fits)
 
 add-k : tie.Need-add-k Inv-loop μ-loop
 add-k c = search needs
@@ -37,10 +37,10 @@ loop-less : tie.Need-loop-less Inv-loop μ-loop
 loop-less c = search needs
 
 loop-again : tie.Need-loop-again Inv-loop μ-loop
-loop-again c = let h = counted-le _ _ ((c .before .before .before .before .before .loop .inv .1 .count)) in (search needs, numbering-turn _ _ _ _ ((c .before .before .before .before .before .loop .inv .1)) _ _ _ (c .before .before .before .is-constraint .ensures) (omega (arith, (c .before .before .before .before .before .before .before .pre), (c .before .before .before .before .before .before .row-count .ensures))) h (c .before .number-row .ensures) (c .more .ensures))
+loop-again c = search (needs, numbering-turn)
 
 returns : tie.Need-returns Inv-loop μ-loop
-returns c = numbering-end _ _ _ _ _ ((c .before .loop .inv .1)) ((c .before .loop .inv .0)) (c .loop-test .left) (c .before .before .row-count .ensures) (c .before .before .before .pre)
+returns c = search (needs, numbering-end)
 
 pub numbers-of-spec : {M : Type 1} → statement M
 numbers-of-spec =

@@ -1,7 +1,6 @@
 use borrow.Author.Needs.{needs}
-use native.Mathlib.Omega.{arith}
 use Rattle.owners.specs.inner.Owners.{ownedKey}
-use Rattle.owners.proofs.Tables.{own-read}
+use Rattle.owners.proofs.Tables.{own-times, own-digit}
 use Rattle.owners.proofs.owned_key.Statement.{statement}
 use Rattle.owners.proofs.owned_key.Tie as tie
 
@@ -12,14 +11,14 @@ num-at-requires : tie.Need-num-at-requires
 num-at-requires c κs = search needs
 
 mul-result : tie.Need-mul-result
-mul-result c = let h = own-read _ _ (c .before .owner-of .ensures) ((c .before .before .pre .0 .short)) in omega arith
+mul-result c = search (needs, own-times)
 
 add-result : tie.Need-add-result
-add-result c = let h = own-read _ _ (c .before .owner-of .ensures) ((c .before .before .pre .0 .short)) in omega arith
+add-result c = search (needs, own-digit)
 
 returns : tie.Need-returns
 unfolding ownedKey
-returns c = rw ((c .before .owner-of .ensures), (c .num-at .ensures))
+returns c = search needs
 
 pub owned-key-spec : {M : Type 1} → statement M
 owned-key-spec =

@@ -1,6 +1,5 @@
+use Rattle.owners.proofs.Tables.{res-found, res-none}
 use borrow.Author.Needs.{needs}
-use mathlib.Core.Path.{sym, _∙_}
-use Rattle.owners.specs.inner.Owners.{resPlace}
 use Rattle.owners.proofs.res_place.Statement.{statement}
 use Rattle.owners.proofs.res_place.Tie as tie
 
@@ -17,15 +16,13 @@ or-end-requires : tie.Need-or-end-requires
 or-end-requires c κs = search needs
 
 returns : tie.Need-returns
-unfolding resPlace
-returns c = rw (sym (c .before .before .before .before .is-at .ensures) ∙ (c .before .before .before .if1 .taken), ← (c .before .before .num-at .ensures), ← (c .before .find-resource .ensures)) (c .or-end .ensures)
+returns c = search (needs, res-found)
 
 row-count-requires : tie.Need-row-count-requires
 row-count-requires c κs = search needs
 
 returns-2 : tie.Need-returns-2
-unfolding resPlace
-returns-2 c = rw (sym (c .before .before .is-at .ensures) ∙ (c .before .if1 .left)) (c .row-count .ensures)
+returns-2 c = search (needs, res-none)
 
 pub res-place-spec : {M : Type 1} → statement M
 res-place-spec =

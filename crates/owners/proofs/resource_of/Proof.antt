@@ -1,5 +1,5 @@
 use borrow.Author.Needs.{needs}
-use Rattle.owners.proofs.Tables.{small, res-below}
+use Rattle.owners.proofs.Tables.{res-fits, res-entry}
 use Rattle.owners.proofs.resource_of.Statement.{statement}
 use Rattle.owners.proofs.resource_of.Tie as tie
 
@@ -13,10 +13,10 @@ element-copy-out-result : tie.Need-element-copy-out-result
 element-copy-out-result c = search needs
 
 cast-result : tie.Need-cast-result
-cast-result c = small _ ((c .before .pre .0 .res) _ ((c .before .pre .1))) (res-below _ _) ((c .before .pre .0 .short))
+cast-result c = search (needs, res-fits)
 
 returns : tie.Need-returns
-returns c = (c .before .pre .0 .res) _ ((c .before .pre .1))
+returns c = search (needs, res-entry)
 
 pub resource-of-spec : {M : Type 1} → statement M
 resource-of-spec =

@@ -1,3 +1,4 @@
+use Rattle.sheet.proofs.Naming.{told}
 use borrow.Author.Needs.{needs}
 use Rattle.pieces.proofs.Chains.{found-here, found-none}
 use Rattle.pieces.specs.inner.Bookings.{names}
@@ -7,7 +8,7 @@ use Rattle.loops.proofs.Walks.{any-first, any-next}
 use Rattle.loops.specs.Search.{anyBelow}
 use Rattle.loops.specs.inner.Chain.{Stands}
 use mathlib.Core.Bool.{false}
-use mathlib.Core.Path.{_≡_, sym, _∙_}
+use mathlib.Core.Path.{_≡_}
 use Prim.Native.Nat.{_-_}
 use Rattle.pieces.proofs.find_naming.Statement.{statement}
 use Rattle.pieces.proofs.find_naming.Tie as tie
@@ -25,13 +26,13 @@ first-owned-requires : tie.Need-first-owned-requires Inv-loop μ-loop
 first-owned-requires c κs = search needs
 
 loop-holds : tie.Need-loop-holds Inv-loop μ-loop
-loop-holds c = (search needs, any-first _ (c .first-owned .ensures) ((c .before .before .pre .2)))
+loop-holds c = search (needs, any-first)
 
 names-at-requires : tie.Need-names-at-requires Inv-loop μ-loop
 names-at-requires c κs = search needs
 
 returns : tie.Need-returns Inv-loop μ-loop
-returns c = found-here _ _ _ _ (c .before .before .loop-test .taken) (c .before .before .before .before .before .row-count .ensures) ((c .before .before .before .loop .inv .1)) (sym (c .before .names-at .ensures) ∙ (c .if1 .taken))
+returns c = search (needs, told, found-here)
 
 next-owned-requires : tie.Need-next-owned-requires Inv-loop μ-loop
 next-owned-requires c κs = search needs
@@ -40,10 +41,10 @@ loop-less : tie.Need-loop-less Inv-loop μ-loop
 loop-less c = search needs
 
 loop-again : tie.Need-loop-again Inv-loop μ-loop
-loop-again c = (search needs, any-next _ (c .next-owned .ensures) ((c .before .before .before .before .before .before .before .pre .2)) ((c .before .before .before .before .loop .inv .1)) (sym (c .before .before .names-at .ensures) ∙ (c .before .if1 .left)))
+loop-again c = (search needs, search (needs, told, any-next))
 
 returns-2 : tie.Need-returns-2 Inv-loop μ-loop
-returns-2 c = found-none _ _ _ _ (c .loop-test .left) (c .before .before .before .row-count .ensures) ((c .before .loop .inv .0)) ((c .before .loop .inv .1))
+returns-2 c = search (needs, found-none)
 
 pub find-naming-spec : {M : Type 1} → statement M
 find-naming-spec =

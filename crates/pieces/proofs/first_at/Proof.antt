@@ -1,5 +1,6 @@
+use Rattle.sheet.proofs.Branches.{and-yes, and-no}
+use Rattle.sheet.proofs.Naming.{told}
 use Rattle.pieces.specs.inner.Bookings.{firstOn}
-use mathlib.Core.Path.{sym, _∙_}
 use borrow.Author.Needs.{needs}
 use Rattle.pieces.proofs.first_at.Statement.{statement}
 use Rattle.pieces.proofs.first_at.Tie as tie
@@ -12,11 +13,11 @@ is-first-requires c κs = search needs
 
 returns : tie.Need-returns
 unfolding firstOn
-returns c = rw (sym (c .before .before .is-at .ensures) ∙ (c .before .if1 .taken)) (c .is-first .ensures)
+returns c = search (needs, told, and-yes)
 
 returns-2 : tie.Need-returns-2
 unfolding firstOn
-returns-2 c = rw (sym (c .before .is-at .ensures) ∙ (c .if1 .left))
+returns-2 c = search (needs, told, and-no)
 
 pub first-at-spec : {M : Type 1} → statement M
 first-at-spec = tie.close (tie.spec is-at-requires is-first-requires returns returns-2)

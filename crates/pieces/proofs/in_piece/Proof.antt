@@ -1,9 +1,16 @@
+use Rattle.pieces.proofs.Chains.{read-is}
+use Rattle.sheet.proofs.Branches.{and-yes, and-no}
+use Rattle.sheet.proofs.Naming.{told}
 use Rattle.pieces.specs.inner.Bookings.{inPiece}
 use lib.Dec.{eqb}
-use mathlib.Core.Path.{sym, ap₂, _∙_}
+use Prim.Native.Nat.{ℕ}
+use mathlib.Core.Path.{_≡_, ap₂}
 use borrow.Author.Needs.{needs}
 use Rattle.pieces.proofs.in_piece.Statement.{statement}
 use Rattle.pieces.proofs.in_piece.Tie as tie
+
+keys-same : {a b x y : ℕ} → a ≡ x → b ≡ y → eqb a b ≡ eqb x y
+keys-same p q = ap₂ eqb p q
 
 is-at-requires : tie.Need-is-at-requires
 is-at-requires c κs = search needs
@@ -22,15 +29,15 @@ key-at-requires-2 c κs = search needs
 
 returns : tie.Need-returns
 unfolding inPiece
-returns c = rw (sym (c .before .before .before .before .before .before .is-at .ensures) ∙ (c .before .before .before .before .before .if1 .taken), ← (c .before .before .before .before .num-at .ensures), sym (c .before .before .before .is-at2 .ensures) ∙ (c .before .before .if2 .taken)) (ap₂ eqb (c .before .key-at .ensures) (c .key-at2 .ensures))
+returns c = search (needs, told, read-is, and-yes, keys-same)
 
 returns-2 : tie.Need-returns-2
 unfolding inPiece
-returns-2 c = rw (sym (c .before .before .before .before .is-at .ensures) ∙ (c .before .before .before .if1 .taken), ← (c .before .before .num-at .ensures), sym (c .before .is-at2 .ensures) ∙ (c .if2 .left))
+returns-2 c = search (needs, told, read-is, and-yes, and-no)
 
 returns-3 : tie.Need-returns-3
 unfolding inPiece
-returns-3 c = rw (sym (c .before .is-at .ensures) ∙ (c .if1 .left))
+returns-3 c = search (needs, told, and-no)
 
 pub in-piece-spec : {M : Type 1} → statement M
 in-piece-spec =

@@ -1,5 +1,6 @@
+use Rattle.pieces.proofs.Chains.{read-is}
+use Rattle.sheet.proofs.Branches.{and-yes, and-no}
 use Rattle.pieces.specs.inner.Bookings.{sameBooking}
-use mathlib.Core.Path.{sym, _∙_}
 use borrow.Author.Needs.{needs}
 use Rattle.pieces.proofs.is_same.Statement.{statement}
 use Rattle.pieces.proofs.is_same.Tie as tie
@@ -15,11 +16,11 @@ in-piece-requires c κs = search needs
 
 returns : tie.Need-returns
 unfolding sameBooking
-returns c = rw (← (c .before .before .before .num-at .ensures), sym (c .before .before .is-at .ensures) ∙ (c .before .if1 .taken)) (c .in-piece .ensures)
+returns c = search (needs, read-is, and-yes)
 
 returns-2 : tie.Need-returns-2
 unfolding sameBooking
-returns-2 c = rw (← (c .before .before .num-at .ensures), sym (c .before .is-at .ensures) ∙ (c .if1 .left))
+returns-2 c = search (needs, read-is, and-no)
 
 pub is-same-spec : {M : Type 1} → statement M
 is-same-spec =

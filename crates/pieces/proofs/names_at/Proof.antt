@@ -1,5 +1,6 @@
+use Rattle.sheet.proofs.Branches.{and-yes, and-no}
+use Rattle.sheet.proofs.Naming.{told}
 use Rattle.pieces.specs.inner.Bookings.{names}
-use mathlib.Core.Path.{sym, _∙_}
 use borrow.Author.Needs.{needs}
 use Rattle.pieces.proofs.names_at.Statement.{statement}
 use Rattle.pieces.proofs.names_at.Tie as tie
@@ -15,15 +16,15 @@ is-at-requires-3 c κs = search needs
 
 returns : tie.Need-returns
 unfolding names
-returns c = rw (sym (c .before .before .before .before .is-at .ensures) ∙ (c .before .before .before .if1 .taken), sym (c .before .before .is-at2 .ensures) ∙ (c .before .if2 .taken)) (c .is-at3 .ensures)
+returns c = search (needs, told, and-yes)
 
 returns-2 : tie.Need-returns-2
 unfolding names
-returns-2 c = rw (sym (c .before .before .before .is-at .ensures) ∙ (c .before .before .if1 .taken), sym (c .before .is-at2 .ensures) ∙ (c .if2 .left))
+returns-2 c = search (needs, told, and-yes, and-no)
 
 returns-3 : tie.Need-returns-3
 unfolding names
-returns-3 c = rw (sym (c .before .is-at .ensures) ∙ (c .if1 .left))
+returns-3 c = search (needs, told, and-no)
 
 pub names-at-spec : {M : Type 1} → statement M
 names-at-spec =

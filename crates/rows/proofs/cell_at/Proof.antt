@@ -1,5 +1,4 @@
 use borrow.Author.Tests.{lt-ltb}
-use Prim.Native.Nat.{_<_}
 use Rattle.rows.specs.Cells.{cell}
 use native.Mathlib.Omega.{arith}
 use Rattle.rows.proofs.Signs.{cell-past, cell-wide}
@@ -21,7 +20,7 @@ shared-slice-copy-out-result c = search needs
 
 returns : tie.Need-returns
 unfolding cell
-returns c = let h : c .before .before .before .before .args .c < 10 = omega arith in rw (lt-ltb (c .before .before .before .before .args .c) 10 h) (search needs)
+returns c = search (needs, lt-ltb)
 
 returns-2 : tie.Need-returns-2
 returns-2 c = cell-past _ _ _ (omega arith)

@@ -1,5 +1,4 @@
-use native.Mathlib.Omega.{arith}
-use Rattle.rows.proofs.Tables.{class-at, class-past, class-wide}
+use Rattle.rows.proofs.Tables.{class-at, class-past, code-wide}
 use borrow.Author.Needs.{needs}
 use Rattle.rows.proofs.class_of.Statement.{statement}
 use Rattle.rows.proofs.class_of.Tie as tie
@@ -20,13 +19,13 @@ index-2-result : tie.Need-index-2-result
 index-2-result c = search needs
 
 returns-2 : tie.Need-returns-2
-returns-2 c = class-at _ _ (c .before .before .before .before .pre) (c .before .before .before .if1 .left)
+returns-2 c = search (needs, class-at)
 
 returns-3 : tie.Need-returns-3
-returns-3 c = class-past _ _ (c .before .before .if1 .left) (omega arith)
+returns-3 c = search (needs, class-past)
 
 returns-4 : tie.Need-returns-4
-returns-4 c = rw (class-wide (c .before .before .args .kind) (c .before .before .args .c) (c .if2 .left))
+returns-4 c = search (needs, code-wide)
 
 pub class-of-spec : {M : Type 1} → statement M
 class-of-spec =

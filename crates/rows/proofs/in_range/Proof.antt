@@ -13,7 +13,7 @@ is-within-requires : tie.Need-is-within-requires
 is-within-requires c κs = search needs
 
 returns : tie.Need-returns
-returns c = ranged (c .before .before .before .args .class) _ (c .before .before .before .fits .x) (c .before .before .range-at .ensures) (c .before .range-at2 .ensures) (c .is-within .ensures)
+returns c = search (needs, ranged)
 
 pub in-range-spec : {M : Type 1} → statement M
 in-range-spec =

@@ -1,5 +1,5 @@
+use Rattle.rows.proofs.Signed.{within-read}
 use Rattle.rows.specs.Ranges.{isNone}
-use mir.Facts.{toZ-ofZ}
 use borrow.Author.Needs.{needs}
 use Rattle.rows.proofs.is_none.Statement.{statement}
 use Rattle.rows.proofs.is_none.Tie as tie
@@ -9,7 +9,7 @@ is-within-requires c κs = search needs
 
 returns : tie.Need-returns
 unfolding isNone
-returns c = rw (toZ-ofZ (c .before .fits .x)) at (c .is-within .ensures)
+returns c = search (needs, within-read)
 
 pub is-none-spec : {M : Type 1} → statement M
 is-none-spec = tie.close (tie.spec is-within-requires returns)

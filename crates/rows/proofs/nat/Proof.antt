@@ -1,16 +1,16 @@
-use Rattle.loops.proofs.SignLaws.{cast}
-use Rattle.rows.proofs.Signs.{nat-under, nat-over}
+use borrow.Author.Needs.{needs}
+use Rattle.rows.proofs.Signs.{cast-sign, cast-fits, nat-under, nat-over}
 use Rattle.rows.proofs.nat.Statement.{statement}
 use Rattle.rows.proofs.nat.Tie as tie
 
 cast-result : tie.Need-cast-result
-cast-result c = cast _ (c .before .fits .x) (c .if1 .left)
+cast-result c = (search (needs, cast-sign), search (needs, cast-fits))
 
 returns : tie.Need-returns
-returns c = nat-under _ (c .before .fits .x) (c .if1 .taken)
+returns c = search (needs, nat-under)
 
 returns-2 : tie.Need-returns-2
-returns-2 c = nat-over _ (c .before .fits .x) (c .if1 .left)
+returns-2 c = search (needs, nat-over)
 
 pub nat-spec : {M : Type 1} → statement M
 nat-spec = tie.close (tie.spec cast-result returns returns-2)

@@ -16,10 +16,10 @@ index-2-result : tie.Need-index-2-result
 index-2-result c = search needs
 
 returns : tie.Need-returns
-returns c = range-at _ _ ((c .before .before .pre .0))
+returns c = search (needs, range-at)
 
 returns-2 : tie.Need-returns-2
-returns-2 c = range-past _ (c .before .args .j) (c .if1 .left)
+returns-2 c = search (needs, range-past)
 
 pub range-at-spec : {M : Type 1} → statement M
 range-at-spec =

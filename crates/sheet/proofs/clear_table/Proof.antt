@@ -1,6 +1,5 @@
 use borrow.Author.Needs.{needs}
 use Prim.Native.Nat.{_-_}
-use mathlib.Core.Path.{refl}
 use lib.ListN.{length}
 use Rattle.loops.proofs.TableLaws.{Cleared, cleared-start, cleared-turn, cleared-all}
 use Rattle.sheet.proofs.clear_table.Statement.{statement}
@@ -28,13 +27,13 @@ loop-less : tie.Need-loop-less Inv-loop μ-loop
 loop-less c = search needs
 
 loop-again : tie.Need-loop-again Inv-loop μ-loop
-loop-again c = cleared-turn (c .loop-test .taken) (c .before .loop .inv) refl
+loop-again c = search (needs, cleared-turn)
 
 same-length : tie.Need-same-length Inv-loop μ-loop
 same-length c = search needs
 
 returns : tie.Need-returns Inv-loop μ-loop
-returns c = cleared-all (c .loop-test .left) (c .before .loop .inv)
+returns c = search (needs, cleared-all)
 
 pub clear-table-spec : {M : Type 1} → statement M
 clear-table-spec =

@@ -13,7 +13,7 @@ found-at-requires c κs = search needs
 
 returns : tie.Need-returns
 unfolding placeOf
-returns c = (c .found-at .ensures) ∙ stored-first _ (c .before .first-named .ensures)
+returns c = search (needs, _∙_, stored-first)
 
 pub find-named-spec : {M : Type 1} → statement M
 find-named-spec = tie.close (tie.spec first-named-requires found-at-requires returns)

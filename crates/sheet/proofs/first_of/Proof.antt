@@ -1,6 +1,5 @@
 use borrow.Author.Needs.{needs}
-use Rattle.loops.proofs.ChainLaws.{fits}
-use Rattle.sheet.proofs.Naming.{kind-head}
+use Rattle.sheet.proofs.Naming.{kind-head, kind-head-fits}
 use Rattle.sheet.proofs.first_of.Statement.{statement}
 use Rattle.sheet.proofs.first_of.Tie as tie
 
@@ -14,11 +13,10 @@ element-copy-out-result : tie.Need-element-copy-out-result
 element-copy-out-result c = search needs
 
 cast-result : tie.Need-cast-result
-cast-result c = fits _ _ _ _ (kind-head _ _ (c .before .pre .0) _ (c .before .pre .1)) (c .before .pre .0 .short)
+cast-result c = search (needs, kind-head-fits)
 
--- src/lib.rt
 returns : tie.Need-returns
-returns c = kind-head _ _ (c .before .pre .0) _ (c .before .pre .1)
+returns c = search (needs, kind-head)
 
 pub first-of-spec : {M : Type 1} → statement M
 first-of-spec =

@@ -1,5 +1,4 @@
-use borrow.Author.Tests.{lt-ltb, le-ltb}
-use Rattle.sheet.specs.inner.Index.{storedPlace}
+use Rattle.sheet.proofs.Stored.{stored-some, stored-none}
 use borrow.Author.Needs.{needs}
 use Rattle.sheet.proofs.found_at.Statement.{statement}
 use Rattle.sheet.proofs.found_at.Tie as tie
@@ -8,12 +7,10 @@ row-count-requires : tie.Need-row-count-requires
 row-count-requires c κs = search needs
 
 returns : tie.Need-returns
-unfolding storedPlace
-returns c = rw (lt-ltb _ _ (rw (c .before .row-count .ensures) at (c .if1 .taken)))
+returns c = search (needs, stored-some)
 
 returns-2 : tie.Need-returns-2
-unfolding storedPlace
-returns-2 c = rw (le-ltb _ _ (rw (c .before .row-count .ensures) at (c .if1 .left)))
+returns-2 c = search (needs, stored-none)
 
 pub found-at-spec : {M : Type 1} → statement M
 found-at-spec = tie.close (tie.spec row-count-requires returns returns-2)

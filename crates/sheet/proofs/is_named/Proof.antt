@@ -1,6 +1,4 @@
-use mathlib.Core.Path.{refl, sym, _∙_}
-use mathlib.Core.Bool.{and-false, and-true}
-use borrow.Author.Tests.{not-true, not-false}
+use Rattle.sheet.proofs.Branches.{half-fails, half-holds}
 use Rattle.sheet.specs.Places.{named}
 use borrow.Author.Needs.{needs}
 use Rattle.sheet.proofs.is_named.Statement.{statement}
@@ -11,14 +9,14 @@ is-at-requires c κs = search needs
 
 returns : tie.Need-returns
 unfolding named
-returns c = rw (sym (c .before .is-at .ensures) ∙ not-true (c .before .is-at .result) (c .if1 .taken), and-false) refl
+returns c = search (needs, half-fails)
 
 is-at-requires-2 : tie.Need-is-at-requires-2
 is-at-requires-2 c κs = search needs
 
 returns-2 : tie.Need-returns-2
 unfolding named
-returns-2 c = rw (sym (c .before .before .is-at .ensures) ∙ not-false (c .before .before .is-at .result) (c .before .if1 .left), and-true) (c .is-at2 .ensures)
+returns-2 c = search (needs, half-holds)
 
 pub is-named-spec : {M : Type 1} → statement M
 is-named-spec = tie.close (tie.spec is-at-requires returns is-at-requires-2 returns-2)

@@ -1,5 +1,6 @@
+use Rattle.sheet.specs.inner.Groups.{namedPair}
 use borrow.Author.Needs.{needs}
-use Rattle.sheet.proofs.Naming.{no-pair, its-pair}
+use Rattle.sheet.proofs.Branches.{half-fails, half-holds}
 use Rattle.sheet.proofs.is_pair.Statement.{statement}
 use Rattle.sheet.proofs.is_pair.Tie as tie
 
@@ -7,13 +8,15 @@ is-at-requires : tie.Need-is-at-requires
 is-at-requires c κs = search needs
 
 returns : tie.Need-returns
-returns c = search (needs, no-pair)
+unfolding namedPair
+returns c = search (needs, half-fails)
 
 is-named-requires : tie.Need-is-named-requires
 is-named-requires c κs = search needs
 
 returns-2 : tie.Need-returns-2
-returns-2 c = search (needs, its-pair)
+unfolding namedPair
+returns-2 c = search (needs, half-holds)
 
 pub is-pair-spec : {M : Type 1} → statement M
 is-pair-spec = tie.close (tie.spec is-at-requires returns is-named-requires returns-2)

@@ -1,3 +1,4 @@
+use Rattle.sheet.proofs.Stored.{end-none}
 use borrow.Author.Needs.{needs}
 use Rattle.sheet.specs.inner.Index.{orEnd}
 use Rattle.sheet.proofs.or_end.Statement.{statement}
@@ -14,11 +15,10 @@ row-count-requires c κs = search needs
 
 returns : tie.Need-returns
 unfolding orEnd
-returns c = rw (c .before .f .given .1)
+returns c = search needs
 
 returns-2 : tie.Need-returns-2
-unfolding orEnd
-returns-2 c = rw (c .before .enum-told .given .1) (c .row-count .ensures)
+returns-2 c = search (needs, end-none)
 
 pub or-end-spec : {M : Type 1} → statement M
 or-end-spec = tie.close (tie.spec enum-known-f enum-told row-count-requires returns returns-2)

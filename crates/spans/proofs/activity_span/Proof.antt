@@ -16,7 +16,7 @@ booked-span-requires : tie.Need-booked-span-requires
 booked-span-requires c κs = search needs
 
 returns : tie.Need-returns
-returns c = runs-booked _ _ (rw (c .before .enum-told .given .1) at (c .before .before .before .find-named .ensures)) (c .booked-span .ensures)
+returns c = search (needs, runs-booked)
 
 num-at-requires : tie.Need-num-at-requires
 num-at-requires c κs = search needs
@@ -25,7 +25,7 @@ num-at-requires-2 : tie.Need-num-at-requires-2
 num-at-requires-2 c κs = search needs
 
 returns-2 : tie.Need-returns-2
-returns-2 c = rw (c .before .num-at .ensures, c .num-at2 .ensures) (runs-timed _ _ (rw (c .before .before .before .timed .given .1) at (c .before .before .before .before .before .find-named .ensures)))
+returns-2 c = search (needs, runs-timed)
 
 pub activity-span-spec : {M : Type 1} → statement M
 activity-span-spec =

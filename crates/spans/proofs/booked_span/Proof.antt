@@ -43,10 +43,10 @@ loop-less : tie.Need-loop-less Inv-loop μ-loop
 loop-less c = search needs
 
 loop-again : tie.Need-loop-again Inv-loop μ-loop
-loop-again c = (search needs, fold-next _ _ (c .next-named .ensures) (widen-quiet _ _) (c .before .before .before .before .before .loop .inv .1) (widen-here _ _ (spanMeant (c .before .before .before .before .before .loop .x)) (c .before .before .before .before .loop-test .taken) (c .before .before .before .before .before .before .before .row-count .ensures) (c .before .before .before .before .before .loop .inv .0) (c .before .before .before .num-at .ensures) (c .before .before .num-at2 .ensures) (c .before .widen .ensures)))
+loop-again c = search (needs, fold-next, widen-quiet, widen-here, spanMeant)
 
 returns : tie.Need-returns Inv-loop μ-loop
-returns c = fold-end _ _ _ _ _ (c .loop-test .left) (c .before .before .before .row-count .ensures) (c .before .loop .inv .0) (c .before .loop .inv .1)
+returns c = search (needs, fold-end)
 
 pub booked-span-spec : {M : Type 1} → statement M
 booked-span-spec =

@@ -1,5 +1,4 @@
-use mathlib.Core.Path.{sym, _∙_}
-use Rattle.spans.specs.inner.Instants.{endIf}
+use Rattle.spans.proofs.Instants.{end-counts, end-not}
 use borrow.Author.Needs.{needs}
 use Rattle.spans.proofs.end_if.Statement.{statement}
 use Rattle.spans.proofs.end_if.Tie as tie
@@ -14,12 +13,10 @@ later-of-requires : tie.Need-later-of-requires
 later-of-requires c κs = search needs
 
 returns : tie.Need-returns
-unfolding endIf
-returns c = rw (sym (c .before .before .before .is-at .ensures) ∙ (c .before .before .if1 .taken), ← (c .before .num-at .ensures)) (c .later-of .ensures)
+returns c = search (needs, end-counts)
 
 returns-2 : tie.Need-returns-2
-unfolding endIf
-returns-2 c = rw (sym (c .before .is-at .ensures) ∙ (c .if1 .left))
+returns-2 c = search (needs, end-not)
 
 pub end-if-spec : {M : Type 1} → statement M
 end-if-spec =

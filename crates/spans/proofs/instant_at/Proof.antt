@@ -1,8 +1,6 @@
-use borrow.Author.Needs.{needs, sfits-of}
-use mathlib.Core.Path.{ap, _∙_}
-use Rattle.loops.proofs.SignLaws.{cast}
-use Rattle.rows.specs.Class.{t?-c}
-use Rattle.model.specs.Sheet.{asInstant, read}
+use Rattle.rows.proofs.Signs.{cast-sign, cast-fits}
+use borrow.Author.Needs.{needs}
+use borrow.Author.Needs.{needs}
 use Rattle.spans.proofs.Instants.{read-none, read-some}
 use Rattle.spans.proofs.instant_at.Statement.{statement}
 use Rattle.spans.proofs.instant_at.Tie as tie
@@ -11,13 +9,13 @@ cell-at-requires : tie.Need-cell-at-requires
 cell-at-requires c κs = search needs
 
 returns : tie.Need-returns
-returns c = read-none (c .before .cell-at .result) (sfits-of (c .before .cell-at .ok)) (c .if1 .taken) ∙ ap (λ z. asInstant (read t?-c z)) (c .before .cell-at .ensures)
+returns c = search (needs, read-none)
 
 cast-t6 : tie.Need-cast-t6
-cast-t6 c = cast (c .before .cell-at .result) (sfits-of (c .before .cell-at .ok)) (c .if1 .left)
+cast-t6 c = (search (needs, cast-sign), search (needs, cast-fits))
 
 returns-2 : tie.Need-returns-2
-returns-2 c = read-some (c .before .cell-at .result) (sfits-of (c .before .cell-at .ok)) (c .if1 .left) ∙ ap (λ z. asInstant (read t?-c z)) (c .before .cell-at .ensures)
+returns-2 c = search (needs, read-some)
 
 pub instant-at-spec : {M : Type 1} → statement M
 instant-at-spec = tie.close (tie.spec cell-at-requires returns cast-t6 returns-2)

@@ -1,4 +1,4 @@
-use borrow.Author.Tests.{lt-ltb, le-ltb}
+use Rattle.spans.proofs.Instants.{later-new, later-old}
 use borrow.Author.Needs.{needs}
 use Rattle.spans.proofs.later_of.Statement.{statement}
 use Rattle.spans.proofs.later_of.Tie as tie
@@ -13,10 +13,10 @@ returns : tie.Need-returns
 returns c = rw (c .enum-told .given .1)
 
 returns-2 : tie.Need-returns-2
-returns-2 c = rw (c .before .before .e .given .1, lt-ltb (c .before .before .e .given .0 .0) (c .before .before .before .before .args .x) (c .if1 .taken))
+returns-2 c = search (needs, later-new)
 
 returns-3 : tie.Need-returns-3
-returns-3 c = rw (c .before .before .e .given .1, le-ltb (c .before .before .e .given .0 .0) (c .before .before .before .before .args .x) (c .if1 .left))
+returns-3 c = search (needs, later-old)
 
 pub later-of-spec : {M : Type 1} → statement M
 later-of-spec = tie.close (tie.spec enum-known-e enum-told returns returns-2 returns-3)

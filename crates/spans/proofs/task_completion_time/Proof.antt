@@ -10,7 +10,7 @@ latest-end-requires-2 : tie.Need-latest-end-requires-2
 latest-end-requires-2 c κs = search needs
 
 returns : tie.Need-returns
-returns c = completion _ _ (c .before .latest-end .ensures) (c .latest-end2 .ensures)
+returns c = search (needs, completion)
 
 pub task-completion-time-spec : {M : Type 1} → statement M
 task-completion-time-spec = tie.close (tie.spec latest-end-requires latest-end-requires-2 returns)

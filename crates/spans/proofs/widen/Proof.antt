@@ -1,3 +1,4 @@
+use Rattle.spans.proofs.Running.{widen-some}
 use borrow.Author.Needs.{needs}
 use Rattle.spans.proofs.widen.Statement.{statement}
 use Rattle.spans.proofs.widen.Tie as tie
@@ -18,7 +19,7 @@ most-requires : tie.Need-most-requires
 most-requires c κs = search needs
 
 returns-2 : tie.Need-returns-2
-returns-2 c = rw (c .before .before .before .x .given .1, c .before .least .ensures, c .most .ensures)
+returns-2 c = search (needs, widen-some)
 
 pub widen-spec : {M : Type 1} → statement M
 widen-spec =

@@ -1,4 +1,4 @@
-use Rattle.validation.proofs.Order.{shaped, passed, refused, indexed}
+use Rattle.validation.proofs.Order.{shaped, refused, indexed}
 use borrow.Author.Needs.{needs}
 use Rattle.validation.proofs.index.Statement.{statement}
 use Rattle.validation.proofs.index.Tie as tie
@@ -13,10 +13,10 @@ enum-told-2 : tie.Need-enum-told-2
 enum-told-2 c = search needs
 
 returns : tie.Need-returns
-returns c = refused _ _ ((c .enum-told2 .given .0 .0)) ((c .enum-told2 .given .0 .1 .0)) _ _ _ (c .before .before .shape-fault .ensures) ((c .enum-told2 .given .1))
+returns c = search (needs, refused)
 
 kinds-into-requires : tie.Need-kinds-into-requires
-kinds-into-requires c κs = (shaped _ (passed _ (c .before .before .before .shape-fault .ensures) ((c .before .enum-told .given .1))), ((c .before .before .before .before .pre .0)))
+kinds-into-requires c κs = search (needs, shaped)
 
 links-into-requires : tie.Need-links-into-requires
 links-into-requires c κs = search needs
@@ -28,7 +28,7 @@ link-fault-requires : tie.Need-link-fault-requires
 link-fault-requires c κs = search needs
 
 returns-2 : tie.Need-returns-2
-returns-2 c = indexed _ _ _ _ _ _ _ _ _ (c .before .before .before .before .before .before .before .before .before .before .before .before .before .shape-fault .ensures) ((c .before .before .before .before .before .before .before .before .before .before .before .enum-told .given .1)) (c .link-fault .ensures) (c .before .before .before .before .before .before .before .before .before .kinds-into .ensures) (c .before .before .before .before .before .before .links-into .ensures) (c .before .before .before .owned-into .ensures)
+returns-2 c = search (needs, indexed)
 
 pub index-spec : {M : Type 1} → statement M
 index-spec =

@@ -1,8 +1,6 @@
 use borrow.Author.Needs.{needs}
-use mathlib.Core.Path.{ap, sym, _∙_}
-use Rattle.refusals.specs.Refusals.{verdictOf}
 use Rattle.validation.specs.inner.Answer.{linkRefusal}
-use Rattle.validation.proofs.Order.{ends}
+use Rattle.validation.proofs.Order.{ends, goes-on}
 use Rattle.validation.proofs.link_fault.Statement.{statement}
 use Rattle.validation.proofs.link_fault.Tie as tie
 
@@ -17,14 +15,14 @@ enum-told-2 c = search needs
 
 returns : tie.Need-returns
 unfolding linkRefusal
-returns c = ends _ _ ((c .enum-told2 .given .0 .0)) ((c .enum-told2 .given .0 .1 .0)) (c .before .before .first-owner-fault .ensures) ((c .enum-told2 .given .1))
+returns c = search (needs, ends)
 
 first-repeat-fault-requires : tie.Need-first-repeat-fault-requires
 first-repeat-fault-requires c κs = search needs
 
 returns-2 : tie.Need-returns-2
 unfolding linkRefusal
-returns-2 c = rw (sym (c .before .before .before .first-owner-fault .ensures) ∙ ap verdictOf ((c .before .enum-told .given .1))) (c .first-repeat-fault .ensures)
+returns-2 c = search (needs, goes-on)
 
 pub link-fault-spec : {M : Type 1} → statement M
 link-fault-spec =

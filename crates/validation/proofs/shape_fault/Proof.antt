@@ -1,5 +1,6 @@
+use Rattle.sheet.proofs.Branches.{else-yes, else-no}
+use Rattle.sheet.proofs.Naming.{told}
 use borrow.Author.Needs.{needs}
-use mathlib.Core.Path.{sym, _∙_}
 use Rattle.validation.specs.inner.Answer.{shapeRefusal}
 use Rattle.validation.proofs.shape_fault.Statement.{statement}
 use Rattle.validation.proofs.shape_fault.Tie as tie
@@ -9,14 +10,14 @@ is-misshapen-requires c κs = search needs
 
 returns : tie.Need-returns
 unfolding shapeRefusal
-returns c = rw (sym (c .before .is-misshapen .ensures) ∙ (c .if1 .taken))
+returns c = search (needs, told, else-yes)
 
 first-column-fault-requires : tie.Need-first-column-fault-requires
 first-column-fault-requires c κs = search needs
 
 returns-2 : tie.Need-returns-2
 unfolding shapeRefusal
-returns-2 c = rw (sym (c .before .before .is-misshapen .ensures) ∙ (c .before .if1 .left)) (c .first-column-fault .ensures)
+returns-2 c = search (needs, told, else-no)
 
 pub shape-fault-spec : {M : Type 1} → statement M
 shape-fault-spec =
