@@ -1,8 +1,8 @@
+-- Laws of reading a line's fields one after the other. Assumes nothing.
 use Rattle.text_fields.specs.declared.Number.{Number}
 use mir.Facts.{toZ-ofZ}
 use mir.Val.{SFits, toZ, ofZ}
 use mir.Syntax.{w64}
--- Laws of reading a line's fields one after the other. Assumes nothing.
 use Prim.Native.Nat.{ℕ, suc, _+_, _-_, _≤_, _<_}
 use mathlib.Core.Bool.{Bool, true, _&&_, and-true, and-assoc}
 use mathlib.Core.List.{List, [], _∷_, map}

@@ -1,6 +1,6 @@
+-- Laws of a line's kind and of its row. Assumes nothing.
 use Rattle.text_line.specs.declared.Line.{Line}
 use Rattle.text_fields.specs.declared.Number.the-variants.{Value, Misspelt}
--- Laws of a line's kind and of its row. Assumes nothing.
 use Prim.Native.Nat.{ℕ, suc, _+_, _-_, _≤_, _<_, _^_}
 use mathlib.Core.Bool.{Bool, true, false, cond, not, and-false, false≢true, _&&_, and-true}
 use mathlib.Core.List.{List, [], _∷_, map}
