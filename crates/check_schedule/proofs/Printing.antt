@@ -1,4 +1,5 @@
 -- What stands in the buffer after `print_answer`, of a sheet and of a text. Assumes nothing.
+use native.Mathlib.Nat.{mul-le-mul-right}
 use Rattle.program_io.specs.declared.Input.the-variants.{Read}
 use Rattle.program_io.specs.declared.Input.{Input}
 use Rattle.program_io.specs.inner.Input.{Held}
@@ -181,19 +182,19 @@ module _ (text : List ℕ) (lent : List ℤ) (room : 8000 ≡ length lent) {a : 
       go true e = let z : _≡_ {A = ℕ} 0 1 = cc in absurd (omega arith)
       go false e = let w = accepted-rows 800 0 (parts 10 text) n (omega arith) e in (omega (arith, w .0), w .1)
 
-  -- they lie within the rows lent
-  module _ {n : ℕ} (q : a ≡ Accepted n) where
-    few-rows : n ≤ 800
-    few-rows = rows-are n (sym answer-is ∙ q) .1
+  -- up to ten numbers of each of them lie within the rows lent
+  module _ {n : ℕ} (q : a ≡ Accepted n) (m : ℕ) (h : m ≤ 10) where
+    few-numbers : m * n ≤ 8000
+    few-numbers = omega (arith, mul-le-mul-right n h, rows-are n (sym answer-is ∙ q) .1)
 
-    pub rows-fit : Fits w64 (10 * n)
-    rows-fit = record { fits = omega (arith, few-rows) }
+    pub rows-fit : Fits w64 (m * n)
+    rows-fit = record { fits = omega (arith, few-numbers) }
 
-    pub rows-within : (rows : List ℤ) → length rows ≡ 8000 → 10 * n ≤ length rows
-    rows-within rows h = omega (arith, few-rows)
+    pub rows-within : (rows : List ℤ) → length rows ≡ 8000 → m * n ≤ length rows
+    rows-within rows l = omega (arith, few-numbers)
 
-    pub rows-first : (rows : List ℤ) → length rows ≡ 8000 → 10 * n ≡ length (take (10 * n) rows)
-    rows-first rows h = sym (length-take-le (10 * n) rows (rows-within rows h))
+    pub rows-first : (rows : List ℤ) → length rows ≡ 8000 → m * n ≡ length (take (m * n) rows)
+    rows-first rows l = sym (length-take-le (m * n) rows (rows-within rows l))
 
   pub text-accepted : {rows : List ℤ} {n : ℕ} (bytes : List ℕ) → rows ≡ rowsAfter (answerOf text (length lent / 10)) text lent → a ≡ Accepted n
       → PrintedSheet (take (10 * n) rows) bytes → PrintedText text bytes
