@@ -1,4 +1,4 @@
--- What stands in the buffer after `print_answer`, of a sheet and of a text. Assumes nothing.
+-- What stands in the buffer after `print_answer`, of a sheet and of a text; the parts of the buffers that the program lends. Assumes nothing.
 use native.Mathlib.Nat.{mul-le-mul-right}
 use Rattle.program_io.specs.declared.Input.the-variants.{Read}
 use Rattle.program_io.specs.declared.Input.{Input}

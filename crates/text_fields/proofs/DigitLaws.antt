@@ -1,4 +1,4 @@
--- Laws of digits that are read on from a number. Assumes nothing.
+-- Laws of digits that are read on from a number, and of a field by its digits. Assumes nothing.
 use Prim.Native.Nat.{ℕ, zero, suc, _+_, _*_, _-_, _^_, _≤_, _<_}
 use mathlib.Core.Bool.{Bool, true, false, cond, _&&_, and-false}
 use mathlib.Core.List.{List, [], _∷_}

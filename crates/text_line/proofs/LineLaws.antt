@@ -1,4 +1,4 @@
--- Laws of a line's kind and of its row. Assumes nothing.
+-- Laws of a field that was read, of a line's kind and of its row. Assumes nothing.
 use Rattle.text_line.specs.declared.Line.{Line}
 use Rattle.text_fields.specs.declared.Number.the-variants.{Value, Misspelt}
 use Prim.Native.Nat.{ℕ, suc, _+_, _-_, _≤_, _<_, _^_}
