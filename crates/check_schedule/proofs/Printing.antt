@@ -1,4 +1,8 @@
--- What stands in the buffer after `print_answer`, of a sheet and of a text. Assumes nothing.
+-- What stands in the buffer after `print_answer`, of a sheet and of a text; the parts of the buffers that the program lends. Assumes nothing.
+use native.Mathlib.Nat.{mul-le-mul-right}
+use Rattle.program_io.specs.declared.Input.the-variants.{Read}
+use Rattle.program_io.specs.declared.Input.{Input}
+use Rattle.program_io.specs.inner.Input.{Held}
 use Prim.Native.Nat.{ℕ, zero, suc, _+_, _*_, _/_, _^_, _<_, _≤_, min}
 use mathlib.Core.Path.{_≡_, refl, sym, ap, _∙_, subst}
 use mathlib.Core.Bool.{Bool, true, false, cond}
@@ -9,9 +13,9 @@ use borrow.Author.Tests.{ltb-false}
 use lib.Dec.{ltb}
 use lib.IntN.{ℤ, pos, negsuc, natAbs}
 use lib.ListN.{length, getD, take, drop, length-append, length-drop}
-use lib.Seq.{sets, sets-eq, take-at, take-append-le, drop-append-le}
+use lib.Seq.{sets, sets-eq, take-at, take-append-le, drop-append-le, length-take-le}
 use mir.Syntax.{w64}
-use mir.Val.{Val}
+use mir.Val.{Val, Fits}
 use denote.Signed.{SInt}
 use denote.Array.{each}
 use denote.Shadow.{shadow}
@@ -100,7 +104,7 @@ few : (rows : List ℤ) → refusal rows 2000 ≡ none → length (findings rows
 unfolding refusal
 few rows e = omega (arith, ltb-false 2000 (length (findings rows)) (if-none (ltb 2000 (length (findings rows))) _ (or-none-right (sheetRefusal rows) _ e)))
 
-module _ (rows before : List ℤ) (room : length before ≡ 8000) where
+module _ (rows before : List ℤ) (room : 8000 ≡ length before) where
   entry : {r : _} {found : List ℤ} → Checked rows before r found → Ended (refusal rows 2000) rows before r found
   entry {r} {found} c =
       let e : length before / 4 ≡ 2000 = omega arith in
@@ -144,26 +148,30 @@ module _ (rows before : List ℤ) (room : length before ≡ 8000) where
     by-answer t (Accepted n) found h e f b q s = accepted-by t n found h e f q s
     by-answer t (Refused number place) found h e f b q s = refused-by t number place found e (b .0) (b .1) q s
 
-    pub sheet-printed : (a : Answer) (found : List ℤ) → Checked rows before a found → Small found → Bounded a
-        → r ≡ min (length (printed a found)) (length o) → o′ ≡ sets o 0 (printed a found)
-        → (r ≤ 168030) × PrintedSheet rows (take r o′)
-    sheet-printed a found c f b q s =
-        let p = by-answer (refusal rows 2000) a found (few rows) (entry c) f b q s in
-        (p .0, record { by-table = p .1 })
+    module _ (a : Answer) (found : List ℤ) (c : Checked rows before a found) (f : Small found) (b : Bounded a)
+        (q : r ≡ min (length (printed a found)) (length o)) (s : o′ ≡ sets o 0 (printed a found)) where
+      pub sheet-within : r ≤ 168030
+      sheet-within = by-answer (refusal rows 2000) a found (few rows) (entry c) f b q s .0
+
+      pub sheet-printed : PrintedSheet rows (take r o′)
+      sheet-printed = record { by-table = by-answer (refusal rows 2000) a found (few rows) (entry c) f b q s .1 }
 
 -- ---- a text
 
-module _ (text : List ℕ) (lent : List ℤ) (room : length lent ≡ 8000) {a : Answer} (told : a ≡ answerOf text (length lent / 10)) where
+module _ (text : List ℕ) (lent : List ℤ) (room : 8000 ≡ length lent) {a : Answer} (told : a ≡ answerOf text (length lent / 10)) where
   answer-is : a ≡ answerOf text 800
   answer-is = let e : length lent / 10 ≡ 800 = omega arith in rw e at told
 
-  pub text-refused : (o : List ℕ) {o′ : List ℕ} {r number place : ℕ} → length o ≡ 168030 → a ≡ Refused number place → number < 2 ^ 64 → place < 2 ^ 64
-      → r ≡ min (length (printedRefused number place)) (length o) → o′ ≡ sets o 0 (printedRefused number place)
-      → (r ≤ 168030) × PrintedText text (take r o′)
-  text-refused o {number = number} {place = place} long e h l q s =
-      let d = stands o (printedRefused number place) long (omega (arith, refused-fits number place h l)) q s in
-      let z : answerOf text 800 ≡ Refused number place = sym answer-is ∙ e in
-      (d .within, record { by-answer = rw z (d .first) })
+  module _ (o : List ℕ) {o′ : List ℕ} {r number place : ℕ} (long : length o ≡ 168030) (e : a ≡ Refused number place) (h : number < 2 ^ 64) (l : place < 2 ^ 64)
+      (q : r ≡ min (length (printedRefused number place)) (length o)) (s : o′ ≡ sets o 0 (printedRefused number place)) where
+    stood : Stands (printedRefused number place) r o′
+    stood = stands o (printedRefused number place) long (omega (arith, refused-fits number place h l)) q s
+
+    pub refused-within : r ≤ 168030
+    refused-within = stood .within
+
+    pub text-refused : PrintedText text (take r o′)
+    text-refused = let z : answerOf text 800 ≡ Refused number place = sym answer-is ∙ e in record { by-answer = rw z (stood .first) }
 
   -- the rows of an accepted text
   rows-are : (n : ℕ) → answerOf text 800 ≡ Accepted n → (length (rowsOf (parts 10 text)) ≡ 10 * n) × (n ≤ 800)
@@ -174,8 +182,19 @@ module _ (text : List ℕ) (lent : List ℤ) (room : length lent ≡ 8000) {a : 
       go true e = let z : _≡_ {A = ℕ} 0 1 = cc in absurd (omega arith)
       go false e = let w = accepted-rows 800 0 (parts 10 text) n (omega arith) e in (omega (arith, w .0), w .1)
 
-  pub few-rows : {n : ℕ} → a ≡ Accepted n → n ≤ 800
-  few-rows {n = n} q = rows-are n (sym answer-is ∙ q) .1
+  -- up to ten numbers of each of them lie within the rows lent
+  module _ {n : ℕ} (q : a ≡ Accepted n) (m : ℕ) (h : m ≤ 10) where
+    few-numbers : m * n ≤ 8000
+    few-numbers = omega (arith, mul-le-mul-right n h, rows-are n (sym answer-is ∙ q) .1)
+
+    pub rows-fit : Fits w64 (m * n)
+    rows-fit = record { fits = omega (arith, few-numbers) }
+
+    pub rows-within : (rows : List ℤ) → length rows ≡ 8000 → m * n ≤ length rows
+    rows-within rows l = omega (arith, few-numbers)
+
+    pub rows-first : (rows : List ℤ) → length rows ≡ 8000 → m * n ≡ length (take (m * n) rows)
+    rows-first rows l = sym (length-take-le (m * n) rows (rows-within rows l))
 
   pub text-accepted : {rows : List ℤ} {n : ℕ} (bytes : List ℕ) → rows ≡ rowsAfter (answerOf text (length lent / 10)) text lent → a ≡ Accepted n
       → PrintedSheet (take (10 * n) rows) bytes → PrintedText text bytes
@@ -184,3 +203,16 @@ module _ (text : List ℕ) (lent : List ℤ) (room : length lent ≡ 8000) {a : 
       let w : answerOf text (length lent / 10) ≡ Accepted n = sym told ∙ q in
       let first : take (10 * n) _ ≡ rowsOf (parts 10 text) = ap (take (10 * n)) (rw w at e) ∙ take-at (rowsOf (parts 10 text)) _ (10 * n) (rows-are n z .0) in
       record { by-answer = rw z (subst (λ (l : List ℤ). PrintedSheet l bytes) first p) }
+
+-- ---- the program's buffers
+
+-- the first bytes of a text that was read, and of what is printed
+module _ (i : Input) (n : ℕ) (buffer : List ℕ) (h : Held i buffer) (e : i ≡ Read n) where
+  pub read-within : n ≤ length buffer
+  read-within = (rw e at h) .0
+
+  pub read-first : n ≡ length (take n buffer)
+  read-first = (rw e at h) .1
+
+pub printed-first : (n : ℕ) (o : List ℕ) → n ≤ 168030 → length o ≡ 168030 → n ≡ length (take n o)
+printed-first n o h l = sym (length-take-le n o (omega arith))

@@ -6,7 +6,7 @@ use native.Mathlib.Omega.{arith}
 use native.Mathlib.Nat.{suc-mul}
 use native.Mathlib.Numerals.{add-one}
 use lib.IntN.{ℤ}
-use lib.ListN.{length, take, drop, length-drop}
+use lib.ListN.{length, take, drop, length-drop, length-take}
 use lib.Seq.{drop-drop, take-all}
 use Rattle.loops.specs.Range.{collect}
 use Rattle.printing.specs.NumberLines.{numberLine, lineAt, numberLines}
@@ -41,3 +41,7 @@ module _ {out₀ : List ℕ} {from : ℕ} {numbers : List ℤ} {w : ℕ} {out : 
             take-all (length rest - length line) (drop (length line) rest) (omega (arith, length-drop (length line) rest)) ∙ ap (λ l. drop (length l) rest) e ∙ drop-line w rest
             ∙ ap (drop w) (p .left) ∙ drop-drop w (k * w) numbers ∙ ap (λ n. drop n numbers) m;
       }
+
+-- a line is no longer than what is left
+pub line-within : (w : ℕ) (line rest : List ℤ) → line ≡ take w rest → length line ≤ length rest
+line-within w line rest e = rw e (simp length-take (omega arith))

@@ -13,7 +13,7 @@ use mir.Facts.{toZ-ofZ}
 use borrow.Author.Tests.{le-leb}
 use Rattle.loops.specs.inner.Wrote.{Wrote}
 use Rattle.loops.proofs.StoreLaws.{wrote-as, wrote-then}
-use Rattle.loops.proofs.SignLaws.{below-zero, from-zero, negated-fits}
+use Rattle.loops.proofs.SignLaws.{below-zero, from-zero, negated-fits, cast}
 use Rattle.printing.specs.Decimal.{decimal, spelling}
 
 neg-up : (m : ℕ) → negsuc m +ℤ pos 1 ≡ negℤ (pos m)
@@ -56,8 +56,11 @@ module _ (z : ℤ) (f : SFits w64 z) (e : ltZ (toZ w64 (ofZ w64 z)) (pos 0) ≡ 
   back-read : toZ w64 (ofZ w64 (back z)) ≡ pos m
   back-read = toZ-ofZ back-fits ∙ back-is
 
-  pub back-cast : T (nonNeg (toZ w64 (ofZ w64 (back z)))) × Fits w64 (natAbs (toZ w64 (ofZ w64 (back z))))
-  back-cast = rw back-read (tt, record { fits = omega (arith, small) })
+  pub back-sign : T (nonNeg (toZ w64 (ofZ w64 (back z))))
+  back-sign = rw back-read tt
+
+  pub back-size : Fits w64 (natAbs (toZ w64 (ofZ w64 (back z))))
+  back-size = rw back-read (record { fits = omega (arith, small) })
 
   pub back-more : Fits w64 (natAbs (toZ w64 (ofZ w64 (back z))) + 1)
   back-more = rw back-read (record { fits = omega (arith, small) })
@@ -79,3 +82,11 @@ plain z f e n q = rw (q, toZ-ofZ f, from-zero z f e .1)
 
 pub wrote-plain : (z : ℤ) → SFits w64 z → ltZ (toZ w64 (ofZ w64 z)) (pos 0) ≡ false → {l o : List ℕ} {i k n : ℕ} → n ≡ natAbs (toZ w64 (ofZ w64 z)) → Wrote l i o k (decimal n) → Wrote l i o k (spelling z)
 wrote-plain z f e {n = n} q w = wrote-as (plain z f e n q) w
+
+-- what a cast to u64 asks, in its two parts
+module _ (z : ℤ) (f : SFits w64 z) (e : ltZ (toZ w64 (ofZ w64 z)) (pos 0) ≡ false) where
+  pub cast-sign : T (nonNeg (toZ w64 (ofZ w64 z)))
+  cast-sign = cast z f e .0
+
+  pub cast-size : Fits w64 (natAbs (toZ w64 (ofZ w64 z)))
+  cast-size = cast z f e .1

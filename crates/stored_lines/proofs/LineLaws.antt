@@ -1,6 +1,6 @@
 -- Laws of a list's lines and their fields, which are looked at from the first on. Assumes nothing.
 use Prim.Native.Nat.{ℕ, suc, _+_, _-_, _≤_, _<_, min}
-use mathlib.Core.Bool.{Bool, true, false, _&&_}
+use mathlib.Core.Bool.{Bool, true, false}
 use mathlib.Core.List.{List, [], _∷_}
 use mathlib.Core.Path.{_≡_, sym, ap, _∙_}
 use native.Mathlib.Omega.{arith}
@@ -23,19 +23,19 @@ module _ (b : ℕ) (rest f : List ℕ) (e : f ≡ untilByte b rest) where
   pub first-last : length rest ≤ length f → parts b rest ≡ f ∷ []
   first-last h = rw e (parts-last b rest (omega (arith, up-within b rest, rw e at h)))
 
-  -- a test of each of them: true of the first, false of it, true of the last
-  module _ (p : List ℕ → Bool) where
-    pub all-more : p f ≡ true → length f < length rest → allOf p (parts b rest) ≡ allOf p (parts b (take (length rest - (length f + 1)) (drop (length f + 1) rest)))
+  -- a test of each of them, t: true of the first, false of it, true of the last
+  module _ (p : List ℕ → Bool) {t : Bool} (now : allOf p (parts b rest) ≡ t) where
+    pub all-more : p f ≡ true → length f < length rest → allOf p (parts b (take (length rest - (length f + 1)) (drop (length f + 1) rest))) ≡ t
     unfolding allOf
-    all-more t h = ap (allOf p) (first-more h) ∙ rw t
+    all-more y h = rw (first-more h, y) at now
 
-    pub all-last : p f ≡ true → length rest ≤ length f → allOf p (parts b rest) ≡ true
+    pub all-last : p f ≡ true → length rest ≤ length f → true ≡ t
     unfolding allOf
-    all-last t h = ap (allOf p) (first-last h) ∙ rw t
+    all-last y h = rw (first-last h, y) at now
 
-    pub all-not : p f ≡ false → allOf p (parts b rest) ≡ false
+    pub all-not : p f ≡ false → false ≡ t
     unfolding allOf
-    all-not t = let q = parts-first b rest in ap (allOf p) (q .1) ∙ rw (sym e, t)
+    all-not n = let q = parts-first b rest in rw (q .1, ← e, n) at now
 
   -- whether they are fewer than so many, t: one less of what follows, where more follows; the last is fewer than two
   module _ (n : ℕ) {t : Bool} (now : ltb (length (parts b rest)) (n + 1) ≡ t) (k : 0 < n) where
@@ -64,45 +64,38 @@ short-none b rest n now h =
     let some : length (parts b rest) ≡ suc (length (q .0)) = ap length (q .1) in
     sym (le-ltb (length (parts b rest)) (n + 1) (omega (arith, some))) ∙ now
 
--- both tests hold: the code looks at the second where the first holds
-pub both : {a b p q : Bool} → a ≡ p → a ≡ true → b ≡ q → b ≡ (p && q)
-both {q = q} e t f = f ∙ ap (λ (x : Bool). x && q) (sym t ∙ e)
-
-pub not-both : {a p : Bool} (q : Bool) → a ≡ p → a ≡ false → a ≡ (p && q)
-not-both q e t = t ∙ ap (λ (x : Bool). x && q) (sym t ∙ e)
-
--- where the first line from a place on judges; where it does not, and is the last, or others follow; past the end
-module _ (list : List ℕ) (at : ℕ) (f : List ℕ) (e : f ≡ untilByte 10 (take (length list - at) (drop at list))) where
+-- where the first line judges, t, looked for from a place on: it does so; it does not, and is the last, or others follow; past the end
+module _ (list : List ℕ) (at : ℕ) {t : ℕ} (now : judgingAt list at ≡ t) (f : List ℕ) (e : f ≡ untilByte 10 (take (length list - at) (drop at list))) where
   as-drop : f ≡ untilByte 10 (drop at list)
   as-drop = e ∙ ap (untilByte 10) (tail-is at list)
 
-  pub judges-here : at < length list → isJudging f ≡ true → at ≡ judgingAt list at
+  pub judges-here : at < length list → isJudging f ≡ true → at ≡ t
   unfolding gatheringLength
-  judges-here h t =
+  judges-here h y =
       let q = parts-first 10 (drop at list) in
-      let z : gatheringLength (parts 10 (drop at list)) ≡ 0 = ap gatheringLength (q .1) ∙ rw (sym as-drop, t) in
+      let z : gatheringLength (parts 10 (drop at list)) ≡ 0 = ap gatheringLength (q .1) ∙ rw (sym as-drop, y) in
       omega (arith, z)
 
-  pub judges-nowhere : isJudging f ≡ false → length list - at ≤ length f → length list ≡ judgingAt list at
+  pub judges-nowhere : isJudging f ≡ false → length list - at ≤ length f → length list ≡ t
   unfolding gatheringLength
-  judges-nowhere t h =
+  judges-nowhere n h =
       let k : length (drop at list) ≤ length f = simp length-drop (omega arith) in
-      let z : gatheringLength (parts 10 (drop at list)) ≡ length f + 1 + 0 = ap gatheringLength (first-last 10 (drop at list) f as-drop k) ∙ rw t in
+      let z : gatheringLength (parts 10 (drop at list)) ≡ length f + 1 + 0 = ap gatheringLength (first-last 10 (drop at list) f as-drop k) ∙ rw n in
       omega (arith, z)
 
-  pub judges-later : isJudging f ≡ false → length f < length list - at → judgingAt list at ≡ judgingAt list (at + (length f + 1))
+  pub judges-later : isJudging f ≡ false → length f < length list - at → judgingAt list (at + (length f + 1)) ≡ t
   unfolding gatheringLength
-  judges-later t h =
+  judges-later n h =
       let k : length (drop at list) ≡ length list - at = simp length-drop in
       let m : length (untilByte 10 (drop at list)) < length (drop at list) = omega (arith, ap length as-drop, k) in
       let p = parts-more 10 (drop at list) m in
       let d : drop (length f + 1) (drop at list) ≡ drop (at + (length f + 1)) list = drop-drop (length f + 1) at list in
       let z : gatheringLength (parts 10 (drop at list)) ≡ length f + 1 + gatheringLength (parts 10 (drop (at + (length f + 1)) list)) =
-      ap gatheringLength p ∙ rw (sym as-drop, t, d) in
+      ap gatheringLength p ∙ rw (sym as-drop, n, d) in
       omega (arith, z)
 
-pub judges-past : (list : List ℕ) (at : ℕ) → length list ≤ at → length list ≡ judgingAt list at
-judges-past list at h = omega arith
+pub judges-past : (list : List ℕ) (at : ℕ) {t : ℕ} → judgingAt list at ≡ t → length list ≤ at → length list ≡ t
+judges-past list at now h = omega arith
 
 -- the case from a place on, where f is the line that judges it
 module _ (list : List ℕ) (at line : ℕ) (f : List ℕ) (p : line ≡ judgingAt list at) (e : f ≡ untilByte 10 (take (length list - line) (drop line list))) where
@@ -114,5 +107,14 @@ module _ (list : List ℕ) (at line : ℕ) (f : List ℕ) (p : line ≡ judgingA
       let k : length (drop line list) ≡ length list - line = simp length-drop in
       omega (arith, p, ap length as-line, up-within 10 (drop line list), k)
 
-  pub case-found : (next : ℕ) → next ≡ min (line + length f + 1) (length list) → CaseAt list at (record { line = line; end = line + length f; next = next })
+  case-found : (next : ℕ) → next ≡ min (line + length f + 1) (length list) → CaseAt list at (record { line = line; end = line + length f; next = next })
   case-found next q = record { line = p; end = ap (λ (g : List ℕ). line + length g) as-line; next = q }
+
+  pub case-more : line + length f < length list → CaseAt list at (record { line = line; end = line + length f; next = line + length f + 1 })
+  case-more h = case-found (line + length f + 1) (omega arith)
+
+  pub case-last : length list ≤ line + length f → CaseAt list at (record { line = line; end = line + length f; next = line + length f })
+  case-last h = case-found (line + length f) (omega (arith, line-within))
+
+pub line-from : (list : List ℕ) (at line : ℕ) → line ≡ judgingAt list at → at ≤ length list → at ≤ line
+line-from list at line p h = omega arith

@@ -1,7 +1,11 @@
 -- Laws of what a case's lines give, and the fields of a line, from the first on. Assumes nothing.
+use Rattle.stored_numbers.proofs.PutLaws.{yet-less, yet-last, yet-as}
+use Rattle.stored_numbers.specs.inner.Yet.{Yet}
+use Rattle.loops.specs.inner.Wrote.{Wrote}
+use lib.IntN.{ℤ}
 use Prim.Native.Nat.{ℕ, _+_, _-_, _≤_, _<_}
 use mathlib.Core.Bool.{Bool, true, false, cond}
-use mathlib.Core.List.{List, [], _∷_, _++_, map, append-nil}
+use mathlib.Core.List.{List, [], _∷_, map, append-nil}
 use mathlib.Core.Path.{_≡_, refl, sym, ap, _∙_}
 use borrow.Author.Tests.{eq-eqb, ne-eqb}
 use lib.Dec.{eqb}
@@ -10,29 +14,38 @@ use Rattle.loops.specs.Lists.{each}
 use Rattle.loops.proofs.ListLaws.{each-ext}
 use Rattle.text_fields.specs.Parts.{untilByte, parts}
 use Rattle.text_line.specs.Line.{rowOf}
-use Rattle.stored_lines.specs.inner.Line.{letter, count, piece}
+use Rattle.stored_lines.specs.inner.Line.{letter, count, piece, body}
 use Rattle.stored_lines.proofs.LineLaws.{first-more, first-last}
 use Rattle.stored_numbers.specs.inner.Numbers.{times, numbersIn, numbersOf, expectedOf}
 use Rattle.stored_numbers.specs.inner.Gives.{pieceAs, lineGives}
 
--- where the first part of what is left is f, and more follows; where it is the last
-module _ (b : ℕ) (rest f : List ℕ) (e : f ≡ untilByte b rest) where
-  module _ {B : Type 0} (g : List ℕ → B) where
-    pub map-more : length f < length rest → map g (parts b rest) ≡ (g f ∷ []) ++ map g (parts b (take (length rest - (length f + 1)) (drop (length f + 1) rest)))
-    map-more h = ap (map g) (first-more b rest f e h)
+-- what is yet to be written is given by the parts of what is left; the first of them is f, whose own is written: more follows, or it is the last
+module _ {B : Type 0} {l m o : List B} {i j k : ℕ} {all : List B} (b : ℕ) (rest f : List ℕ) (e : f ≡ untilByte b rest) where
+  module _ (g : List ℕ → B) (y : Yet l i all m j (map g (parts b rest))) (w : Wrote m j o k (g f ∷ [])) where
+    pub map-more : length f < length rest → Yet l i all o k (map g (parts b (take (length rest - (length f + 1)) (drop (length f + 1) rest))))
+    map-more h = yet-less (g f ∷ []) _ (yet-as (ap (map g) (first-more b rest f e h)) y) w
 
-    pub map-last : length rest ≤ length f → map g (parts b rest) ≡ g f ∷ []
-    map-last h = ap (map g) (first-last b rest f e h)
+    pub map-last : length rest ≤ length f → Wrote l i o k all
+    map-last h = yet-last (g f ∷ []) (yet-as (ap (map g) (first-last b rest f e h)) y) w
 
-  -- what each of them gives
-  module _ {B : Type 0} (g : List ℕ → List B) where
-    pub each-more : length f < length rest → each g (parts b rest) ≡ g f ++ each g (parts b (take (length rest - (length f + 1)) (drop (length f + 1) rest)))
+  module _ (g : List ℕ → List B) (y : Yet l i all m j (each g (parts b rest))) (w : Wrote m j o k (g f)) where
+    pub each-more : length f < length rest → Yet l i all o k (each g (parts b (take (length rest - (length f + 1)) (drop (length f + 1) rest))))
     unfolding each
-    each-more h = ap (each g) (first-more b rest f e h)
+    each-more h = yet-less (g f) _ (yet-as (ap (each g) (first-more b rest f e h)) y) w
 
-    pub each-last : length rest ≤ length f → each g (parts b rest) ≡ g f
+    pub each-last : length rest ≤ length f → Wrote l i o k all
     unfolding each
-    each-last h = ap (each g) (first-last b rest f e h) ∙ append-nil (g f)
+    each-last h = yet-last (g f) (yet-as (ap (each g) (first-last b rest f e h) ∙ append-nil (g f)) y) w
+
+-- a piece as a row, or as plain numbers
+module _ {l m : List ℤ} {i j : ℕ} (row : Bool) (s : List ℕ) where
+  pub as-row : row ≡ true → Wrote l i m j (rowOf s) → Wrote l i m j (pieceAs row s)
+  unfolding pieceAs
+  as-row t w = rw t w
+
+  pub as-numbers : row ≡ false → Wrote l i m j (numbersIn s) → Wrote l i m j (pieceAs row s)
+  unfolding pieceAs
+  as-numbers t w = rw t w
 
 -- what a line gives, by its letter
 module _ (plain rows : ℕ) (l : List ℕ) {x n : ℕ} {s : List ℕ} (e : x ≡ letter l) where
@@ -66,3 +79,6 @@ plain-only l = once (eqb (letter l) 101) (times (count l) (numbersIn (piece l)))
 
 pub all-expected : (ls : List (List ℕ)) → each (lineGives 101 101) ls ≡ each expectedOf ls
 all-expected ls = each-ext (lineGives 101 101) expectedOf plain-only ls
+
+pub body-numbers : (b l : List ℕ) → b ≡ body l → numbersIn b ≡ numbersIn (body l)
+body-numbers b l e = ap numbersIn e

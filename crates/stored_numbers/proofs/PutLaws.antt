@@ -27,15 +27,21 @@ module _ {A : Type 0} where
         buffer = v .buffer ∙ sym (sets-out (sets l i a) (i + length a) b (omega (arith, length-sets l i a))) ∙ sets-append l i a b;
       }
 
-  -- what is told of all that was written from the start on
-  pub told-all : {l m : List A} {n : ℕ} {r : Gathered} (xs : List A) → Wrote l 0 m n xs → r ≡ gathered n (length m) → r ≡ gathered (length xs) (length l)
-  told-all {l = l} {m = m} {n = n} xs v t = t ∙ go (decLt (length xs) (length l))
+  -- what is told of all that was written from the start on; that may be written another way
+  told-of : {l m : List A} {n : ℕ} {r : Gathered} (xs : List A) → Wrote l 0 m n xs → r ≡ gathered n (length m) → r ≡ gathered (length xs) (length l)
+  told-of {l = l} {m = m} {n = n} xs v t = t ∙ go (decLt (length xs) (length l))
     where
       go : Dec (length xs < length l) → gathered n (length m) ≡ gathered (length xs) (length l)
       go (yes h) = let e : n ≡ length xs = omega (arith, v .place) in rw (wrote-long v, e)
       go (no h) =
           let e : length l ≤ n = omega (arith, v .place) in
           rw (wrote-long v, le-ltb n (length l) e, le-ltb (length xs) (length l) (omega arith))
+
+  pub told-all : {l m : List A} {n : ℕ} {r : Gathered} (xs ys : List A) → Wrote l 0 m n xs → xs ≡ ys → r ≡ gathered n (length m) → r ≡ gathered (length ys) (length l)
+  told-all xs ys v e t = told-of ys (wrote-as e v) t
+
+  pub all-put : {l m : List A} {n : ℕ} (xs ys : List A) → Wrote l 0 m n xs → xs ≡ ys → m ≡ sets l 0 ys
+  all-put xs ys v e = wrote-as e v .buffer
 
   -- all is yet to be written; something of it is written; nothing is left
   pub yet-all : (l : List A) (at : ℕ) (all : List A) → at ≤ length l → Yet l at all l at all

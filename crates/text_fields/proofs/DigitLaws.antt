@@ -1,8 +1,8 @@
--- Laws of digits that are read on from a number. Assumes nothing.
+-- Laws of digits that are read on from a number, and of a field by its digits. Assumes nothing.
 use Prim.Native.Nat.{ℕ, zero, suc, _+_, _*_, _-_, _^_, _≤_, _<_}
 use mathlib.Core.Bool.{Bool, true, false, cond, _&&_, and-false}
 use mathlib.Core.List.{List, [], _∷_}
-use mathlib.Core.Path.{_≡_, refl}
+use mathlib.Core.Path.{_≡_, refl, sym, ap, _∙_}
 use native.Mathlib.Omega.{arith}
 use native.Mathlib.Numerals.{add-one}
 use lib.Dec.{ltb, leb, eqb}
@@ -11,21 +11,15 @@ use lib.Seq.{drop-cons, take-all}
 use borrow.Author.Tests.{le-ltb, lt-ltb, le-leb, lt-leb, ltb-true, eq-eqb, ne-eqb}
 use Rattle.rows.specs.Ranges.{heldNone}
 use Rattle.text_fields.specs.Spelling.{isDigit, digitsFrom, limited, digitsOf, numberOf, positive, negative}
-use Rattle.text_fields.specs.declared.Number.the-variants.{Value}
+use Rattle.text_fields.specs.declared.Number.{Number}
+use Rattle.text_fields.specs.declared.Number.the-variants.{Value, Misspelt}
 use lib.IntN.{pos, negℤ}
-use mathlib.Core.Logic.{_⊎_, inl, inr}
+use mathlib.Core.Logic.{_⊎_, inl, inr, ⊎-elim}
+use mir.Syntax.{w64}
+use mir.Val.{toZ}
+use mir.Facts.{toZ-pos}
 use Rattle.text_fields.specs.declared.Digits.{Digits}
 use Rattle.text_fields.specs.declared.Digits.the-variants.{Is, Not}
-
--- what is no digit
-pub digit-low : (x : ℕ) → x < 48 → isDigit x ≡ false
-digit-low x h = rw (lt-leb 48 x)
-
-pub digit-high : (x : ℕ) → 57 < x → isDigit x ≡ false
-digit-high x h = rw (lt-leb x 57) (and-false (leb 48 x))
-
-pub digit-in : (x : ℕ) → 48 ≤ x → x ≤ 57 → isDigit x ≡ true
-digit-in x h k = rw (le-leb 48 x, le-leb x 57)
 
 -- one digit on, at a position
 pub at-digit : (s : List ℕ) (i n : ℕ) → i < length s
@@ -49,14 +43,19 @@ soon-too-large s i n h k =
     rw (at-digit s i n)
     (none-chosen (isDigit (getD s i 0)) _ (too-large (n * 10 + (getD s i 0 - 48)) (drop (i + 1) s) (omega arith)))
 
--- what stands at i is no digit
-pub no-digit : (s : List ℕ) (i n w : ℕ) → w ≡ getD s i 0 → i < length s → isDigit w ≡ false → limited (digitsFrom n (drop i s)) ≡ Not
-no-digit s i n w e h f = rw (at-digit s i n, ← e, f)
+-- what stands at i, read as w, is no digit, or is one; r is what comes of all the digits
+module _ {r : Digits} (s : List ℕ) (i n w : ℕ) (now : limited (digitsFrom n (drop i s)) ≡ r) (h : i < length s) (e : w ≡ getD s i 0) where
+  here : limited (cond (isDigit w) (digitsFrom (n * 10 + (w - 48)) (drop (i + 1) s)) Not) ≡ r
+  here = rw (at-digit s i n h, ← e) at now
 
--- what stands at i is a digit
-pub one-digit : (s : List ℕ) (i n w : ℕ) → w ≡ getD s i 0 → i < length s → isDigit w ≡ true
-    → digitsFrom n (drop i s) ≡ digitsFrom (n * 10 + (w - 48)) (drop (i + 1) s)
-one-digit s i n w e h f = rw (at-digit s i n, ← e, f)
+  pub digit-low : w < 48 → Not ≡ r
+  digit-low l = rw (lt-leb 48 w) at here
+
+  pub digit-high : 57 < w → Not ≡ r
+  digit-high l = rw (lt-leb w 57, and-false (leb 48 w)) at here
+
+  pub digit-in : 48 ≤ w → w ≤ 57 → limited (digitsFrom (n * 10 + (w - 48)) (drop (i + 1) s)) ≡ r
+  digit-in a b = rw (le-leb 48 w, le-leb w 57) at here
 
 -- at the end
 pub at-end : (s : List ℕ) (i n : ℕ) → length s ≤ i → n < 2 ^ 63 → limited (digitsFrom n (drop i s)) ≡ Is n
@@ -72,14 +71,17 @@ limited-below (Is m) n e = go (ltb m (2 ^ 63)) refl e
 limited-below Not n e = let z : _≡_ {A = ℕ} 0 1 = cc in omega arith
 
 -- a number that is spelled right is below 2^63
-pub digits-below : (s : List ℕ) (n : ℕ) → digitsOf s ≡ Is n → n < 2 ^ 63
+of-below : (s : List ℕ) (n : ℕ) → digitsOf s ≡ Is n → n < 2 ^ 63
 unfolding digitsOf
-digits-below [] n e = let z : _≡_ {A = ℕ} 0 1 = cc in omega arith
-digits-below (x ∷ xs) n e = go (eqb x 48 && ltb 0 (length xs)) e
+of-below [] n e = let z : _≡_ {A = ℕ} 0 1 = cc in omega arith
+of-below (x ∷ xs) n e = go (eqb x 48 && ltb 0 (length xs)) e
   where
     go : (b : Bool) → cond b Not (limited (digitsFrom 0 (x ∷ xs))) ≡ Is n → n < 2 ^ 63
     go true q = let z : _≡_ {A = ℕ} 0 1 = cc in omega arith
     go false q = limited-below (digitsFrom 0 (x ∷ xs)) n q
+
+pub digits-below : {r : Digits} (s : List ℕ) (n : ℕ) → r ≡ digitsOf s → r ≡ Is n → n < 2 ^ 63
+digits-below s n e q = of-below s n (sym e ∙ q)
 
 pub digits-empty : (s : List ℕ) → length s ≡ 0 → digitsOf s ≡ Not
 unfolding digitsOf
@@ -91,26 +93,45 @@ unfolding digitsOf
 digits-zero [] e h = refl
 digits-zero (x ∷ xs) e h = rw (eq-eqb x 48 e, lt-ltb 0 (length xs) (omega arith))
 
-pub digits-plain : (s : List ℕ) → (length s ≡ 0 → ⊥) → (getD s 0 0 ≡ 48 → ⊥) ⊎ (length s ≤ 1) → digitsOf s ≡ limited (digitsFrom 0 s)
+plain : (s : List ℕ) → (length s ≡ 0 → ⊥) → (getD s 0 0 ≡ 48 → ⊥) ⊎ (length s ≤ 1) → digitsOf s ≡ limited (digitsFrom 0 s)
 unfolding digitsOf
-digits-plain [] n h = absurd (n refl)
-digits-plain (x ∷ xs) n (inl h) = rw (ne-eqb x 48 h)
-digits-plain (x ∷ xs) n (inr h) = rw (le-ltb 0 (length xs) (omega arith), and-false (eqb x 48))
+plain [] n h = absurd (n refl)
+plain (x ∷ xs) n (inl h) = rw (ne-eqb x 48 h)
+plain (x ∷ xs) n (inr h) = rw (le-ltb 0 (length xs) (omega arith), and-false (eqb x 48))
+
+-- as the code comes to the digits: on one of two ways
+pub digits-plain : {A B : Type 0} {r : Digits} (s : List ℕ) → A ⊎ B → (length s ≡ 0 → ⊥) → (A → length s ≤ 1) → (B → getD s 0 0 ≡ 48 → ⊥)
+    → r ≡ limited (digitsFrom 0 s) → r ≡ digitsOf s
+digits-plain s w n a b e = e ∙ sym (plain s n (⊎-elim (λ x. inr (a x)) (λ y. inl (b y)) w))
 
 pub number-empty : (s : List ℕ) → length s ≡ 0 → numberOf s ≡ Value heldNone
 unfolding numberOf
 number-empty [] h = refl
 number-empty (x ∷ xs) h = absurd (omega arith)
 
-pub number-minus : (s : List ℕ) → (length s ≡ 0 → ⊥) → getD s 0 0 ≡ 45 → numberOf s ≡ negative (digitsOf (take (length s - 1) (drop 1 s)))
+minus : (s : List ℕ) → (length s ≡ 0 → ⊥) → getD s 0 0 ≡ 45 → numberOf s ≡ negative (digitsOf (take (length s - 1) (drop 1 s)))
 unfolding numberOf
-number-minus [] n e = absurd (n refl)
-number-minus (x ∷ xs) n e = rw (eq-eqb x 45 e, take-all (suc (length xs) - 1) xs (omega arith))
+minus [] n e = absurd (n refl)
+minus (x ∷ xs) n e = rw (eq-eqb x 45 e, take-all (suc (length xs) - 1) xs (omega arith))
 
-pub number-plain : (s : List ℕ) → (length s ≡ 0 → ⊥) → (getD s 0 0 ≡ 45 → ⊥) → numberOf s ≡ positive (digitsOf s)
+no-minus : (s : List ℕ) → (length s ≡ 0 → ⊥) → (getD s 0 0 ≡ 45 → ⊥) → numberOf s ≡ positive (digitsOf s)
 unfolding numberOf
-number-plain [] n e = absurd (n refl)
-number-plain (x ∷ xs) n e = rw (ne-eqb x 45 e)
+no-minus [] n e = absurd (n refl)
+no-minus (x ∷ xs) n e = rw (ne-eqb x 45 e)
+
+-- a field with a minus, and one without, by the digits that were read
+module _ (s : List ℕ) (n : length s ≡ 0 → ⊥) {r : Digits} where
+  pub minus-digits : {m : ℕ} {v : Number} → getD s 0 0 ≡ 45 → r ≡ digitsOf (take (length s - 1) (drop 1 s)) → r ≡ Is m → v ≡ negative (Is m) → v ≡ numberOf s
+  minus-digits e q p g = g ∙ ap negative (sym p ∙ q) ∙ sym (minus s n e)
+
+  pub minus-none : getD s 0 0 ≡ 45 → r ≡ digitsOf (take (length s - 1) (drop 1 s)) → r ≡ Not → Misspelt ≡ numberOf s
+  minus-none e q p = ap negative (sym p ∙ q) ∙ sym (minus s n e)
+
+  pub plain-digits : {m : ℕ} → (getD s 0 0 ≡ 45 → ⊥) → r ≡ digitsOf s → r ≡ Is m → Value (toZ w64 m) ≡ numberOf s
+  plain-digits {m = m} e q p = ap Value (toZ-pos w64 (digits-below s m q p)) ∙ ap positive (sym p ∙ q) ∙ sym (no-minus s n e)
+
+  pub plain-none : (getD s 0 0 ≡ 45 → ⊥) → r ≡ digitsOf s → r ≡ Not → Misspelt ≡ numberOf s
+  plain-none e q p = ap positive (sym p ∙ q) ∙ sym (no-minus s n e)
 
 pub negative-is : (n : ℕ) → (n ≡ 0 → ⊥) → Value (negℤ (pos n)) ≡ negative (Is n)
 negative-is zero h = absurd (h refl)

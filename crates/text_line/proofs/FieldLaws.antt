@@ -1,4 +1,8 @@
 -- Laws of reading a line's fields one after the other. Assumes nothing.
+use Rattle.text_fields.specs.declared.Number.{Number}
+use mir.Facts.{toZ-ofZ}
+use mir.Val.{SFits, toZ, ofZ}
+use mir.Syntax.{w64}
 use Prim.Native.Nat.{ℕ, suc, _+_, _-_, _≤_, _<_}
 use mathlib.Core.Bool.{Bool, true, _&&_, and-true, and-assoc}
 use mathlib.Core.List.{List, [], _∷_, map}
@@ -11,7 +15,7 @@ use lib.IntN.{ℤ}
 use Rattle.loops.specs.Lists.{allOf}
 use Rattle.text_fields.specs.Parts.{untilByte}
 use Rattle.text_fields.specs.Spelling.{numberOf}
-use Rattle.text_line.specs.Line.{isNumber, valueOf, spelled, fieldsOf}
+use Rattle.text_line.specs.Line.{isNumber, valueOf, spelled, fieldsOf, held}
 use Rattle.text_fields.proofs.PartLaws.{up-within, parts-last, parts-more, tail-is}
 
 -- where j fields of the line were read to the rows from base on, good says that they are spelled right, and rest is left of the line
@@ -33,15 +37,22 @@ module _ (rest : List ℕ) (f : List ℕ) (e : f ≡ untilByte 44 rest) where
   first-of-last : length rest ≤ length f → fieldsOf rest ≡ f ∷ []
   first-of-last h = rw e (parts-last 44 rest (omega (arith, up-within 44 rest, rw e at h)))
 
+-- one field more, f: what was read of it, n, is stored as v, and g says whether it and those before it are spelled right
 module _ (line : List ℕ) (rows₀ : List ℤ) (base : ℕ) (rows : List ℤ) (rest : List ℕ) (j : ℕ) (good : Bool) (r : FieldsRead line rows₀ base rows rest j good)
-    (f : List ℕ) (e : f ≡ untilByte 44 rest) where
-  pub fields-more : length f < length rest
-      → FieldsRead line rows₀ base (set rows (base + j) (valueOf f)) (take (length rest - (length f + 1)) (drop (length f + 1) rest)) (j + 1) (good && isNumber (numberOf f))
+    (f : List ℕ) (e : f ≡ untilByte 44 rest) {n : Number} {v : ℤ} {g : Bool} {m : List ℤ} (a : n ≡ numberOf f) (b : v ≡ held n) (k : SFits w64 v)
+    (d : g ≡ (good && isNumber n)) (s : m ≡ set rows (base + j) (toZ w64 (ofZ w64 v))) where
+  stored : m ≡ set rows (base + j) (valueOf f)
+  stored = rw (toZ-ofZ k, b, a) at s
+
+  said : g ≡ (good && isNumber (numberOf f))
+  said = rw a at d
+
+  pub fields-more : length f < length rest → FieldsRead line rows₀ base m (take (length rest - (length f + 1)) (drop (length f + 1) rest)) (j + 1) g
   unfolding spelled allOf
   fields-more h =
       let p = first-of-more rest f e h in
       let q : base + (j + 1) ≡ suc (base + j) = omega arith in
-      rw (tail-is (length f + 1) rest)
+      rw (stored, said, tail-is (length f + 1) rest)
       (record {
         spelling = and-assoc good (isNumber (numberOf f)) (spelled (fieldsOf (drop (length f + 1) rest))) ∙ (rw p at (r .spelling));
         stores = rw q (rw p at (r .stores));
@@ -50,9 +61,13 @@ module _ (line : List ℕ) (rows₀ : List ℤ) (base : ℕ) (rows : List ℤ) (
         long = length-set rows (base + j) (valueOf f) ∙ r .long;
       })
 
-  pub fields-last : length rest ≤ length f
-      → ((good && isNumber (numberOf f)) ≡ spelled (fieldsOf line)) × (j + 1 ≡ length (fieldsOf line)) × (set rows (base + j) (valueOf f) ≡ sets rows₀ base (map valueOf (fieldsOf line)))
-  unfolding spelled allOf
-  fields-last h =
-      let p = first-of-last rest f e h in
-      (ap (λ (b : Bool). good && b) (sym (and-true (isNumber (numberOf f)))) ∙ (rw p at (r .spelling)), omega (arith, ap length p, r .count), rw p at (r .stores))
+  module _ (h : length rest ≤ length f) where
+    pub last-spelled : g ≡ spelled (fieldsOf line)
+    unfolding spelled allOf
+    last-spelled = said ∙ ap (λ (b : Bool). good && b) (sym (and-true (isNumber (numberOf f)))) ∙ (rw (first-of-last rest f e h) at (r .spelling))
+
+    pub last-count : j + 1 ≡ length (fieldsOf line)
+    last-count = omega (arith, ap length (first-of-last rest f e h), r .count)
+
+    pub last-stored : m ≡ sets rows₀ base (map valueOf (fieldsOf line))
+    last-stored = stored ∙ (rw (first-of-last rest f e h) at (r .stores))

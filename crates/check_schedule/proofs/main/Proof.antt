@@ -1,6 +1,4 @@
-use mathlib.Core.Path.{sym}
-use native.Mathlib.Omega.{arith}
-use lib.Seq.{length-take-le}
+use Rattle.check_schedule.proofs.Printing.{read-within, read-first, printed-first}
 use borrow.Author.Needs.{needs}
 use Rattle.check_schedule.proofs.main.Statement.{statement}
 use Rattle.check_schedule.proofs.main.Tie as tie
@@ -42,10 +40,10 @@ longest-answer-requires : tie.Need-longest-answer-requires
 longest-answer-requires c κs = search needs
 
 array-share-prefix-text : tie.Need-array-share-prefix-text
-array-share-prefix-text c = let h = rw (c .before .before .input .given .1) at (c .before .before .before .before .before .read-input .ensures) in search needs
+array-share-prefix-text c = search (needs, read-within)
 
 slice-aggregate-print-text : tie.Need-slice-aggregate-print-text
-slice-aggregate-print-text c = let h = rw (c .before .before .before .input .given .1) at (c .before .before .before .before .before .before .read-input .ensures) in search needs
+slice-aggregate-print-text c = search (needs, read-first)
 
 slice-aggregate-print-text-2 : tie.Need-slice-aggregate-print-text-2
 slice-aggregate-print-text-2 c = search needs
@@ -60,7 +58,7 @@ array-share-prefix-out : tie.Need-array-share-prefix-out
 array-share-prefix-out c = search needs
 
 slice-aggregate-write-output-2 : tie.Need-slice-aggregate-write-output-2
-slice-aggregate-write-output-2 c = sym (length-take-le _ _ (omega (arith, (c .before .before .out2 .given), (c .before .before .before .print-text .ensures .0))))
+slice-aggregate-write-output-2 c = search (needs, printed-first)
 
 write-output-requires : tie.Need-write-output-requires
 write-output-requires c κs = search needs

@@ -1,9 +1,8 @@
-use mathlib.Core.Path.{sym}
 use borrow.Author.Needs.{needs}
 use contract.Lifetimes.{Lfts}
 use Rattle.refusals.specs.declared.Answer.{Answer}
 use Rattle.refusals.specs.declared.Answer.the-variants.{Accepted, Refused}
-use Rattle.check_schedule.proofs.Printing.{Bounded, checked-kept, small-numbers, sheet-printed}
+use Rattle.check_schedule.proofs.Printing.{Bounded, checked-kept, small-numbers, sheet-printed, sheet-within}
 use Rattle.check_schedule.proofs.print_sheet.Statement.{statement}
 use Rattle.check_schedule.proofs.print_sheet.Tie as tie
 use Rattle.check_schedule.proofs.print_sheet.Lts as lts
@@ -35,9 +34,7 @@ bounded κs (Accepted n) h = tt
 bounded κs (Refused number place) h = search needs
 
 returns : tie.Need-returns
-returns c =
-    sheet-printed _ _ (sym (c .before .before .before .before .before .before .before .before .before .numbers .ensures)) _ (c .before .before .before .before .before .before .before .before .before .before .before .pre) _ _ (checked-kept (c .before .before .before .before .before .kept .ensures) (c .before .before .before .before .before .before .before .check-schedule .ensures)) (small-numbers (c .before .before .before .before .before .kept .result) (c .before .before .before .before .before .kept .ok .0) ((c .before .before .before .before .before .kept .ok .1 .1)))
-    (bounded (c .before .before .before .before .before .before .before .check-schedule .lifetimes) (c .before .before .before .before .before .before .before .check-schedule .result) (c .before .before .before .before .before .before .before .check-schedule .ok)) (c .before .before .print-answer .ensures .0) (c .before .before .print-answer .ensures .1)
+returns c = (search (needs, sheet-within, checked-kept, small-numbers, bounded), search (needs, sheet-printed, checked-kept, small-numbers, bounded))
 
 pub print-sheet-spec : {M : Type 1} → statement M
 print-sheet-spec =

@@ -1,7 +1,4 @@
-use mathlib.Core.Path.{sym}
-use native.Mathlib.Omega.{arith}
-use lib.Seq.{length-take-le}
-use Rattle.check_schedule.proofs.Printing.{text-accepted, text-refused, few-rows}
+use Rattle.check_schedule.proofs.Printing.{text-accepted, text-refused, rows-fit, rows-within, rows-first, refused-within}
 use borrow.Author.Needs.{needs}
 use Rattle.check_schedule.proofs.print_text.Statement.{statement}
 use Rattle.check_schedule.proofs.print_text.Tie as tie
@@ -19,13 +16,13 @@ enum-known-read : tie.Need-enum-known-read
 enum-known-read c = search needs
 
 mul-end : tie.Need-mul-end
-mul-end c = record { fits = omega (arith, few-rows _ (c .before .before .before .before .before .before .numbers .result) (sym (c .before .before .before .before .before .before .numbers .ensures)) ((c .before .before .before .before .read-text .ensures .0)) (c .before .read .given .1)) }
+mul-end c = search (needs, rows-fit)
 
 array-share-prefix-rows : tie.Need-array-share-prefix-rows
-array-share-prefix-rows c = omega (arith, (c .before .before .before .rows2 .given), few-rows _ (c .before .before .before .before .before .before .numbers .result) (sym (c .before .before .before .before .before .before .numbers .ensures)) ((c .before .before .before .before .read-text .ensures .0)) (c .before .read .given .1))
+array-share-prefix-rows c = search (needs, rows-within)
 
 slice-aggregate-print-sheet : tie.Need-slice-aggregate-print-sheet
-slice-aggregate-print-sheet c = sym (length-take-le _ _ (omega (arith, (c .before .before .before .before .rows2 .given), few-rows _ (c .before .before .before .before .before .before .before .numbers .result) (sym (c .before .before .before .before .before .before .before .numbers .ensures)) ((c .before .before .before .before .before .read-text .ensures .0)) (c .before .before .read .given .1))))
+slice-aggregate-print-sheet c = search (needs, rows-first)
 
 print-sheet-requires : tie.Need-print-sheet-requires
 print-sheet-requires c κs = search needs
@@ -43,13 +40,13 @@ same-length : tie.Need-same-length
 same-length c = search needs
 
 returns : tie.Need-returns
-returns c = ((c .before .before .print-sheet .ensures .0), text-accepted _ (c .before .before .before .before .before .before .before .before .before .before .before .numbers .result) (sym (c .before .before .before .before .before .before .before .before .before .before .before .numbers .ensures)) ((c .before .before .before .before .before .before .before .before .before .read-text .ensures .0)) _ ((c .before .before .before .before .before .before .before .before .before .read-text .ensures .1)) (c .before .before .before .before .before .before .read .given .1) ((c .before .before .print-sheet .ensures .1)))
+returns c = (search needs, search (needs, text-accepted))
 
 same-length-2 : tie.Need-same-length-2
 same-length-2 c = search needs
 
 returns-2 : tie.Need-returns-2
-returns-2 c = text-refused _ (c .before .before .before .before .before .before .before .before .before .before .before .numbers .result) (sym (c .before .before .before .before .before .before .before .before .before .before .before .numbers .ensures)) ((c .before .before .before .before .before .before .before .before .before .read-text .ensures .0)) _ (c .before .before .before .before .before .before .before .before .before .before .before .before .before .before .pre) (c .before .before .before .before .before .before .read2 .given .1) (c .before .before .before .before .before .known-told2 .given .0 .1) (c .before .before .before .before .before .known-told2 .given .1 .0 .1) ((c .before .before .print-answer .ensures .0)) ((c .before .before .print-answer .ensures .1))
+returns-2 c = (search (needs, refused-within), search (needs, text-refused))
 
 pub print-text-spec : {M : Type 1} → statement M
 print-text-spec =

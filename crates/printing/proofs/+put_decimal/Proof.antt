@@ -1,3 +1,4 @@
+use borrow.Author.Needs.{needs}
 use mathlib.Core.Path.{_∙_}
 use native.Mathlib.Omega.{arith}
 use Rattle.loops.proofs.StoreLaws.{wrote-within}
@@ -32,7 +33,7 @@ put-decimal-digit-requires : (t : ℕ) → put-decimal-lts.Need-digit-requires (
   put-decimal-below t,
   put-decimal.Post,
 ) (put-decimal-at t) put-decimal.Post
-put-decimal-digit-requires t c κs = c .before .if1 .taken
+put-decimal-digit-requires t c κs = search needs
 
 put-decimal-put-requires : (t : ℕ) → put-decimal-lts.Need-put-requires (
   digit-reads.Asked,
@@ -42,7 +43,7 @@ put-decimal-put-requires : (t : ℕ) → put-decimal-lts.Need-put-requires (
   put-decimal-below t,
   put-decimal.Post,
 ) (put-decimal-at t) put-decimal.Post
-put-decimal-put-requires t c κs = c .before .before .before .before .pre .1
+put-decimal-put-requires t c κs = search needs
 
 put-decimal-same-length : (t : ℕ) → put-decimal-lts.Need-same-length (
   digit-reads.Asked,
@@ -52,7 +53,7 @@ put-decimal-same-length : (t : ℕ) → put-decimal-lts.Need-same-length (
   put-decimal-below t,
   put-decimal.Post,
 ) (put-decimal-at t) put-decimal.Post
-put-decimal-same-length t c = c .before .before .put .kept .0
+put-decimal-same-length t c = search needs
 
 put-decimal-returns : (t : ℕ) → put-decimal-lts.Need-returns (
   digit-reads.Asked,
@@ -62,7 +63,7 @@ put-decimal-returns : (t : ℕ) → put-decimal-lts.Need-returns (
   put-decimal-below t,
   put-decimal.Post,
 ) (put-decimal-at t) put-decimal.Post
-put-decimal-returns t c = wrote-last _ _ (c .before .before .before .before .before .if1 .taken) (c .before .before .before .digit .ensures) (c .before .before .put .ensures)
+put-decimal-returns t c = search (needs, wrote-last)
 
 put-decimal-put-decimal-requires : (t : ℕ) → put-decimal-lts.Need-put-decimal-requires (
   digit-reads.Asked,
@@ -72,7 +73,7 @@ put-decimal-put-decimal-requires : (t : ℕ) → put-decimal-lts.Need-put-decima
   put-decimal-below t,
   put-decimal.Post,
 ) (put-decimal-at t) put-decimal.Post
-put-decimal-put-decimal-requires t c κs = (omega (arith, c .before .before .before .pre .0, c .before .if1 .left), c .before .before .before .pre .1)
+put-decimal-put-decimal-requires t c κs = (search needs, search needs)
 
 put-decimal-digit-requires-2 : (t : ℕ) → put-decimal-lts.Need-digit-requires-2 (
   digit-reads.Asked,
@@ -92,7 +93,7 @@ put-decimal-put-requires-2 : (t : ℕ) → put-decimal-lts.Need-put-requires-2 (
   put-decimal-below t,
   put-decimal.Post,
 ) (put-decimal-at t) put-decimal.Post
-put-decimal-put-requires-2 t c κs = wrote-within _ (c .before .before .before .before .put-decimal .ensures)
+put-decimal-put-requires-2 t c κs = search (needs, wrote-within)
 
 put-decimal-same-length-2 : (t : ℕ) → put-decimal-lts.Need-same-length-2 (
   digit-reads.Asked,
@@ -102,7 +103,7 @@ put-decimal-same-length-2 : (t : ℕ) → put-decimal-lts.Need-same-length-2 (
   put-decimal-below t,
   put-decimal.Post,
 ) (put-decimal-at t) put-decimal.Post
-put-decimal-same-length-2 t c = c .before .before .put2 .kept .0 ∙ c .before .before .before .before .before .before .before .put-decimal .kept .0
+put-decimal-same-length-2 t c = search (needs, _∙_)
 
 put-decimal-returns-2 : (t : ℕ) → put-decimal-lts.Need-returns-2 (
   digit-reads.Asked,
@@ -112,7 +113,7 @@ put-decimal-returns-2 : (t : ℕ) → put-decimal-lts.Need-returns-2 (
   put-decimal-below t,
   put-decimal.Post,
 ) (put-decimal-at t) put-decimal.Post
-put-decimal-returns-2 t c = wrote-digit _ _ (c .before .before .before .before .before .before .before .before .before .if1 .left) (c .before .before .before .digit2 .ensures) (c .before .before .before .before .before .before .before .put-decimal .ensures) (c .before .before .put2 .ensures)
+put-decimal-returns-2 t c = search (needs, wrote-digit)
 
 pub +put-decimal-spec : {M : Type 1} → statement M
 +put-decimal-spec = close μ-put-decimal λ t. put-decimal-lts.spec (

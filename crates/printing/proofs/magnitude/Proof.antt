@@ -1,26 +1,25 @@
-use Rattle.loops.proofs.SignLaws.{cast}
-use Rattle.printing.proofs.SignLaws.{up-fits, back-fits, back-cast, back-more, back-magnitude}
+use Rattle.printing.proofs.SignLaws.{up-fits, back-fits, back-more, back-magnitude, cast-sign, cast-size, back-sign, back-size}
 use borrow.Author.Needs.{needs}
 use Rattle.printing.proofs.magnitude.Statement.{statement}
 use Rattle.printing.proofs.magnitude.Tie as tie
 
 add-result : tie.Need-add-result
-add-result c = up-fits _ (c .before .fits .z) (c .if1 .taken)
+add-result c = search (needs, up-fits)
 
 sub-result : tie.Need-sub-result
-sub-result c = back-fits _ (c .before .fits .z) (c .if1 .taken)
+sub-result c = search (needs, back-fits)
 
 cast-result : tie.Need-cast-result
-cast-result c = back-cast _ (c .before .fits .z) (c .if1 .taken)
+cast-result c = (search back-sign, search back-size)
 
 add-result-2 : tie.Need-add-result-2
-add-result-2 c = back-more _ (c .before .fits .z) (c .if1 .taken)
+add-result-2 c = search (needs, back-more)
 
 returns : tie.Need-returns
-returns c = back-magnitude _ (c .before .fits .z) (c .if1 .taken)
+returns c = search (needs, back-magnitude)
 
 cast-result-2 : tie.Need-cast-result-2
-cast-result-2 c = cast _ (c .before .fits .z) (c .if1 .left)
+cast-result-2 c = (search cast-sign, search cast-size)
 
 returns-2 : tie.Need-returns-2
 returns-2 c = search needs

@@ -1,9 +1,4 @@
-use mathlib.Core.Path.{sym, ap}
-use native.Mathlib.Omega.{arith}
-use denote.Ref.{now}
-use Rattle.refusals.specs.declared.Answer.{Answer}
-use Rattle.printing.specs.Printed.{printed}
-use Rattle.loops.proofs.StoreLaws.{wrote-as}
+use Rattle.printing.proofs.PutLaws.{printed-end, printed-there, as-accepted, as-refused}
 use borrow.Author.Needs.{needs}
 use Rattle.printing.proofs.print_answer.Statement.{statement}
 use Rattle.printing.proofs.print_answer.Tie as tie
@@ -24,13 +19,13 @@ same-length : tie.Need-same-length
 same-length c = search needs
 
 returns : tie.Need-returns
-returns c = let e = wrote-as (ap (λ (a : Answer). printed a (now (c .before .before .before .before .before .before .before .before .args .found))) (sym ((c .before .before .before .before .before .answer .given) .1))) (c .before .before .put-accepted .ensures) in (omega (arith, e .place), e .buffer)
+returns c = (search (needs, printed-end, as-accepted), search (needs, printed-there, as-accepted))
 
 same-length-2 : tie.Need-same-length-2
 same-length-2 c = search needs
 
 returns-2 : tie.Need-returns-2
-returns-2 c = let e = wrote-as (ap (λ (a : Answer). printed a (now (c .before .before .before .before .before .before .before .before .args .found))) (sym ((c .before .before .before .before .before .answer2 .given) .1))) (c .before .before .put-refused .ensures) in (omega (arith, e .place), e .buffer)
+returns-2 c = (search (needs, printed-end, as-refused), search (needs, printed-there, as-refused))
 
 pub print-answer-spec : {M : Type 1} → statement M
 print-answer-spec =

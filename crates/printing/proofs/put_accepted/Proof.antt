@@ -1,5 +1,4 @@
-use Rattle.printing.specs.Printed.{printedAccepted}
-use Rattle.loops.proofs.StoreLaws.{wrote-then}
+use Rattle.printing.proofs.PutLaws.{accepted-put}
 use borrow.Author.Needs.{needs}
 use Rattle.printing.proofs.put_accepted.Statement.{statement}
 use Rattle.printing.proofs.put_accepted.Tie as tie
@@ -23,8 +22,7 @@ same-length : tie.Need-same-length
 same-length c = search needs
 
 returns : tie.Need-returns
-unfolding printedAccepted
-returns c = wrote-then _ _ (wrote-then _ _ (c .before .before .before .before .before .before .before .before .before .before .before .before .before .before .put-bytes .ensures) (c .before .before .before .before .before .before .before .before .before .before .put-decimal .ensures)) (wrote-then _ _ (c .before .before .before .before .before .before .put .ensures) (c .before .before .put-lines .ensures))
+returns c = search (needs, accepted-put)
 
 pub put-accepted-spec : {M : Type 1} → statement M
 put-accepted-spec =

@@ -14,13 +14,13 @@ abbrev μ-loop : tie.MeasureT-loop
 μ-loop out₀ from s at₀ i₀ out at i = length s - i
 
 loop-holds : tie.Need-loop-holds Inv-loop μ-loop
-loop-holds c = wrote-none _ _ (c .before .before .pre)
+loop-holds c = search (needs, wrote-none)
 
 shared-slice-read-put : tie.Need-shared-slice-read-put Inv-loop μ-loop
 shared-slice-read-put c = search needs
 
 put-requires : tie.Need-put-requires Inv-loop μ-loop
-put-requires c κs = wrote-within _ (c .before .before .before .loop .inv)
+put-requires c κs = search (needs, wrote-within)
 
 add-i : tie.Need-add-i Inv-loop μ-loop
 add-i c = search needs
@@ -29,13 +29,13 @@ loop-less : tie.Need-loop-less Inv-loop μ-loop
 loop-less c = search needs
 
 loop-again : tie.Need-loop-again Inv-loop μ-loop
-loop-again c = wrote-next _ _ (c .before .before .before .before .before .loop-test .taken) (c .before .before .before .before .before .before .loop .inv) (c .before .before .put .ensures)
+loop-again c = search (needs, wrote-next)
 
 same-length : tie.Need-same-length Inv-loop μ-loop
-same-length c = wrote-long (c .before .loop .inv)
+same-length c = search (needs, wrote-long)
 
 returns : tie.Need-returns Inv-loop μ-loop
-returns c = wrote-all _ _ (c .loop-test .left) (c .before .loop .inv)
+returns c = search (needs, wrote-all)
 
 pub put-bytes-spec : {M : Type 1} → statement M
 put-bytes-spec =

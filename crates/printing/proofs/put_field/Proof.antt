@@ -1,9 +1,5 @@
-use mathlib.Core.Path.{refl}
-use borrow.Author.Needs.{needs, sfits-of}
-use borrow.Author.Tests.{lt-ltb, le-ltb}
-use Rattle.printing.specs.NumberLines.{field}
-use Rattle.loops.proofs.StoreLaws.{wrote-then}
-use Rattle.printing.proofs.PutLaws.{wrote-number}
+use borrow.Author.Needs.{needs}
+use Rattle.printing.proofs.PutLaws.{field-more, field-last}
 use Rattle.printing.proofs.put_field.Statement.{statement}
 use Rattle.printing.proofs.put_field.Tie as tie
 
@@ -26,8 +22,7 @@ same-length : tie.Need-same-length
 same-length c = search needs
 
 returns : tie.Need-returns
-unfolding field
-returns c = rw (lt-ltb _ _ (c .before .before .before .before .if1 .taken)) (wrote-then _ _ (wrote-number (sfits-of (c .before .before .before .before .before .before .before .before .put-signed-arg2 .given)) refl (c .before .before .before .before .before .before .before .put-signed .ensures)) (c .before .before .put .ensures))
+returns c = search (needs, field-more)
 
 put-requires-2 : tie.Need-put-requires-2
 put-requires-2 c κs = search needs
@@ -36,8 +31,7 @@ same-length-2 : tie.Need-same-length-2
 same-length-2 c = search needs
 
 returns-2 : tie.Need-returns-2
-unfolding field
-returns-2 c = rw (le-ltb _ _ (c .before .before .before .before .if1 .left)) (wrote-then _ _ (wrote-number (sfits-of (c .before .before .before .before .before .before .before .before .put-signed-arg2 .given)) refl (c .before .before .before .before .before .before .before .put-signed .ensures)) (c .before .before .put2 .ensures))
+returns-2 c = search (needs, field-last)
 
 pub put-field-spec : {M : Type 1} → statement M
 put-field-spec =

@@ -1,5 +1,4 @@
 use Prim.Native.Nat.{_-_, _≤_}
-use native.Mathlib.Omega.{arith}
 use lib.ListN.{length}
 use borrow.Author.Needs.{needs}
 use Rattle.loops.specs.Range.{collect}
@@ -18,10 +17,10 @@ abbrev μ-loop : tie.MeasureT-loop
 
 loop-holds : tie.Need-loop-holds Inv-loop μ-loop
 unfolding collect
-loop-holds c = (wrote-none _ _ (c .before .pre), search needs)
+loop-holds c = search (needs, wrote-none)
 
 put-field-requires : tie.Need-put-field-requires Inv-loop μ-loop
-put-field-requires c κs = (wrote-within _ ((c .before .before .loop .inv .0)), search needs)
+put-field-requires c κs = search (needs, wrote-within)
 
 add-c : tie.Need-add-c Inv-loop μ-loop
 add-c c = search needs
@@ -30,14 +29,14 @@ loop-less : tie.Need-loop-less Inv-loop μ-loop
 loop-less c = search needs
 
 loop-again : tie.Need-loop-again Inv-loop μ-loop
-loop-again c = (wrote-line _ _ (c .before .before .before .before .before .loop .inv .0) (c .before .before .put-field .ensures), search needs)
+loop-again c = search (needs, wrote-line)
 
 same-length : tie.Need-same-length Inv-loop μ-loop
-same-length c = wrote-long (c .before .loop .inv .0)
+same-length c = search (needs, wrote-long)
 
 returns : tie.Need-returns Inv-loop μ-loop
 unfolding numberLine
-returns c = wrote-upto _ (omega arith) (c .before .loop .inv .0)
+returns c = search (needs, wrote-upto)
 
 pub put-line-spec : {M : Type 1} → statement M
 put-line-spec =

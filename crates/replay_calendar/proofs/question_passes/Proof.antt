@@ -1,5 +1,4 @@
 use lib.Seq.{length-take-le}
-use native.Mathlib.Omega.{arith}
 use mathlib.Core.Path.{sym}
 use borrow.Author.Needs.{needs}
 use Rattle.replay_calendar.proofs.question_passes.Statement.{statement}
@@ -27,13 +26,13 @@ array-share-prefix-w : tie.Need-array-share-prefix-w
 array-share-prefix-w c = search needs
 
 slice-aggregate-is-answer : tie.Need-slice-aggregate-is-answer
-slice-aggregate-is-answer c = sym (length-take-le _ _ (omega (arith, (c .before .before .before .before .before .before .before .before .before .before .instants .kept) .1 .0)))
+slice-aggregate-is-answer c = sym (length-take-le _ _ (search needs))
 
 array-share-prefix-cs : tie.Need-array-share-prefix-cs
 array-share-prefix-cs c = search needs
 
 slice-aggregate-is-answer-2 : tie.Need-slice-aggregate-is-answer-2
-slice-aggregate-is-answer-2 c = sym (length-take-le _ _ (omega (arith, (c .before .before .before .before .before .before .places .kept) .1 .1 .0)))
+slice-aggregate-is-answer-2 c = sym (length-take-le _ _ (search needs))
 
 is-answer-requires : tie.Need-is-answer-requires
 is-answer-requires c κs = search needs

@@ -1,7 +1,6 @@
 use borrow.Author.Needs.{needs}
 use lib.ListN.{length}
 use Prim.Native.Nat.{_-_}
-use native.Mathlib.Omega.{arith}
 use mathlib.Core.Path.{_≡_, refl, _∙_}
 use Rattle.replay_derived_times.proofs.derived_all.Statement.{statement}
 use Rattle.replay_derived_times.proofs.derived_all.Tie as tie
@@ -22,7 +21,7 @@ loop-holds : tie.Need-loop-holds Inv-loop μ-loop
 loop-holds c = refl
 
 derived-at-requires : tie.Need-derived-at-requires Inv-loop μ-loop
-derived-at-requires c κs = ((c .before .before .before .before .before .before .pre .0), (c .before .before .before .before .before .before .pre .1), (c .before .before .before .before .before .before .pre .2), (c .before .before .before .before .before .before .pre .3), (c .before .before .before .before .timings-of .ensures), omega (arith, (c .before .before .loop-test .taken), (c .before .before .before .before .before .row-count .ensures)))
+derived-at-requires c κs = (search needs, search needs, search needs, search needs, search needs, search needs)
 
 add-k : tie.Need-add-k Inv-loop μ-loop
 add-k c = search needs
@@ -31,10 +30,10 @@ loop-less : tie.Need-loop-less Inv-loop μ-loop
 loop-less c = search needs
 
 loop-again : tie.Need-loop-again Inv-loop μ-loop
-loop-again c = ((c .before .derived-at .kept .1 .1 .1 .1 .1 .1 .0)) ∙ (c .before .before .before .before .before .loop .inv)
+loop-again c = search (needs, _∙_)
 
 same-length : tie.Need-same-length Inv-loop μ-loop
-same-length c = (c .before .loop .inv)
+same-length c = search needs
 
 returns : tie.Need-returns Inv-loop μ-loop
 returns c = search needs

@@ -1,15 +1,27 @@
-use mathlib.Core.Path.{sym, ap, _∙_}
+use Rattle.sheet.specs.declared.Found.the-variants.{At}
+use Rattle.sheet.specs.declared.Found.{Found}
+use Prim.Native.Nat.{ℕ}
+use mathlib.Core.Option.{Option, some}
+use mathlib.Core.Bool.{Bool}
+use mathlib.Core.Path.{sym, ap, _∙_, _≡_}
 use Rattle.sheet.specs.inner.Found.{foundOf}
 use Rattle.owners.proofs.Links.{books}
 use borrow.Author.Needs.{needs}
 use Rattle.replay_derived_times.proofs.derived_at.Statement.{statement}
 use Rattle.replay_derived_times.proofs.derived_at.Tie as tie
 
+-- what a call gave, r, tells of what it is
+told : {r b v : Bool} → r ≡ b → r ≡ v → b ≡ v
+told e h = sym e ∙ h
+
+told-found : {p : Option ℕ} {k : ℕ} (r : Found) → foundOf r ≡ p → r ≡ At k → p ≡ some k
+told-found r e h = sym e ∙ ap foundOf h
+
 is-at-requires : tie.Need-is-at-requires
 is-at-requires c κs = search needs
 
 activity-of-requires : tie.Need-activity-of-requires
-activity-of-requires c κs = (((c .before .before .pre .1)), ((c .before .before .pre .5)), books _ _ (sym (c .before .is-at .ensures) ∙ (c .if1 .taken)))
+activity-of-requires c κs = search (needs, books, told)
 
 enum-known-o : tie.Need-enum-known-o
 enum-known-o c = search needs
@@ -21,7 +33,7 @@ returns : tie.Need-returns
 returns c = search needs
 
 duration-on-requires : tie.Need-duration-on-requires
-duration-on-requires c κs = (((c .before .before .before .before .before .before .before .pre .0)), ((c .before .before .before .before .before .before .before .pre .2)), ((c .before .before .before .before .before .before .before .pre .3)), ((c .before .before .before .before .before .before .before .pre .4)), ((c .before .before .before .before .before .before .before .pre .5)), (sym (c .before .before .before .before .before .before .is-at .ensures) ∙ (c .before .before .before .before .before .if1 .taken)), (sym (c .before .before .before .before .activity-of .ensures) ∙ ap foundOf ((c .before .before .o .given .1))))
+duration-on-requires c κs = search (needs, told, told-found)
 
 add-derived-requires : tie.Need-add-derived-requires
 add-derived-requires c κs = search needs

@@ -1,12 +1,11 @@
+use Rattle.overlap.specs.Bounds.{overlapOf}
 use mathlib.Core.Path.{_≡_, sym, subst}
 use mathlib.Core.Bool.{false}
-use Prim.Native.Nat.{_≤_}
+use Prim.Native.Nat.{_≤_, ℕ}
 use native.Mathlib.Omega.{arith}
 use lib.Dec.{T}
 use lib.IntN.{ℤ, pos, negsuc, natAbs}
 use lib.Signed.{ltZ}
-use mir.Syntax.{w64}
-use mir.Val.{ofZ, toZ}
 use borrow.Author.Tests.{ltb-false}
 use Rattle.overlap.specs.inner.Shares.{isShare}
 use Rattle.overlap.specs.declared.Overlap.{Overlap}
@@ -18,6 +17,14 @@ use Rattle.replay_derived_times.proofs.overlap_is.Tie as tie
 lag-most : (z : ℤ) → ltZ z (negsuc 3999999999999) ≡ false → ltZ (pos 4000000000000) z ≡ false → natAbs z ≤ 4000000000000
 lag-most (pos n) e f = ltb-false 4000000000000 n f
 lag-most (negsuc n) e f = omega (arith, ltb-false 3999999999999 n e)
+
+-- an overlap as it was made: its share is one, and its lag lies in range
+made-share : {o : Overlap} (bits : ℕ) (lag : ℤ) → o ≡ overlapOf bits lag → bits ≤ 4607182418800017408 → T (isShare (o .«start_after»))
+made-share bits lag e h = subst (λ (o : Overlap). T (isShare (o .«start_after»))) (sym e) (bits-share bits h)
+
+made-lag : {o : Overlap} (bits : ℕ) (z : ℤ) → o ≡ overlapOf bits z → ltZ z (negsuc 3999999999999) ≡ false → ltZ (pos 4000000000000) z ≡ false
+    → natAbs (o .«finish_after_ms») ≤ 4000000000000
+made-lag bits z e g h = subst (λ (o : Overlap). natAbs (o .«finish_after_ms») ≤ 4000000000000) (sym e) (lag-most z g h)
 
 returns : tie.Need-returns
 returns c = search needs
@@ -38,15 +45,13 @@ new-requires : tie.Need-new-requires
 new-requires c κs = search needs
 
 earliest-start-requires : tie.Need-earliest-start-requires
-earliest-start-requires c κs =
-    (subst (λ (o : Overlap). T (isShare (o .«start_after»))) (sym ((c .new .ensures))) (bits-share _ ((c .before .before .before .before .before .if1 .left))), (c .before .before .if4 .left), (c .before .if5 .left))
+earliest-start-requires c κs = search (needs, made-share)
 
 signed-requires : tie.Need-signed-requires
 signed-requires c κs = search needs
 
 earliest-end-requires : tie.Need-earliest-end-requires
-earliest-end-requires c κs =
-    ((c .before .before .before .before .if5 .left), subst (λ (o : Overlap). natAbs (o .«finish_after_ms») ≤ 4000000000000) (sym ((c .before .before .before .new .ensures))) (lag-most (toZ w64 (ofZ w64 (c .before .before .before .before .before .before .before .before .before .args .lag))) ((c .before .before .before .before .before .before .before .if2 .left)) ((c .before .before .before .before .before .before .if3 .left))))
+earliest-end-requires c κs = search (needs, made-lag)
 
 returns-6 : tie.Need-returns-6
 returns-6 c = search needs

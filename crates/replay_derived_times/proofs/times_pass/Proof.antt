@@ -1,10 +1,40 @@
-use mathlib.Core.Path.{sym, ap, _∙_}
+use Rattle.validation.specs.inner.Answer.{Indexing}
+use Rattle.sheet.specs.inner.Accepted.{Accepted}
+use Rattle.refusals.specs.declared.Verdict.the-variants.{Fine}
+use Rattle.refusals.specs.declared.Verdict.{Verdict}
+use Rattle.sheet.specs.Refusals.{refusalOf}
+use Rattle.owners.specs.inner.Owners.{Linked, Owned}
+use Rattle.sheet.specs.inner.Index.{Kinds}
+use lib.IntN.{ℤ}
+use Prim.Native.Nat.{ℕ}
+use mathlib.Core.Option.{none}
+use mathlib.Core.List.{List}
+use mathlib.Core.Path.{sym, ap, _∙_, _≡_}
 use Rattle.refusals.specs.Refusals.{verdictOf}
 use Rattle.validation.proofs.Order.{tables-of}
 use Rattle.model.proofs.Accepting.{accepted}
 use borrow.Author.Needs.{needs}
 use Rattle.replay_derived_times.proofs.times_pass.Statement.{statement}
 use Rattle.replay_derived_times.proofs.times_pass.Tie as tie
+
+-- an accepted sheet's tables, as its index gives them
+module _ {rows : List ℤ} {k₀ l₀ o₀ k l o : List ℕ} {v : Verdict} (i : Indexing rows k₀ l₀ o₀ v k l o) (e : v ≡ Fine) where
+  fine : refusalOf rows ≡ none
+  fine = sym (i .verdict) ∙ ap verdictOf e
+
+  accepted-of : Accepted rows
+  accepted-of = accepted rows fine
+
+  kinds-of : Kinds rows k
+  kinds-of = tables-of rows i fine .kinds
+
+  links-of : Linked rows l
+  links-of = tables-of rows i fine .links
+
+  owned-of : Owned rows o
+  owned-of = tables-of rows i fine .owned
+
+ruleset indexed = (needs, accepted-of, kinds-of, links-of, owned-of)
 
 index-requires : tie.Need-index-requires
 index-requires c κs = search needs
@@ -22,16 +52,16 @@ sevens-requires : tie.Need-sevens-requires
 sevens-requires c κs = search needs
 
 held-of-requires : tie.Need-held-of-requires
-held-of-requires c κs = let fine = sym (c .before .before .before .before .before .before .index .ensures .verdict) ∙ ap verdictOf (c .before .before .before .before .enum-told .given .1) in let t = tables-of _ (c .before .before .before .before .before .before .index .ensures) fine in (accepted _ fine, t .kinds, t .links, t .owned)
+held-of-requires c κs = search indexed
 
 slice-aggregate-derived-all : tie.Need-slice-aggregate-derived-all
 slice-aggregate-derived-all c = search needs
 
 derived-all-requires : tie.Need-derived-all-requires
-derived-all-requires c κs = let fine = sym (c .before .before .before .before .before .before .before .before .before .before .before .index .ensures .verdict) ∙ ap verdictOf (c .before .before .before .before .before .before .before .before .before .enum-told .given .1) in let t = tables-of _ (c .before .before .before .before .before .before .before .before .before .before .before .index .ensures) fine in (accepted _ fine, t .links, t .owned, (c .before .before .before .before .held-of .ensures))
+derived-all-requires c κs = (search indexed, search indexed, search indexed, search needs)
 
 needs-of-requires : tie.Need-needs-of-requires
-needs-of-requires c κs = let fine = sym (c .before .before .before .before .before .before .before .before .before .before .before .before .before .before .before .before .index .ensures .verdict) ∙ ap verdictOf (c .before .before .before .before .before .before .before .before .before .before .before .before .before .before .enum-told .given .1) in let t = tables-of _ (c .before .before .before .before .before .before .before .before .before .before .before .before .before .before .before .before .index .ensures) fine in (accepted _ fine, t .links, t .owned, (c .before .before .before .before .before .before .before .before .before .held-of .ensures))
+needs-of-requires c κs = (search indexed, search indexed, search indexed, search needs)
 
 refused-requires : tie.Need-refused-requires
 refused-requires c κs = search needs

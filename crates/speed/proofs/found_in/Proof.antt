@@ -1,5 +1,4 @@
 use mathlib.Core.Path.{sym}
-use native.Mathlib.Omega.{arith}
 use lib.Seq.{length-take-le}
 use borrow.Author.Needs.{needs}
 use Rattle.speed.proofs.found_in.Statement.{statement}
@@ -24,7 +23,7 @@ array-share-prefix-rows : tie.Need-array-share-prefix-rows
 array-share-prefix-rows c = search needs
 
 slice-aggregate-found-of : tie.Need-slice-aggregate-found-of
-slice-aggregate-found-of c = sym (length-take-le _ _ (omega (arith, (c .before .before .before .before .before .before .read-text .kept) .1 .0, (c .before .before .before .before .before .before .before .before .no-rows .ensures), (c .before .if1 .taken))))
+slice-aggregate-found-of c = sym (length-take-le _ _ (search needs))
 
 found-of-requires : tie.Need-found-of-requires
 found-of-requires c κs = search needs

@@ -16,7 +16,7 @@ returns : tie.Need-returns
 returns c = search needs
 
 timed-requires : tie.Need-timed-requires
-timed-requires c κs = indexed-of _ (c .before .before .before .before .before .index .ensures) (c .before .before .before .enum-told .given .1)
+timed-requires c κs = search (needs, indexed-of)
 
 returns-2 : tie.Need-returns-2
 returns-2 c = search needs

@@ -62,10 +62,10 @@ loop-less : tie.Need-loop-less Inv-loop μ-loop
 loop-less c = omega arith
 
 loop-again : tie.Need-loop-again Inv-loop μ-loop
-loop-again c = (omega arith, simp length-set ((c .before .before .before .loop .inv .1)))
+loop-again c = (search needs, search needs)
 
 same-length : tie.Need-same-length Inv-loop μ-loop
-same-length c = (c .before .loop .inv .1)
+same-length c = search needs
 
 returns : tie.Need-returns Inv-loop μ-loop
 returns c = search needs

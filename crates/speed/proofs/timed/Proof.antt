@@ -6,10 +6,10 @@ use Rattle.speed.proofs.timed.Statement.{statement}
 use Rattle.speed.proofs.timed.Tie as tie
 
 held-of-requires : tie.Need-held-of-requires
-held-of-requires c κs = (accepted _ (c .pre .accepted), (c .pre .by-kind), (c .pre .linked), (c .pre .by-owner))
+held-of-requires c κs = search (needs, accepted)
 
 needs-of-requires : tie.Need-needs-of-requires
-needs-of-requires c κs = (accepted _ ((c .before .before .pre .accepted)), ((c .before .before .pre .linked)), ((c .before .before .pre .by-owner)), ((c .before .held-of .ensures)))
+needs-of-requires c κs = search (needs, accepted)
 
 refused-requires : tie.Need-refused-requires
 refused-requires c κs = search needs
@@ -30,7 +30,7 @@ slice-aggregate-repeated : tie.Need-slice-aggregate-repeated
 slice-aggregate-repeated c = search needs
 
 repeated-requires : tie.Need-repeated-requires
-repeated-requires c κs = ((c .before .before .before .before .before .before .before .before .before .before .before .pre), ((c .before .before .before .before .before .before .before .before .before .before .held-of .ensures)), needed-of _ _ ((c .before .before .before .before .before .before .before .before .needs-of .ensures)) ((c .before .before .before .before .before .before .refused .ensures)) ((c .before .before .before .before .enum-told .given) .1))
+repeated-requires c κs = search (needs, needed-of)
 
 returns-2 : tie.Need-returns-2
 returns-2 c = search needs

@@ -1,4 +1,4 @@
-use Rattle.stored_numbers.proofs.PutLaws.{told-all}
+use Rattle.stored_numbers.proofs.PutLaws.{told-all, all-put}
 use borrow.Author.Needs.{needs}
 use Rattle.stored_bytes.proofs.gather_bytes.Statement.{statement}
 use Rattle.stored_bytes.proofs.gather_bytes.Tie as tie
@@ -13,7 +13,7 @@ same-length : tie.Need-same-length
 same-length c = search needs
 
 returns : tie.Need-returns
-returns c = (told-all _ (c .before .before .before .put-texts .ensures) (c .told .ensures), (c .before .before .before .put-texts .ensures) .buffer)
+returns c = (search (needs, told-all), search (needs, all-put))
 
 pub gather-bytes-spec : {M : Type 1} → statement M
 gather-bytes-spec = tie.close (tie.spec put-texts-requires told-requires same-length returns)

@@ -16,7 +16,7 @@ abbrev μ-loop : tie.MeasureT-loop
 μ-loop out₀ from s at₀ i₀ out at i = length s - i
 
 loop-holds : tie.Need-loop-holds Inv-loop μ-loop
-loop-holds c = yet-all _ _ _ (c .before .before .pre)
+loop-holds c = search (needs, yet-all)
 
 shared-slice-read-meant-by : tie.Need-shared-slice-read-meant-by Inv-loop μ-loop
 shared-slice-read-meant-by c = search needs
@@ -25,7 +25,7 @@ meant-by-requires : tie.Need-meant-by-requires Inv-loop μ-loop
 meant-by-requires c κs = search needs
 
 put-byte-requires : tie.Need-put-byte-requires Inv-loop μ-loop
-put-byte-requires c κs = (c .before .before .before .before .loop .inv) .within
+put-byte-requires c κs = search needs
 
 add-i : tie.Need-add-i Inv-loop μ-loop
 add-i c = search needs
@@ -34,13 +34,13 @@ loop-less : tie.Need-loop-less Inv-loop μ-loop
 loop-less c = search needs
 
 loop-again : tie.Need-loop-again Inv-loop μ-loop
-loop-again c = bytes-less _ _ _ (c .before .before .before .before .before .before .loop-test .taken) (c .before .before .before .before .before .before .before .loop .inv) (c .before .before .before .meant-by .ensures) (c .before .before .put-byte .ensures)
+loop-again c = search (needs, bytes-less)
 
 same-length : tie.Need-same-length Inv-loop μ-loop
-same-length c = (c .before .loop .inv) .long
+same-length c = search needs
 
 returns : tie.Need-returns Inv-loop μ-loop
-returns c = bytes-none _ _ (c .loop-test .left) (c .before .loop .inv)
+returns c = search (needs, bytes-none)
 
 pub put-bytes-spec : {M : Type 1} → statement M
 put-bytes-spec =

@@ -14,10 +14,10 @@ abbrev μ-loop : tie.MeasureT-loop
 μ-loop out₀ from n s at₀ left₀ out at left = left
 
 loop-holds : tie.Need-loop-holds Inv-loop μ-loop
-loop-holds c = yet-all _ _ _ (c .before .before .pre)
+loop-holds c = search (needs, yet-all)
 
 put-bytes-requires : tie.Need-put-bytes-requires Inv-loop μ-loop
-put-bytes-requires c κs = (c .before .before .loop .inv) .within
+put-bytes-requires c κs = search needs
 
 sub-left : tie.Need-sub-left Inv-loop μ-loop
 sub-left c = search needs
@@ -26,13 +26,13 @@ loop-less : tie.Need-loop-less Inv-loop μ-loop
 loop-less c = search needs
 
 loop-again : tie.Need-loop-again Inv-loop μ-loop
-loop-again c = yet-less _ _ (yet-as (times-less _ _ (c .before .before .before .before .loop-test .taken)) (c .before .before .before .before .before .loop .inv)) (c .before .before .put-bytes .ensures)
+loop-again c = search (needs, yet-less, yet-as, times-less)
 
 same-length : tie.Need-same-length Inv-loop μ-loop
-same-length c = (c .before .loop .inv) .long
+same-length c = search needs
 
 returns : tie.Need-returns Inv-loop μ-loop
-returns c = yet-none (yet-as (times-none _ _ (c .loop-test .left)) (c .before .loop .inv))
+returns c = search (needs, yet-none, yet-as, times-none)
 
 pub put-copies-spec : {M : Type 1} → statement M
 put-copies-spec =

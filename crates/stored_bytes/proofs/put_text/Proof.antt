@@ -20,10 +20,10 @@ same-length : tie.Need-same-length
 same-length c = search needs
 
 returns : tie.Need-returns
-returns c = wrote-as (gives-bytes _ (c .before .before .before .before .before .before .before .letter-of .ensures) (c .before .before .before .before .before .before .if1 .taken) (c .before .before .before .before .count-of .ensures) (c .before .before .before .piece-of .ensures)) (c .before .before .put-copies .ensures)
+returns c = search (needs, wrote-as, gives-bytes)
 
 returns-2 : tie.Need-returns-2
-returns-2 c = wrote-as (gives-no-bytes _ (c .before .letter-of .ensures) (c .if1 .left)) (wrote-none _ _ (c .before .before .before .before .pre))
+returns-2 c = search (needs, wrote-as, gives-no-bytes, wrote-none)
 
 pub put-text-spec : {M : Type 1} → statement M
 put-text-spec =

@@ -1,8 +1,5 @@
-use Prim.Native.Nat.{_+_}
+use Rattle.stored_lines.proofs.FormLaws.{none-after}
 use Rattle.text_fields.proofs.PartLaws.{tail-is}
-use native.Mathlib.Omega.{arith}
-use mathlib.Core.Path.{sym}
-use lib.ListN.{drop-of-length-le}
 use borrow.Author.Needs.{needs}
 use Rattle.stored_lines.proofs.after.Statement.{statement}
 use Rattle.stored_lines.proofs.after.Tie as tie
@@ -20,13 +17,13 @@ part-result-end : tie.Need-part-result-end
 part-result-end c = search needs
 
 returns : tie.Need-returns
-returns c = tail-is (c .before .before .args .n + 1) (c .before .before .args .s .now)
+returns c = search (needs, tail-is)
 
 slice-aggregate-result : tie.Need-slice-aggregate-result
 slice-aggregate-result c = search needs
 
 returns-2 : tie.Need-returns-2
-returns-2 c = sym (drop-of-length-le (c .before .before .args .s .now) {i = c .before .before .args .n + 1} (omega arith))
+returns-2 c = search (needs, none-after)
 
 pub after-spec : {M : Type 1} → statement M
 after-spec =

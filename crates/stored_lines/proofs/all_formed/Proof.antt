@@ -1,12 +1,12 @@
+use Rattle.stored_lines.proofs.FormLaws.{told-yes, told-no}
 use borrow.Author.Needs.{needs}
 use Rattle.stored_lines.proofs.LineLaws.{all-more, all-last, all-not}
 use Rattle.stored_lines.specs.inner.Line.{isFormed}
 use Rattle.text_fields.specs.Parts.{parts}
 use Rattle.loops.specs.Lists.{allOf}
-use borrow.Author.Tests.{not-true, not-false}
 use native.Mathlib.Omega.{arith}
 use lib.ListN.{length, length-take, length-drop}
-use mathlib.Core.Path.{_≡_, refl, sym, _∙_}
+use mathlib.Core.Path.{_≡_, refl}
 use Rattle.stored_lines.proofs.all_formed.Statement.{statement}
 use Rattle.stored_lines.proofs.all_formed.Tie as tie
 
@@ -26,10 +26,10 @@ is-formed-requires : tie.Need-is-formed-requires Inv-loop μ-loop
 is-formed-requires c κs = search needs
 
 returns : tie.Need-returns Inv-loop μ-loop
-returns c = sym (all-not 10 _ _ (c .before .before .first-part .ensures) isFormed (sym (c .before .is-formed .ensures) ∙ not-true _ (c .if1 .taken))) ∙ (c .before .before .before .loop .inv)
+returns c = search (needs, all-not, told-no)
 
 returns-2 : tie.Need-returns-2 Inv-loop μ-loop
-returns-2 c = sym (all-last 10 _ _ (c .before .before .before .first-part .ensures) isFormed (sym (c .before .before .is-formed .ensures) ∙ not-false _ (c .before .if1 .left)) (c .if2 .taken)) ∙ (c .before .before .before .before .loop .inv)
+returns-2 c = search (needs, all-last, told-yes)
 
 add-rest : tie.Need-add-rest Inv-loop μ-loop
 add-rest c = search needs
@@ -47,7 +47,7 @@ loop-less : tie.Need-loop-less Inv-loop μ-loop
 loop-less c = simp (length-take, length-drop) (omega arith)
 
 loop-again : tie.Need-loop-again Inv-loop μ-loop
-loop-again c = sym (all-more 10 _ _ (c .before .before .before .before .first-part .ensures) isFormed (sym (c .before .before .before .is-formed .ensures) ∙ not-false _ (c .before .before .if1 .left)) (c .before .if2 .left)) ∙ (c .before .before .before .before .before .loop .inv)
+loop-again c = search (needs, all-more, told-yes)
 
 pub all-formed-spec : {M : Type 1} → statement M
 all-formed-spec =

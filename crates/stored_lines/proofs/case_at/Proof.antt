@@ -1,5 +1,4 @@
-use Rattle.stored_lines.proofs.LineLaws.{case-found, line-within}
-use native.Mathlib.Omega.{arith}
+use Rattle.stored_lines.proofs.LineLaws.{line-within, case-more, case-last, line-from}
 use borrow.Author.Needs.{needs}
 use Rattle.stored_lines.proofs.case_at.Statement.{statement}
 use Rattle.stored_lines.proofs.case_at.Tie as tie
@@ -26,12 +25,10 @@ add-next : tie.Need-add-next
 add-next c = search needs
 
 returns : tie.Need-returns
-returns c = let l = line-within _ _ _ _ (c .before .before .before .judging-at .ensures) (c .before .first-part .ensures) in
-    (case-found _ _ _ _ (c .before .before .before .judging-at .ensures) (c .before .first-part .ensures) _ (omega arith), ((λ h. omega (arith, (c .before .before .before .judging-at .ensures))), omega arith, l))
+returns c = (search (needs, case-more), (search (needs, line-from), search needs, search (needs, line-within)))
 
 returns-2 : tie.Need-returns-2
-returns-2 c = let l = line-within _ _ _ _ (c .before .before .before .judging-at .ensures) (c .before .first-part .ensures) in
-    (case-found _ _ _ _ (c .before .before .before .judging-at .ensures) (c .before .first-part .ensures) _ (omega arith), ((λ h. omega (arith, (c .before .before .before .judging-at .ensures))), omega arith, l))
+returns-2 c = (search (needs, case-last), (search (needs, line-from), search needs, search (needs, line-within)))
 
 pub case-at-spec : {M : Type 1} → statement M
 case-at-spec =

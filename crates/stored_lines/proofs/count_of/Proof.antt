@@ -1,10 +1,4 @@
-use Rattle.text_line.specs.Line.{valueOf}
-use Rattle.text_fields.specs.Parts.{untilByte}
-use Rattle.loops.specs.Numbers.{toNat}
-use mir.Facts.{toZ-ofZ}
-use mir.Val.{SFits}
-use mir.Syntax.{w64}
-use mathlib.Core.Path.{ap, _∙_}
+use Rattle.stored_lines.proofs.FormLaws.{count-is}
 use borrow.Author.Needs.{needs}
 use Rattle.stored_lines.proofs.count_of.Statement.{statement}
 use Rattle.stored_lines.proofs.count_of.Tie as tie
@@ -22,8 +16,7 @@ nat-requires : tie.Need-nat-requires
 nat-requires c κs = search needs
 
 returns : tie.Need-returns
-returns c = let k : SFits w64 (c .before .number-of .result) = search needs in
-    (c .nat .ensures) ∙ ap toNat (toZ-ofZ k ∙ (c .before .number-of .ensures) ∙ ap valueOf ((c .before .before .first-part .ensures) ∙ ap (untilByte 44) (c .before .before .before .body-of .ensures)))
+returns c = search (needs, count-is)
 
 pub count-of-spec : {M : Type 1} → statement M
 count-of-spec =

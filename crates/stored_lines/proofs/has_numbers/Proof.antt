@@ -1,9 +1,5 @@
-use Rattle.stored_lines.proofs.LineLaws.{both, not-both}
+use Rattle.stored_lines.proofs.FormLaws.{both, not-both, body-spelled}
 use Rattle.stored_lines.specs.inner.Line.{hasNumbers}
-use Rattle.text_line.specs.Line.{spelled, fieldsOf}
-use mathlib.Core.Path.{ap, _∙_}
-use mathlib.Core.List.{List}
-use Prim.Native.Nat.{ℕ}
 use borrow.Author.Needs.{needs}
 use Rattle.stored_lines.proofs.has_numbers.Statement.{statement}
 use Rattle.stored_lines.proofs.has_numbers.Tie as tie
@@ -19,11 +15,11 @@ is-spelled-requires c κs = search needs
 
 returns : tie.Need-returns
 unfolding hasNumbers
-returns c = both (c .before .before .before .has-count .ensures) (c .before .before .if1 .taken) ((c .is-spelled .ensures) ∙ ap (λ (s : List ℕ). spelled (fieldsOf s)) (c .before .body-of .ensures))
+returns c = search (needs, both, body-spelled)
 
 returns-2 : tie.Need-returns-2
 unfolding hasNumbers
-returns-2 c = not-both _ (c .before .has-count .ensures) (c .if1 .left)
+returns-2 c = search (needs, not-both)
 
 pub has-numbers-spec : {M : Type 1} → statement M
 has-numbers-spec =

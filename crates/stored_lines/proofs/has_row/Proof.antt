@@ -1,11 +1,5 @@
-use Rattle.stored_lines.proofs.LineLaws.{both, not-both}
+use Rattle.stored_lines.proofs.FormLaws.{both, not-both, body-short}
 use Rattle.stored_lines.specs.inner.Line.{hasRow}
-use Rattle.text_line.specs.Line.{fieldsOf}
-use lib.ListN.{length}
-use lib.Dec.{ltb}
-use mathlib.Core.Path.{ap, _∙_}
-use mathlib.Core.List.{List}
-use Prim.Native.Nat.{ℕ}
 use borrow.Author.Needs.{needs}
 use Rattle.stored_lines.proofs.has_row.Statement.{statement}
 use Rattle.stored_lines.proofs.has_row.Tie as tie
@@ -21,11 +15,11 @@ is-short-requires c κs = search needs
 
 returns : tie.Need-returns
 unfolding hasRow
-returns c = both (c .before .before .before .has-numbers .ensures) (c .before .before .if1 .taken) ((c .is-short .ensures) ∙ ap (λ (s : List ℕ). ltb (length (fieldsOf s)) 12) (c .before .body-of .ensures))
+returns c = search (needs, both, body-short)
 
 returns-2 : tie.Need-returns-2
 unfolding hasRow
-returns-2 c = not-both _ (c .before .has-numbers .ensures) (c .if1 .left)
+returns-2 c = search (needs, not-both)
 
 pub has-row-spec : {M : Type 1} → statement M
 has-row-spec =

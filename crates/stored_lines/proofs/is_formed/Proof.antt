@@ -1,9 +1,5 @@
+use Rattle.stored_lines.proofs.FormLaws.{branches, body-spelled}
 use Rattle.stored_lines.specs.inner.Line.{isFormed}
-use Rattle.text_line.specs.Line.{spelled, fieldsOf}
-use borrow.Author.Tests.{eq-eqb, ne-eqb}
-use mathlib.Core.Path.{sym, ap, _∙_}
-use mathlib.Core.List.{List}
-use Prim.Native.Nat.{ℕ}
 use borrow.Author.Needs.{needs}
 use Rattle.stored_lines.proofs.is_formed.Statement.{statement}
 use Rattle.stored_lines.proofs.is_formed.Tie as tie
@@ -19,50 +15,50 @@ is-spelled-requires c κs = search needs
 
 returns : tie.Need-returns
 unfolding isFormed
-returns c = rw (sym (c .before .before .before .is-judging .ensures) ∙ (c .before .before .if1 .taken)) ((c .is-spelled .ensures) ∙ ap (λ (s : List ℕ). spelled (fieldsOf s)) (c .before .body-of .ensures))
+returns c = search (branches, body-spelled)
 
 returns-2 : tie.Need-returns-2
 unfolding isFormed
-returns-2 c = rw (sym (c .before .before .is-judging .ensures) ∙ (c .before .if1 .left), eq-eqb _ 0 (c .if2 .taken))
+returns-2 c = search branches
 
 letter-of-requires : tie.Need-letter-of-requires
 letter-of-requires c κs = search needs
 
 returns-3 : tie.Need-returns-3
 unfolding isFormed
-returns-3 c = rw (sym (c .before .before .before .before .is-judging .ensures) ∙ (c .before .before .before .if1 .left), ne-eqb _ 0 (c .before .before .if2 .left), sym (c .before .letter-of .ensures), eq-eqb _ 35 (c .if3 .taken))
+returns-3 c = search branches
 
 has-count-requires : tie.Need-has-count-requires
 has-count-requires c κs = search needs
 
 returns-4 : tie.Need-returns-4
 unfolding isFormed
-returns-4 c = rw (sym (c .before .before .before .before .before .before .is-judging .ensures) ∙ (c .before .before .before .before .before .if1 .left), ne-eqb _ 0 (c .before .before .before .before .if2 .left), sym (c .before .before .before .letter-of .ensures), ne-eqb _ 35 (c .before .before .if3 .left), eq-eqb _ 116 (c .before .if4 .taken)) (c .has-count .ensures)
+returns-4 c = search branches depth 8
 
 has-row-requires : tie.Need-has-row-requires
 has-row-requires c κs = search needs
 
 returns-5 : tie.Need-returns-5
 unfolding isFormed
-returns-5 c = rw (sym (c .before .before .before .before .before .before .before .is-judging .ensures) ∙ (c .before .before .before .before .before .before .if1 .left), ne-eqb _ 0 (c .before .before .before .before .before .if2 .left), sym (c .before .before .before .before .letter-of .ensures), ne-eqb _ 35 (c .before .before .before .if3 .left), ne-eqb _ 116 (c .before .before .if4 .left), eq-eqb _ 114 (c .before .if5 .taken)) (c .has-row .ensures)
+returns-5 c = search branches depth 8
 
 has-numbers-requires : tie.Need-has-numbers-requires
 has-numbers-requires c κs = search needs
 
 returns-6 : tie.Need-returns-6
 unfolding isFormed
-returns-6 c = rw (sym (c .before .before .before .before .before .before .before .before .is-judging .ensures) ∙ (c .before .before .before .before .before .before .before .if1 .left), ne-eqb _ 0 (c .before .before .before .before .before .before .if2 .left), sym (c .before .before .before .before .before .letter-of .ensures), ne-eqb _ 35 (c .before .before .before .before .if3 .left), ne-eqb _ 116 (c .before .before .before .if4 .left), ne-eqb _ 114 (c .before .before .if5 .left), eq-eqb _ 110 (c .before .if6 .taken)) (c .has-numbers .ensures)
+returns-6 c = search branches depth 10
 
 has-numbers-requires-2 : tie.Need-has-numbers-requires-2
 has-numbers-requires-2 c κs = search needs
 
 returns-7 : tie.Need-returns-7
 unfolding isFormed
-returns-7 c = rw (sym (c .before .before .before .before .before .before .before .before .before .is-judging .ensures) ∙ (c .before .before .before .before .before .before .before .before .if1 .left), ne-eqb _ 0 (c .before .before .before .before .before .before .before .if2 .left), sym (c .before .before .before .before .before .before .letter-of .ensures), ne-eqb _ 35 (c .before .before .before .before .before .if3 .left), ne-eqb _ 116 (c .before .before .before .before .if4 .left), ne-eqb _ 114 (c .before .before .before .if5 .left), ne-eqb _ 110 (c .before .before .if6 .left), eq-eqb _ 101 (c .before .if7 .taken)) (c .has-numbers2 .ensures)
+returns-7 c = search branches depth 10
 
 returns-8 : tie.Need-returns-8
 unfolding isFormed
-returns-8 c = rw (sym (c .before .before .before .before .before .before .before .before .is-judging .ensures) ∙ (c .before .before .before .before .before .before .before .if1 .left), ne-eqb _ 0 (c .before .before .before .before .before .before .if2 .left), sym (c .before .before .before .before .before .letter-of .ensures), ne-eqb _ 35 (c .before .before .before .before .if3 .left), ne-eqb _ 116 (c .before .before .before .if4 .left), ne-eqb _ 114 (c .before .before .if5 .left), ne-eqb _ 110 (c .before .if6 .left), ne-eqb _ 101 (c .if7 .left))
+returns-8 c = search branches depth 10 fits 4000
 
 pub is-formed-spec : {M : Type 1} → statement M
 is-formed-spec =

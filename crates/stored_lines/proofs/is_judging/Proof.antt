@@ -1,6 +1,4 @@
-use Rattle.stored_lines.specs.inner.Line.{isJudging}
-use borrow.Author.Tests.{le-leb, lt-leb}
-use mathlib.Core.Path.{sym}
+use Rattle.stored_lines.proofs.FormLaws.{judging-is, judging-low}
 use borrow.Author.Needs.{needs}
 use Rattle.stored_lines.proofs.is_judging.Statement.{statement}
 use Rattle.stored_lines.proofs.is_judging.Tie as tie
@@ -9,12 +7,10 @@ letter-of-requires : tie.Need-letter-of-requires
 letter-of-requires c κs = search needs
 
 returns : tie.Need-returns
-unfolding isJudging
-returns c = rw (sym (c .before .letter-of .ensures), le-leb 65 _ (c .if1 .taken))
+returns c = search (needs, judging-is)
 
 returns-2 : tie.Need-returns-2
-unfolding isJudging
-returns-2 c = rw (sym (c .before .letter-of .ensures), lt-leb 65 _ (c .if1 .left))
+returns-2 c = search (needs, judging-low)
 
 pub is-judging-spec : {M : Type 1} → statement M
 is-judging-spec = tie.close (tie.spec letter-of-requires returns returns-2)

@@ -1,9 +1,10 @@
+use Rattle.stored_lines.proofs.FormLaws.{told-number, told-none}
 use borrow.Author.Needs.{needs}
 use Rattle.stored_lines.proofs.LineLaws.{all-more, all-last, all-not}
-use Rattle.text_line.specs.Line.{spelled, fieldsOf, isNumber}
+use Rattle.text_line.specs.Line.{spelled, fieldsOf}
 use native.Mathlib.Omega.{arith}
 use lib.ListN.{length, length-take, length-drop}
-use mathlib.Core.Path.{_≡_, refl, sym, ap, _∙_}
+use mathlib.Core.Path.{_≡_, refl}
 use Rattle.stored_lines.proofs.is_spelled.Statement.{statement}
 use Rattle.stored_lines.proofs.is_spelled.Tie as tie
 
@@ -30,11 +31,11 @@ enum-told-2 c = search needs
 
 returns : tie.Need-returns Inv-loop μ-loop
 unfolding spelled
-returns c = sym (all-not 44 _ _ (c .before .before .before .first-part .ensures) _ (ap isNumber (sym (c .before .before .read-number .ensures) ∙ (c .enum-told2 .given) .1))) ∙ (c .before .before .before .before .loop .inv)
+returns c = search (needs, all-not, told-none)
 
 returns-2 : tie.Need-returns-2 Inv-loop μ-loop
 unfolding spelled
-returns-2 c = sym (all-last 44 _ _ (c .before .before .before .before .first-part .ensures) _ (ap isNumber (sym (c .before .before .before .read-number .ensures) ∙ (c .before .enum-told .given) .1)) (c .if1 .taken)) ∙ (c .before .before .before .before .before .loop .inv)
+returns-2 c = search (needs, all-last, told-number)
 
 add-rest : tie.Need-add-rest Inv-loop μ-loop
 add-rest c = search needs
@@ -53,7 +54,7 @@ loop-less c = simp (length-take, length-drop) (omega arith)
 
 loop-again : tie.Need-loop-again Inv-loop μ-loop
 unfolding spelled
-loop-again c = sym (all-more 44 _ _ (c .before .before .before .before .before .first-part .ensures) _ (ap isNumber (sym (c .before .before .before .before .read-number .ensures) ∙ (c .before .before .enum-told .given) .1)) (c .before .if1 .left)) ∙ (c .before .before .before .before .before .before .loop .inv)
+loop-again c = search (needs, all-more, told-number)
 
 pub is-spelled-spec : {M : Type 1} → statement M
 is-spelled-spec =

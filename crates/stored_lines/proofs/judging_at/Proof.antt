@@ -1,8 +1,9 @@
+use Rattle.stored_lines.proofs.FormLaws.{told}
 use borrow.Author.Needs.{needs}
 use Rattle.stored_lines.proofs.LineLaws.{judges-here, judges-nowhere, judges-later, judges-past}
 use Rattle.stored_lines.specs.inner.Case.{judgingAt}
 use lib.ListN.{length}
-use mathlib.Core.Path.{_≡_, refl, sym, _∙_}
+use mathlib.Core.Path.{_≡_, refl}
 use Prim.Native.Nat.{_-_}
 use Rattle.stored_lines.proofs.judging_at.Statement.{statement}
 use Rattle.stored_lines.proofs.judging_at.Tie as tie
@@ -32,13 +33,13 @@ is-judging-requires : tie.Need-is-judging-requires Inv-loop μ-loop
 is-judging-requires c κs = search needs
 
 returns : tie.Need-returns Inv-loop μ-loop
-returns c = judges-here _ _ _ (c .before .before .first-part .ensures) (c .before .before .before .before .loop-test .taken) (sym (c .before .is-judging .ensures) ∙ (c .if1 .taken)) ∙ (c .before .before .before .before .before .loop .inv)
+returns c = search (needs, judges-here, told)
 
 sub-if2 : tie.Need-sub-if2 Inv-loop μ-loop
 sub-if2 c = search needs
 
 returns-2 : tie.Need-returns-2 Inv-loop μ-loop
-returns-2 c = judges-nowhere _ _ _ (c .before .before .before .first-part .ensures) (sym (c .before .before .is-judging .ensures) ∙ (c .before .if1 .left)) (c .if2 .taken) ∙ (c .before .before .before .before .before .before .loop .inv)
+returns-2 c = search (needs, judges-nowhere, told)
 
 add-at : tie.Need-add-at Inv-loop μ-loop
 add-at c = search needs
@@ -50,10 +51,10 @@ loop-less : tie.Need-loop-less Inv-loop μ-loop
 loop-less c = search needs
 
 loop-again : tie.Need-loop-again Inv-loop μ-loop
-loop-again c = sym (judges-later _ _ _ (c .before .before .before .first-part .ensures) (sym (c .before .before .is-judging .ensures) ∙ (c .before .if1 .left)) (c .if2 .left)) ∙ (c .before .before .before .before .before .before .loop .inv)
+loop-again c = search (needs, judges-later, told)
 
 returns-3 : tie.Need-returns-3 Inv-loop μ-loop
-returns-3 c = judges-past _ _ (c .loop-test .left) ∙ (c .before .loop .inv)
+returns-3 c = search (needs, judges-past)
 
 pub judging-at-spec : {M : Type 1} → statement M
 judging-at-spec =

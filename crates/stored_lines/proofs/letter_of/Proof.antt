@@ -1,6 +1,4 @@
-use lib.ListN.{List·getD-eq-default}
-use native.Mathlib.Omega.{arith}
-use mathlib.Core.Path.{sym}
+use Rattle.stored_lines.proofs.FormLaws.{no-letter}
 use borrow.Author.Needs.{needs}
 use Rattle.stored_lines.proofs.letter_of.Statement.{statement}
 use Rattle.stored_lines.proofs.letter_of.Tie as tie
@@ -12,7 +10,7 @@ returns : tie.Need-returns
 returns c = search needs
 
 returns-2 : tie.Need-returns-2
-returns-2 c = sym (List·getD-eq-default (c .before .args .line .now) 0 {n = 0} (omega arith))
+returns-2 c = search (needs, no-letter)
 
 pub letter-of-spec : {M : Type 1} → statement M
 letter-of-spec = tie.close (tie.spec shared-slice-read-result returns returns-2)

@@ -1,3 +1,4 @@
+use Rattle.stored_lines.proofs.FormLaws.{piece-is}
 use borrow.Author.Needs.{needs}
 use Rattle.stored_lines.proofs.piece_of.Statement.{statement}
 use Rattle.stored_lines.proofs.piece_of.Tie as tie
@@ -12,7 +13,7 @@ after-requires : tie.Need-after-requires
 after-requires c κs = search needs
 
 returns : tie.Need-returns
-returns c = rw ((c .after .ensures), (c .before .first-part .ensures), (c .before .before .body-of .ensures))
+returns c = search (needs, piece-is)
 
 pub piece-of-spec : {M : Type 1} → statement M
 piece-of-spec = tie.close (tie.spec body-of-requires first-part-requires after-requires returns)

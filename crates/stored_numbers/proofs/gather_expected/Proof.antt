@@ -1,6 +1,5 @@
 use Rattle.stored_numbers.proofs.GivesLaws.{all-expected}
-use Rattle.loops.proofs.StoreLaws.{wrote-as}
-use Rattle.stored_numbers.proofs.PutLaws.{told-all}
+use Rattle.stored_numbers.proofs.PutLaws.{told-all, all-put}
 use borrow.Author.Needs.{needs}
 use Rattle.stored_numbers.proofs.gather_expected.Statement.{statement}
 use Rattle.stored_numbers.proofs.gather_expected.Tie as tie
@@ -15,7 +14,7 @@ same-length : tie.Need-same-length
 same-length c = search needs
 
 returns : tie.Need-returns
-returns c = let w = wrote-as (all-expected _) (c .before .before .put-lines .ensures) in (told-all _ w (c .told .ensures), w .buffer)
+returns c = (search (needs, told-all, all-expected), search (needs, all-put, all-expected))
 
 pub gather-expected-spec : {M : Type 1} → statement M
 gather-expected-spec = tie.close (tie.spec put-lines-requires told-requires same-length returns)

@@ -1,6 +1,5 @@
 use Rattle.stored_numbers.proofs.GivesLaws.{all-numbers}
-use Rattle.loops.proofs.StoreLaws.{wrote-as}
-use Rattle.stored_numbers.proofs.PutLaws.{told-all}
+use Rattle.stored_numbers.proofs.PutLaws.{told-all, all-put}
 use borrow.Author.Needs.{needs}
 use Rattle.stored_numbers.proofs.gather_numbers.Statement.{statement}
 use Rattle.stored_numbers.proofs.gather_numbers.Tie as tie
@@ -15,7 +14,7 @@ same-length : tie.Need-same-length
 same-length c = search needs
 
 returns : tie.Need-returns
-returns c = let w = wrote-as (all-numbers _) (c .before .before .put-lines .ensures) in (told-all _ w (c .told .ensures), w .buffer)
+returns c = (search (needs, told-all, all-numbers), search (needs, all-put, all-numbers))
 
 pub gather-numbers-spec : {M : Type 1} → statement M
 gather-numbers-spec = tie.close (tie.spec put-lines-requires told-requires same-length returns)

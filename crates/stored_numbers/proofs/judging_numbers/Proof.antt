@@ -1,7 +1,5 @@
-use Rattle.loops.proofs.StoreLaws.{wrote-as}
-use Rattle.stored_numbers.proofs.PutLaws.{told-all}
-use Rattle.stored_numbers.specs.inner.Numbers.{numbersIn}
-use mathlib.Core.Path.{ap}
+use Rattle.stored_numbers.proofs.GivesLaws.{body-numbers}
+use Rattle.stored_numbers.proofs.PutLaws.{told-all, all-put}
 use borrow.Author.Needs.{needs}
 use Rattle.stored_numbers.proofs.judging_numbers.Statement.{statement}
 use Rattle.stored_numbers.proofs.judging_numbers.Tie as tie
@@ -19,7 +17,7 @@ same-length : tie.Need-same-length
 same-length c = search needs
 
 returns : tie.Need-returns
-returns c = let w = wrote-as (ap numbersIn (c .before .before .before .body-of .ensures)) (c .before .before .put-numbers .ensures) in (told-all _ w (c .told .ensures), w .buffer)
+returns c = (search (needs, told-all, body-numbers), search (needs, all-put, body-numbers))
 
 pub judging-numbers-spec : {M : Type 1} → statement M
 judging-numbers-spec =

@@ -20,7 +20,7 @@ same-length : tie.Need-same-length
 same-length c = search needs
 
 returns : tie.Need-returns
-returns c = wrote-as (gives-plain _ _ _ (c .before .before .before .before .before .before .letter-of .ensures) (c .before .before .before .before .before .if1 .taken) (c .before .before .before .count-of .ensures) (c .before .before .piece-of .ensures)) (c .before .put-pieces .ensures)
+returns c = search (needs, wrote-as, gives-plain)
 
 count-of-requires-2 : tie.Need-count-of-requires-2
 count-of-requires-2 c κs = search needs
@@ -35,10 +35,10 @@ same-length-2 : tie.Need-same-length-2
 same-length-2 c = search needs
 
 returns-2 : tie.Need-returns-2
-returns-2 c = wrote-as (gives-rows _ _ _ (c .before .before .before .before .before .before .before .letter-of .ensures) (c .before .before .before .before .before .before .if1 .left) (c .before .before .before .before .before .if2 .taken) (c .before .before .before .count-of2 .ensures) (c .before .before .piece-of2 .ensures)) (c .before .put-pieces2 .ensures)
+returns-2 c = search (needs, wrote-as, gives-rows)
 
 returns-3 : tie.Need-returns-3
-returns-3 c = wrote-as (gives-none _ (c .before .before .letter-of .ensures) _ _ (c .before .if1 .left) (c .if2 .left)) (wrote-none _ _ (c .before .before .before .before .pre))
+returns-3 c = search (needs, wrote-as, gives-none, wrote-none)
 
 pub put-line-spec : {M : Type 1} → statement M
 put-line-spec =

@@ -19,7 +19,7 @@ returns : tie.Need-returns
 returns c = search needs
 
 returns-2 : tie.Need-returns-2
-returns-2 c = wrote-past _ _ _ (c .before .pre) (c .if1 .left)
+returns-2 c = search (needs, wrote-past)
 
 pub put-number-spec : {M : Type 1} → statement M
 put-number-spec =

@@ -1,4 +1,4 @@
-use Rattle.stored_numbers.specs.inner.Gives.{pieceAs}
+use Rattle.stored_numbers.proofs.GivesLaws.{as-row, as-numbers}
 use borrow.Author.Needs.{needs}
 use Rattle.stored_numbers.proofs.put_piece.Statement.{statement}
 use Rattle.stored_numbers.proofs.put_piece.Tie as tie
@@ -10,8 +10,7 @@ same-length : tie.Need-same-length
 same-length c = search needs
 
 returns : tie.Need-returns
-unfolding pieceAs
-returns c = rw (c .before .before .before .if1 .taken) (c .before .put-row .ensures)
+returns c = search (needs, as-row)
 
 put-numbers-requires : tie.Need-put-numbers-requires
 put-numbers-requires c κs = search needs
@@ -20,8 +19,7 @@ same-length-2 : tie.Need-same-length-2
 same-length-2 c = search needs
 
 returns-2 : tie.Need-returns-2
-unfolding pieceAs
-returns-2 c = rw (c .before .before .before .if1 .left) (c .before .put-numbers .ensures)
+returns-2 c = search (needs, as-numbers)
 
 pub put-piece-spec : {M : Type 1} → statement M
 put-piece-spec =

@@ -13,10 +13,10 @@ abbrev μ-loop : tie.MeasureT-loop
 μ-loop out₀ from n fields row at₀ left₀ out at left = left
 
 loop-holds : tie.Need-loop-holds Inv-loop μ-loop
-loop-holds c = yet-all _ _ _ (c .before .pre)
+loop-holds c = search (needs, yet-all)
 
 put-piece-requires : tie.Need-put-piece-requires Inv-loop μ-loop
-put-piece-requires c κs = (c .before .before .loop .inv) .within
+put-piece-requires c κs = search needs
 
 sub-left : tie.Need-sub-left Inv-loop μ-loop
 sub-left c = search needs
@@ -25,13 +25,13 @@ loop-less : tie.Need-loop-less Inv-loop μ-loop
 loop-less c = search needs
 
 loop-again : tie.Need-loop-again Inv-loop μ-loop
-loop-again c = yet-less _ _ (yet-as (times-less _ _ (c .before .before .before .loop-test .taken)) (c .before .before .before .before .loop .inv)) (c .before .put-piece .ensures)
+loop-again c = search (needs, yet-less, yet-as, times-less)
 
 same-length : tie.Need-same-length Inv-loop μ-loop
-same-length c = (c .before .loop .inv) .long
+same-length c = search needs
 
 returns : tie.Need-returns Inv-loop μ-loop
-returns c = yet-none (yet-as (times-none _ _ (c .loop-test .left)) (c .before .loop .inv))
+returns c = search (needs, yet-none, yet-as, times-none)
 
 pub put-pieces-spec : {M : Type 1} → statement M
 put-pieces-spec =

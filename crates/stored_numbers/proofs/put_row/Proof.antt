@@ -19,13 +19,13 @@ same-length : tie.Need-same-length
 same-length c = search needs
 
 returns : tie.Need-returns
-returns c = row-zeros _ (c .before .before .before .before .before .before .before .before .pre) (c .before .before .before .before .before .put-numbers .ensures) (c .before .put-zeros .ensures)
+returns c = search (needs, row-zeros)
 
 same-length-2 : tie.Need-same-length-2
 same-length-2 c = search needs
 
 returns-2 : tie.Need-returns-2
-returns-2 c = row-whole _ (c .if1 .left) (c .before .before .put-numbers .ensures)
+returns-2 c = search (needs, row-whole)
 
 pub put-row-spec : {M : Type 1} → statement M
 put-row-spec =

@@ -16,7 +16,7 @@ loop-holds : tie.Need-loop-holds Inv-loop μ-loop
 loop-holds c = yet-all _ _ _ (c .pre)
 
 put-number-requires : tie.Need-put-number-requires Inv-loop μ-loop
-put-number-requires c κs = (c .before .before .loop .inv) .within
+put-number-requires c κs = search needs
 
 sub-left : tie.Need-sub-left Inv-loop μ-loop
 sub-left c = search needs
@@ -25,13 +25,13 @@ loop-less : tie.Need-loop-less Inv-loop μ-loop
 loop-less c = search needs
 
 loop-again : tie.Need-loop-again Inv-loop μ-loop
-loop-again c = yet-less _ _ (yet-as (replicate-less _ (pos 0) (c .before .before .before .loop-test .taken)) (c .before .before .before .before .loop .inv)) (c .before .put-number .ensures)
+loop-again c = search (needs, yet-less, yet-as, replicate-less)
 
 same-length : tie.Need-same-length Inv-loop μ-loop
-same-length c = (c .before .loop .inv) .long
+same-length c = search needs
 
 returns : tie.Need-returns Inv-loop μ-loop
-returns c = yet-none (yet-as (replicate-none _ (pos 0) (c .loop-test .left)) (c .before .loop .inv))
+returns c = search (needs, yet-none, yet-as, replicate-none)
 
 pub put-zeros-spec : {M : Type 1} → statement M
 put-zeros-spec =

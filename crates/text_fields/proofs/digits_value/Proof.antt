@@ -1,9 +1,9 @@
 use Prim.Native.Nat.{_≤_, _<_, _-_, _^_}
-use mathlib.Core.Path.{_≡_, refl, sym, ap, _∙_}
+use mathlib.Core.Path.{_≡_, refl, _∙_}
 use lib.ListN.{length, drop}
 use borrow.Author.Needs.{needs}
 use Rattle.text_fields.specs.Spelling.{digitsFrom, limited}
-use Rattle.text_fields.proofs.DigitLaws.{no-digit, one-digit, at-end, digit-low, digit-high, digit-in, soon-too-large, too-large}
+use Rattle.text_fields.proofs.DigitLaws.{at-end, digit-low, digit-high, digit-in, soon-too-large, too-large}
 use Rattle.text_fields.proofs.digits_value.Statement.{statement}
 use Rattle.text_fields.proofs.digits_value.Tie as tie
 
@@ -23,19 +23,13 @@ wide-requires : tie.Need-wide-requires Inv-loop μ-loop
 wide-requires c κs = search needs
 
 returns : tie.Need-returns Inv-loop μ-loop
-returns c =
-    let l = c .before .before .before .before .loop in
-    sym (no-digit _ (l .i) (l .n) _ (c .before .wide .ensures) (c .before .before .before .loop-test .taken) (digit-low _ (c .if1 .taken))) ∙ l .inv .1
+returns c = search (needs, digit-low)
 
 returns-2 : tie.Need-returns-2 Inv-loop μ-loop
-returns-2 c =
-    let l = c .before .before .before .before .before .loop in
-    sym (no-digit _ (l .i) (l .n) _ (c .before .before .wide .ensures) (c .before .before .before .before .loop-test .taken) (digit-high _ (c .if2 .taken))) ∙ l .inv .1
+returns-2 c = search (needs, digit-high)
 
 returns-3 : tie.Need-returns-3 Inv-loop μ-loop
-returns-3 c =
-    let l = c .before .before .before .before .before .before .loop in
-    sym (soon-too-large _ (l .i) (l .n) (c .before .before .before .before .before .loop-test .taken) (c .if3 .taken)) ∙ l .inv .1
+returns-3 c = search (needs, _∙_, soon-too-large)
 
 mul-n : tie.Need-mul-n Inv-loop μ-loop
 mul-n c = search needs
@@ -50,23 +44,13 @@ loop-less : tie.Need-loop-less Inv-loop μ-loop
 loop-less c = search needs
 
 loop-again : tie.Need-loop-again Inv-loop μ-loop
-loop-again c =
-    let l = c .before .before .before .before .before .before .loop in (
-      search needs,
-      ap limited (sym (one-digit _ (l .i) (l .n) _ (c .before .before .before .wide .ensures) (c .before .before .before .before .before .loop-test .taken)
-          (digit-in _ (c .before .before .if1 .left) (c .before .if2 .left)))) ∙ l .inv .1,
-      search needs,
-    )
+loop-again c = (search needs, search (needs, digit-in), search needs)
 
 returns-4 : tie.Need-returns-4 Inv-loop μ-loop
-returns-4 c =
-    let l = c .before .before .loop in
-    sym (at-end _ (l .i) (l .n) (c .before .loop-test .left) (c .if4 .taken)) ∙ l .inv .1
+returns-4 c = search (needs, _∙_, at-end)
 
 returns-5 : tie.Need-returns-5 Inv-loop μ-loop
-returns-5 c =
-    let l = c .before .before .loop in
-    sym (too-large (l .n) _ (c .if4 .left)) ∙ l .inv .1
+returns-5 c = search (needs, _∙_, too-large)
 
 pub digits-value-spec : {M : Type 1} → statement M
 digits-value-spec =

@@ -26,9 +26,7 @@ slice-aggregate-result : tie.Need-slice-aggregate-result Inv-loop μ-loop
 slice-aggregate-result c = sym (length-take-le _ _ (omega arith))
 
 returns : tie.Need-returns Inv-loop μ-loop
-returns c =
-    let l = c .before .before .before .before .loop in
-    sym (up-found _ _ (l .i) (c .before .before .before .loop-test .taken) (c .before .if1 .taken)) ∙ l .inv .1
+returns c = search (needs, _∙_, up-found)
 
 add-i : tie.Need-add-i Inv-loop μ-loop
 add-i c = search needs
@@ -37,12 +35,10 @@ loop-less : tie.Need-loop-less Inv-loop μ-loop
 loop-less c = search needs
 
 loop-again : tie.Need-loop-again Inv-loop μ-loop
-loop-again c =
-    let l = c .before .before .before .loop in
-    (search needs, up-more _ _ (l .i) (c .before .before .loop-test .taken) (c .if1 .left) ∙ l .inv .1)
+loop-again c = search (needs, up-more)
 
 returns-2 : tie.Need-returns-2 Inv-loop μ-loop
-returns-2 c = sym (up-end _ _ (c .before .loop .i) (c .loop-test .left)) ∙ c .before .loop .inv .1
+returns-2 c = search (needs, _∙_, up-end)
 
 pub first-part-spec : {M : Type 1} → statement M
 first-part-spec =

@@ -11,10 +11,10 @@ cast-t3 : tie.Need-cast-t3
 cast-t3 c = search needs
 
 sub-t4 : tie.Need-sub-t4
-sub-t4 c = minus-fits _ (c .before .pre)
+sub-t4 c = search (needs, minus-fits)
 
 returns-2 : tie.Need-returns-2
-returns-2 c = rw (minus-back (c .before .args .n) (c .before .pre)) (negative-is _ (c .if1 .left))
+returns-2 c = search (needs, minus-back, negative-is)
 
 pub negated-spec : {M : Type 1} → statement M
 negated-spec = tie.close (tie.spec returns cast-t3 sub-t4 returns-2)

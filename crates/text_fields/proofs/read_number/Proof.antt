@@ -1,9 +1,5 @@
-use mathlib.Core.Path.{sym, ap, _∙_}
-use mir.Syntax.{w64}
-use mir.Facts.{toZ-pos}
-use Rattle.text_fields.specs.Spelling.{positive, negative}
-use Rattle.text_fields.specs.declared.Number.the-variants.{Value}
-use Rattle.text_fields.proofs.DigitLaws.{digits-below, number-empty, number-minus, number-plain}
+use mathlib.Core.Path.{sym}
+use Rattle.text_fields.proofs.DigitLaws.{digits-below, number-empty, minus-digits, minus-none, plain-digits, plain-none}
 use borrow.Author.Needs.{needs}
 use Rattle.text_fields.proofs.read_number.Statement.{statement}
 use Rattle.text_fields.proofs.read_number.Tie as tie
@@ -30,19 +26,16 @@ enum-known-n : tie.Need-enum-known-n
 enum-known-n c = search needs
 
 negated-requires : tie.Need-negated-requires
-negated-requires c κs = digits-below _ _ (sym (c .before .before .before .read-digits .ensures) ∙ c .before .n .given .1)
+negated-requires c κs = search (needs, digits-below)
 
 enum-told : tie.Need-enum-told
 enum-told c = search needs
 
 returns-2 : tie.Need-returns-2
-returns-2 c =
-    c .negated .ensures ∙ ap negative (sym (c .before .before .n .given .1) ∙ c .before .before .before .before .read-digits .ensures)
-    ∙ sym (number-minus _ (c .before .before .before .before .before .before .before .before .if1 .left) (c .before .before .before .before .before .before .if2 .taken))
+returns-2 c = search (needs, minus-digits)
 
 returns-3 : tie.Need-returns-3
-returns-3 c =
-    ap negative (sym (c .enum-told .given .1) ∙ c .before .before .read-digits .ensures) ∙ sym (number-minus _ (c .before .before .before .before .before .before .if1 .left) (c .before .before .before .before .if2 .taken))
+returns-3 c = search (needs, minus-none)
 
 read-digits-requires-2 : tie.Need-read-digits-requires-2
 read-digits-requires-2 c κs = search needs
@@ -51,20 +44,16 @@ enum-known-n-2 : tie.Need-enum-known-n-2
 enum-known-n-2 c = search needs
 
 cast-t16 : tie.Need-cast-t16
-cast-t16 c = record { sfits = digits-below _ _ (sym (c .before .before .before .read-digits2 .ensures) ∙ c .before .n2 .given .1) }
+cast-t16 c = search (needs, digits-below)
 
 enum-told-2 : tie.Need-enum-told-2
 enum-told-2 c = search needs
 
 returns-4 : tie.Need-returns-4
-returns-4 c =
-    let b = digits-below _ _ (sym (c .before .before .before .read-digits2 .ensures) ∙ c .before .n2 .given .1) in
-    ap Value (toZ-pos w64 b) ∙ ap positive (sym (c .before .n2 .given .1) ∙ c .before .before .before .read-digits2 .ensures)
-    ∙ sym (number-plain _ (c .before .before .before .before .before .before .if1 .left) (c .before .before .before .before .if2 .left))
+returns-4 c = search (needs, plain-digits)
 
 returns-5 : tie.Need-returns-5
-returns-5 c =
-    ap positive (sym (c .enum-told2 .given .1) ∙ c .before .before .read-digits2 .ensures) ∙ sym (number-plain _ (c .before .before .before .before .before .if1 .left) (c .before .before .before .if2 .left))
+returns-5 c = search (needs, plain-none)
 
 pub read-number-spec : {M : Type 1} → statement M
 read-number-spec =

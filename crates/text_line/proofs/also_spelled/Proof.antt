@@ -1,6 +1,4 @@
-use mathlib.Core.Path.{sym, ap, _∙_}
-use mathlib.Core.Bool.{Bool, _&&_, and-true, and-false}
-use Rattle.text_line.specs.Line.{isNumber}
+use Rattle.text_line.proofs.LineLaws.{value-also, none-also}
 use borrow.Author.Needs.{needs}
 use Rattle.text_line.proofs.also_spelled.Statement.{statement}
 use Rattle.text_line.proofs.also_spelled.Tie as tie
@@ -12,10 +10,10 @@ enum-told-2 : tie.Need-enum-told-2
 enum-told-2 c = search needs
 
 returns : tie.Need-returns
-returns c = let g = c .before .before .args .good in sym (ap (λ (b : Bool). g && b) (ap isNumber (c .enum-told .given .1)) ∙ and-true g)
+returns c = search (needs, value-also)
 
 returns-2 : tie.Need-returns-2
-returns-2 c = let g = c .before .before .args .good in sym (ap (λ (b : Bool). g && b) (ap isNumber (c .enum-told2 .given .1)) ∙ and-false g)
+returns-2 c = search (needs, none-also)
 
 pub also-spelled-spec : {M : Type 1} → statement M
 also-spelled-spec = tie.close (tie.spec enum-told enum-told-2 returns returns-2)

@@ -1,7 +1,6 @@
-use Prim.Native.Nat.{_+_, _-_}
-use mathlib.Core.Path.{_≡_, refl, sym, ap, _∙_}
-use lib.IntN.{ℤ, pos}
-use mathlib.Core.List.{List}
+use Prim.Native.Nat.{_-_}
+use mathlib.Core.Path.{_≡_, refl, _∙_}
+use lib.IntN.{pos}
 use lib.ListN.{length, replicate}
 use lib.Seq.{sets}
 use borrow.Author.Needs.{needs}
@@ -28,17 +27,13 @@ loop-less : tie.Need-loop-less Inv-loop μ-loop
 loop-less c = search needs
 
 loop-again : tie.Need-loop-again Inv-loop μ-loop
-loop-again c =
-    let l = c .before .before .before .before .loop in (
-      ap (λ (r : List ℤ). sets r (l .i + 1) (replicate (c .before .before .before .before .before .args .to - (l .i + 1)) (pos 0))) (c .before .store .ensures) ∙ zero-more (l .rows) (l .i) _ (c .before .before .before .loop-test .taken) ∙ l .inv .0,
-      c .before .store .kept .0 ∙ l .inv .1,
-    )
+loop-again c = (search (needs, zero-more), search (needs, _∙_))
 
 same-length : tie.Need-same-length Inv-loop μ-loop
-same-length c = c .before .loop .inv .1
+same-length c = search needs
 
 returns : tie.Need-returns Inv-loop μ-loop
-returns c = sym (zero-end _ (c .before .loop .i) _ (c .loop-test .left)) ∙ c .before .loop .inv .0
+returns c = search (needs, zero-end)
 
 pub fill-zeros-spec : {M : Type 1} → statement M
 fill-zeros-spec =

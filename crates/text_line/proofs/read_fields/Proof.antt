@@ -1,17 +1,8 @@
-use Prim.Native.Nat.{_+_}
-use mathlib.Core.Path.{_≡_, ap, _∙_}
-use mathlib.Core.Bool.{_&&_}
-use denote.Ref.{now}
-use mir.Syntax.{w64}
-use mir.Val.{SFits, toZ, ofZ}
-use mir.Facts.{toZ-ofZ}
-use lib.ListN.{length, set, length-take, length-drop}
+use mathlib.Core.Path.{_∙_}
+use lib.ListN.{length, length-take, length-drop}
 use native.Mathlib.Omega.{arith}
 use borrow.Author.Needs.{needs}
-use Rattle.text_line.specs.Line.{isNumber, held, valueOf}
-use Rattle.text_fields.specs.Spelling.{numberOf}
-use Rattle.text_fields.specs.declared.Number.{Number}
-use Rattle.text_line.proofs.FieldLaws.{FieldsRead, fields-none, fields-more, fields-last}
+use Rattle.text_line.proofs.FieldLaws.{FieldsRead, fields-none, fields-more, last-spelled, last-count, last-stored}
 use Rattle.text_line.proofs.read_fields.Statement.{statement}
 use Rattle.text_line.proofs.read_fields.Tie as tie
 
@@ -46,19 +37,10 @@ add-j : tie.Need-add-j Inv-loop μ-loop
 add-j c = search needs
 
 same-length : tie.Need-same-length Inv-loop μ-loop
-same-length c = c .before .before .store .kept .0 ∙ c .before .before .before .before .before .before .before .before .loop .inv .long
+same-length c = search (needs, _∙_)
 
 returns : tie.Need-returns Inv-loop μ-loop
-returns c =
-    let l = c .before .before .before .before .before .before .before .before .loop in
-    let v = c .before .before .before .held-by .result in
-    let k : SFits w64 v = search needs in
-    let a : v ≡ valueOf (now (c .before .before .before .before .before .before .before .first-part .result)) = c .before .before .before .held-by .ensures ∙ ap held (c .before .before .before .before .before .before .read-number .ensures) in
-    let q : c .before .before .store .last .0 ≡ set (l .rows) (c .before .before .before .before .before .before .before .before .before .before .args .base + l .j) (toZ w64 (ofZ w64 v)) = c .before .before .store .ensures in
-    let s : c .before .before .before .before .before .also-spelled .result ≡ (l .good && isNumber (numberOf (now (c .before .before .before .before .before .before .before .first-part .result)))) =
-    c .before .before .before .before .before .also-spelled .ensures ∙ ap (λ (n : Number). l .good && isNumber n) (c .before .before .before .before .before .before .read-number .ensures) in
-    let w = fields-last _ _ _ _ _ _ _ (l .inv) _ (c .before .before .before .before .before .before .before .first-part .ensures) (c .if1 .taken) in
-    ((s ∙ w .0, w .1), (rw (toZ-ofZ k, a) at q) ∙ w .2)
+returns c = ((search (needs, last-spelled), search (needs, last-count)), search (needs, last-stored))
 
 add-rest : tie.Need-add-rest Inv-loop μ-loop
 add-rest c = search needs
@@ -76,15 +58,7 @@ loop-less : tie.Need-loop-less Inv-loop μ-loop
 loop-less c = simp (length-take, length-drop) (omega arith)
 
 loop-again : tie.Need-loop-again Inv-loop μ-loop
-loop-again c =
-    let l = c .before .before .before .before .before .before .before .before .before .loop in
-    let v = c .before .before .before .before .held-by .result in
-    let k : SFits w64 v = search needs in
-    let a : v ≡ valueOf (now (c .before .before .before .before .before .before .before .before .first-part .result)) = c .before .before .before .before .held-by .ensures ∙ ap held (c .before .before .before .before .before .before .before .read-number .ensures) in
-    let q : c .before .before .before .store .last .0 ≡ set (l .rows) (c .before .before .before .before .before .before .before .before .before .before .before .args .base + l .j) (toZ w64 (ofZ w64 v)) = c .before .before .before .store .ensures in
-    let s : c .before .before .before .before .before .before .also-spelled .result ≡ (l .good && isNumber (numberOf (now (c .before .before .before .before .before .before .before .before .first-part .result)))) =
-    c .before .before .before .before .before .before .also-spelled .ensures ∙ ap (λ (n : Number). l .good && isNumber n) (c .before .before .before .before .before .before .before .read-number .ensures) in
-    rw (q, toZ-ofZ k, a, s) (fields-more _ _ _ _ _ _ _ (l .inv) _ (c .before .before .before .before .before .before .before .before .first-part .ensures) (c .before .if1 .left))
+loop-again c = search (needs, fields-more)
 
 pub read-fields-spec : {M : Type 1} → statement M
 read-fields-spec =
