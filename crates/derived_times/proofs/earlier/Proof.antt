@@ -19,7 +19,7 @@ enum-told-2 : tie.Need-enum-told-2
 enum-told-2 c = search needs
 
 returns-2 : tie.Need-returns-2
-returns-2 c = rw ((c .before .before .before .x .given .1), (c .enum-told2 .given .1))
+returns-2 c = cc
 
 returns-3 : tie.Need-returns-3
 returns-3 c = rw ((c .before .before .before .before .before .x .given .1), (c .before .before .y .given .1), lt-ltb _ _ (c .if1 .taken))
