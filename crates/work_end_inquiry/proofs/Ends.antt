@@ -1,12 +1,15 @@
 -- Work that is started in a sheet ends, if it does, within the numbers of 64 bits. Assumes nothing.
 use Prim.Native.Nat.{ℕ, zero, suc, _+_, _^_, _<_, _≤_, max, min}
-use mathlib.Core.Path.{_≡_, refl, sym, ap, ap₂, subst, _∙_}
+use mathlib.Core.Path.{_≡_, refl, sym, ap, subst, _∙_}
 use mathlib.Core.Bool.{Bool, true, false, cond, _&&_, _||_, true≢false}
 use mathlib.Core.List.{List, [], _∷_, _++_}
 use mathlib.Core.Logic.{inr}
 use mathlib.Core.Option.{none}
 use native.Mathlib.Omega.{arith}
 use borrow.Author.Tests.{leb-true, lt-ltb}
+use mir.Syntax.{w64}
+use mir.Val.{SFits, toZ, ofZ}
+use mir.Facts.{toZ-ofZ}
 use lib.IntN.{ℤ, pos, negsuc}
 use lib.Signed.{leZ}
 use Rattle.loops.specs.Numbers.{toNat}
@@ -138,16 +141,19 @@ unfolding inClass inRange between
 work-in (pos n) e = leb-true n most (and-right (leZ (negsuc 3999999999999) (pos n)) (leZ (pos n) (pos most)) (in-range (inRange g-c (pos n)) (isNone (pos n)) e))
 work-in (negsuc n) e = omega arith
 
--- ---- what the functions work out: a signed number reaches a called function as a number that is equal to it
+-- ---- what the functions work out: a signed number reaches a called function as the machine reads it back
 
-pub order-more : {start work z y : ℤ} {a b : Bool} → b ≡ inClass g-c y → a ≡ inClass t-c z → a ≡ true → z ≡ start → y ≡ work → b ≡ inOrder start work
-unfolding inOrder
-order-more {start} {work} {z} {y} g e f p q =
-    g ∙ ap (λ c. c && inClass g-c y) (sym f ∙ e) ∙ ap (λ x. inClass t-c x && inClass g-c y) p ∙ ap (λ x. inClass t-c start && inClass g-c x) q
+abbrev read : ℤ → ℤ
+read x = toZ w64 (ofZ w64 x)
 
-pub order-no : {start z : ℤ} (work : ℤ) {a : Bool} → a ≡ inClass t-c z → a ≡ false → z ≡ start → false ≡ inOrder start work
-unfolding inOrder
-order-no work e f p = ap (λ c. c && inClass g-c work) (sym f ∙ e ∙ ap (inClass t-c) p)
+module _ (start work : ℤ) {a : Bool} (e : a ≡ inClass t-c (read start)) (p : SFits w64 start) where
+  pub order-more : {b : Bool} → a ≡ true → b ≡ inClass g-c (read work) → SFits w64 work → b ≡ inOrder start work
+  unfolding inOrder
+  order-more f g q = rw (toZ-ofZ q) at g ∙ ap (λ c. c && inClass g-c work) (sym f ∙ rw (toZ-ofZ p) at e)
+
+  pub order-no : a ≡ false → false ≡ inOrder start work
+  unfolding inOrder
+  order-no f = ap (λ c. c && inClass g-c work) (sym f ∙ rw (toZ-ofZ p) at e)
 
 pub said-end : {a : calendar.WorkEnd} {e : ℕ} → a ≡ ending.End e → answer.End e ≡ said a
 said-end h = sym (ap said h)
@@ -169,15 +175,14 @@ laid-none w l e =
     })
 
 module _ (rows : List ℤ) where
-  module _ {resource z : ℤ} {a : Bool} where
-    pub laid-known : {w w′ : List ℕ} {r n : ℕ} → Laid w w′ 0 r (windows (sheet rows) 15 n) → n ≡ toNat z → a ≡ inClass id-c z → a ≡ true → z ≡ resource
-        → Laid w w′ 0 r (inquiredCalendar rows resource)
+  module _ (resource : ℤ) {a : Bool} (e : a ≡ inClass id-c (read resource)) (p : SFits w64 resource) where
+    pub laid-known : {w w′ : List ℕ} {r n : ℕ} → Laid w w′ 0 r (windows (sheet rows) 15 n) → n ≡ toNat (read resource) → a ≡ true → Laid w w′ 0 r (inquiredCalendar rows resource)
     unfolding inquiredCalendar
-    laid-known h g e f p = rw (sym (ap (inClass id-c) p) ∙ sym e ∙ f, sym (g ∙ ap toNat p)) h
+    laid-known h g f = let c : inClass id-c resource ≡ true = sym (rw (toZ-ofZ p) at e) ∙ f in rw (c, sym (rw (toZ-ofZ p) at g)) h
 
-    pub laid-unknown : {w : List ℕ} → a ≡ inClass id-c z → a ≡ false → length w ≡ 2400 → z ≡ resource → Laid w w 0 0 (inquiredCalendar rows resource)
+    pub laid-unknown : {w : List ℕ} → a ≡ false → length w ≡ 2400 → Laid w w 0 0 (inquiredCalendar rows resource)
     unfolding inquiredCalendar
-    laid-unknown {w} e f l p = laid-none w l (rw (sym (ap (inClass id-c) p) ∙ sym e ∙ f))
+    laid-unknown {w} f l = let c : inClass id-c resource ≡ false = sym (rw (toZ-ofZ p) at e) ∙ f in laid-none w l (rw c)
 
   module _ (id : ℕ) {f : Found} (e : foundOf f ≡ placeOf rows 11 id) where
     pub laid-absent : {w : List ℕ} → f ≡ Nothing → refusalOf rows ≡ none → length w ≡ 2400 → Laid w w 0 0 (windows (sheet rows) 15 id)
@@ -218,17 +223,11 @@ module _ (rows : List ℤ) (resource start work : ℤ) (ok : refusalOf rows ≡ 
       ∙ said-as-is (jointWorkEnd clock (inquiredCalendar rows resource ∷ []) (pos (toNat start)) work) fits-inquiry
       ∙ ap (λ x. ends (jointWorkEnd clock (inquiredCalendar rows resource ∷ []) x work)) same-start
 
-  pub ending-said : {r : InquiryAnswer} {a : calendar.WorkEnd} {s m : ℕ} {x z y : ℤ} {w₀ w : List ℕ} → Laid w₀ w 0 m (inquiredCalendar rows x) → s ≡ toNat z
-      → a ≡ layout.saying (jointWorkEnd clock (layout.calendarsOf w (0 ∷ m ∷ [])) (pos s) y) → r ≡ said a → x ≡ resource → z ≡ start → y ≡ work
+  pub ending-said : {r : InquiryAnswer} {a : calendar.WorkEnd} {s m : ℕ} {w₀ w : List ℕ} → Laid w₀ w 0 m (inquiredCalendar rows (read resource)) → s ≡ toNat (read start)
+      → a ≡ layout.saying (jointWorkEnd clock (layout.calendarsOf w (0 ∷ m ∷ [])) (pos s) (read work)) → r ≡ said a → SFits w64 resource → SFits w64 start → SFits w64 work
       → outcomeOf r ≡ ends (jointWorkEnd clock (inquiredCalendar rows resource ∷ []) start work)
-  ending-said {r} {a} {s} {m} {x} {z} {y} {w₀} {w} l h e f o p t =
-      ap outcomeOf
-      (f
-      ∙ ap said
-      (e
-      ∙ ap (λ (x : ℕ). layout.saying (jointWorkEnd clock (layout.calendarsOf w (0 ∷ m ∷ [])) (pos x) y)) (h ∙ ap toNat p)
-      ∙ ap (λ x. layout.saying (jointWorkEnd clock (layout.calendarsOf w (0 ∷ m ∷ [])) (pos (toNat start)) x)) t))
-      ∙ ending-is w m (l .calendar ∙ ap (inquiredCalendar rows) o)
+  ending-said {m = m} {w = w} l h e f o p q =
+      ap outcomeOf (f ∙ ap said (rw (toZ-ofZ q, h, toZ-ofZ p) at e)) ∙ ending-is w m (l .calendar ∙ ap (inquiredCalendar rows) (toZ-ofZ o))
 
 module _ (rows : List ℤ) {v : Verdict} where
   pub no-refusal : verdictOf v ≡ refusalOf rows → v ≡ verdict.Fine → refusalOf rows ≡ none
@@ -246,13 +245,16 @@ module _ (rows : List ℤ) {v : Verdict} where
   unfolding inquiry inquiryRefusal
   inquiry-refused resource start work e f = rw (sym e ∙ ap verdictOf f)
 
-  module _ {start work z y : ℤ} {a : Bool} (h : a ≡ inOrder z y) where
-    pub inquiry-own : (resource : ℤ) → a ≡ false → verdictOf v ≡ refusalOf rows → v ≡ verdict.Fine → z ≡ start → y ≡ work
-        → refused (record { number = 3; place = 0 }) ≡ inquiry rows resource start work
-    unfolding inquiry inquiryRefusal
-    inquiry-own resource i e f p q = rw (no-refusal e f, sym (ap₂ inOrder p q) ∙ sym h ∙ i)
+  module _ (resource start work : ℤ) {a : Bool} (h : a ≡ inOrder (read start) (read work)) (e : verdictOf v ≡ refusalOf rows) (f : v ≡ verdict.Fine)
+      (p : SFits w64 start) (q : SFits w64 work) where
+    in-order : inOrder start work ≡ a
+    in-order = sym (rw (toZ-ofZ p, toZ-ofZ q) at h)
 
-    pub inquiry-ends : {resource x : ℤ} {r : InquiryOutcome} → r ≡ ends (jointWorkEnd clock (inquiredCalendar rows x ∷ []) z y) → a ≡ true → verdictOf v ≡ refusalOf rows → v ≡ verdict.Fine
-        → x ≡ resource → z ≡ start → y ≡ work → r ≡ inquiry rows resource start work
+    pub inquiry-own : a ≡ false → refused (record { number = 3; place = 0 }) ≡ inquiry rows resource start work
     unfolding inquiry inquiryRefusal
-    inquiry-ends g i e f o p q = g ∙ rw (no-refusal e f, sym (ap₂ inOrder p q) ∙ sym h ∙ i, o, p, q)
+    inquiry-own i = rw (no-refusal e f, in-order ∙ i)
+
+    pub inquiry-ends : {r : InquiryOutcome} → r ≡ ends (jointWorkEnd clock (inquiredCalendar rows (read resource) ∷ []) (read start) (read work)) → a ≡ true → SFits w64 resource
+        → r ≡ inquiry rows resource start work
+    unfolding inquiry inquiryRefusal
+    inquiry-ends g i o = rw (toZ-ofZ o, toZ-ofZ p, toZ-ofZ q) at g ∙ rw (no-refusal e f, in-order ∙ i)

@@ -1,4 +1,3 @@
-use mir.ValLaws.{toZ-ofZ}
 use Rattle.work_end_inquiry.proofs.Ends.{ending-said}
 use borrow.Author.Needs.{needs}
 use Rattle.work_end_inquiry.proofs.ending.Statement.{statement}
@@ -23,7 +22,7 @@ answer-of-requires : tie.Need-answer-of-requires
 answer-of-requires c κs = search needs
 
 returns : tie.Need-returns
-returns c = search (needs, ending-said, toZ-ofZ)
+returns c = search (needs, ending-said)
 
 pub ending-spec : {M : Type 1} → statement M
 ending-spec =

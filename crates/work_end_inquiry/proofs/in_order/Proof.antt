@@ -1,4 +1,3 @@
-use mir.ValLaws.{toZ-ofZ}
 use Rattle.work_end_inquiry.proofs.Ends.{order-more, order-no}
 use borrow.Author.Needs.{needs}
 use Rattle.work_end_inquiry.proofs.in_order.Statement.{statement}
@@ -14,10 +13,10 @@ in-class-requires-2 : tie.Need-in-class-requires-2
 in-class-requires-2 c κs = search needs
 
 returns : tie.Need-returns
-returns c = search (needs, order-more, toZ-ofZ)
+returns c = search (needs, order-more)
 
 returns-2 : tie.Need-returns-2
-returns-2 c = search (needs, order-no, toZ-ofZ)
+returns-2 c = search (needs, order-no)
 
 pub in-order-spec : {M : Type 1} → statement M
 in-order-spec =

@@ -1,4 +1,3 @@
-use mir.ValLaws.{toZ-ofZ}
 use Rattle.work_end_inquiry.proofs.Ends.{laid-known, laid-unknown}
 use borrow.Author.Needs.{needs}
 use Rattle.work_end_inquiry.proofs.resource_calendar.Statement.{statement}
@@ -17,10 +16,10 @@ resource-windows-requires : tie.Need-resource-windows-requires
 resource-windows-requires c κs = search needs
 
 returns : tie.Need-returns
-returns c = search (needs, laid-known, toZ-ofZ)
+returns c = search (needs, laid-known)
 
 returns-2 : tie.Need-returns-2
-returns-2 c = search (needs, laid-unknown, toZ-ofZ)
+returns-2 c = search (needs, laid-unknown)
 
 pub resource-calendar-spec : {M : Type 1} → statement M
 resource-calendar-spec =

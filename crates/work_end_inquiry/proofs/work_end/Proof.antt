@@ -1,5 +1,4 @@
 use Rattle.sheet.proofs.Naming.{told}
-use mir.ValLaws.{toZ-ofZ}
 use Rattle.work_end_inquiry.proofs.Ends.{no-refusal, kinds-of, owned-of, inquiry-refused, inquiry-own, inquiry-ends}
 use borrow.Author.Needs.{needs}
 use Rattle.work_end_inquiry.proofs.work_end.Statement.{statement}
@@ -21,13 +20,13 @@ ending-requires : tie.Need-ending-requires
 ending-requires c κs = search (needs, no-refusal, kinds-of, owned-of, told)
 
 returns : tie.Need-returns
-returns c = search (needs, inquiry-ends, toZ-ofZ)
+returns c = search (needs, inquiry-ends)
 
 returns-2 : tie.Need-returns-2
 returns-2 c = search (needs, inquiry-refused)
 
 returns-3 : tie.Need-returns-3
-returns-3 c = search (needs, inquiry-own, toZ-ofZ)
+returns-3 c = search (needs, inquiry-own)
 
 pub work-end-spec : {M : Type 1} → statement M
 work-end-spec =
