@@ -23,7 +23,7 @@ duration-requires : tie.Need-duration-requires
 duration-requires c κs = search needs
 
 returns : tie.Need-returns
-returns c = search (needs, duration-found)
+returns c = search duration-found
 
 pub duration-on-spec : {M : Type 1} → statement M
 duration-on-spec =
