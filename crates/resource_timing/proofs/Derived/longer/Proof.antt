@@ -13,7 +13,7 @@ enum-told : tie.Need-enum-told
 enum-told c = search needs
 
 returns : tie.Need-returns
-returns c = search (needs, first-large)
+returns c = search first-large
 
 total-ms-requires-2 : tie.Need-total-ms-requires-2
 total-ms-requires-2 c κs = search needs
@@ -25,13 +25,13 @@ enum-told-2 : tie.Need-enum-told-2
 enum-told-2 c = search needs
 
 returns-2 : tie.Need-returns-2
-returns-2 c = search (needs, next-large)
+returns-2 c = search next-large
 
 returns-3 : tie.Need-returns-3
-returns-3 c = search (needs, next-longer)
+returns-3 c = search next-longer
 
 returns-4 : tie.Need-returns-4
-returns-4 c = search (needs, first-longer)
+returns-4 c = search first-longer
 
 pub longer-spec : {M : Type 1} → statement M
 longer-spec =

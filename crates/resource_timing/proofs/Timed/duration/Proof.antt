@@ -13,7 +13,7 @@ enum-known-fixed : tie.Need-enum-known-fixed
 enum-known-fixed c = search needs
 
 returns : tie.Need-returns
-returns c = search (needs, no-fixed)
+returns c = search no-fixed
 
 returns-2 : tie.Need-returns-2
 returns-2 c = search needs

@@ -16,10 +16,10 @@ with-requires : tie.Need-with-requires
 with-requires c κs = search needs
 
 returns : tie.Need-returns
-returns c = search (needs, on-speed)
+returns c = search on-speed
 
 returns-2 : tie.Need-returns-2
-returns-2 c = search (needs, on-fixed)
+returns-2 c = search on-fixed
 
 pub on-spec : {M : Type 1} → statement M
 on-spec =
