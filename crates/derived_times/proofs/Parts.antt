@@ -8,6 +8,8 @@ use native.Mathlib.Omega.{arith}
 use mir.Syntax.{w64}
 use mir.Val.{SFits, toZ, ofZ}
 use mir.Facts.{toZ-ofZ}
+use borrow.Author.Tests.{lt-ltb, le-ltb}
+use lib.Dec.{ltb}
 use lib.IntN.{ℤ}
 use lib.ListN.{getD, set, replicate}
 use lib.Ieee.{Float, binary64, ofBits}
@@ -62,6 +64,14 @@ found-none e f = sym e ∙ ap foundOf f
 
 pub found-some : {r : Found} {x : Option ℕ} {i : ℕ} → foundOf r ≡ x → r ≡ At i → x ≡ some i
 found-some e f = sym e ∙ ap foundOf f
+
+-- the earlier of two places that were found, by the code's test
+module _ {i j : ℕ} {r e : Option ℕ} where
+  pub earlier-first : i < j → r ≡ some i → e ≡ cond (ltb i j) (some i) (some j) → r ≡ e
+  earlier-first l p q = let h : cond (ltb i j) (some i) (some j) ≡ some i = rw (lt-ltb i j l) in p ∙ sym (q ∙ h)
+
+  pub earlier-second : j ≤ i → r ≡ some j → e ≡ cond (ltb i j) (some i) (some j) → r ≡ e
+  earlier-second l p q = let h : cond (ltb i j) (some i) (some j) ≡ some j = rw (le-ltb i j l) in p ∙ sym (q ∙ h)
 
 module _ (rows : List ℤ) where
   -- ---- the activity's row
