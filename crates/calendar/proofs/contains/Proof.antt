@@ -1,4 +1,3 @@
-use borrow.Author.Needs.{needs}
 -- `calendar::contains` meets its contract. Assumes nothing.
 use borrow.Author.Tests.{lt-ltb, le-ltb}
 use Rattle.calendar.specs.Calendar.{contains}
@@ -11,7 +10,7 @@ returns c = simp (lt-ltb _ _ (c .if1 .taken))
 
 returns-2 : tie.Need-returns-2
 unfolding contains
-returns-2 c = search (needs, le-ltb)
+returns-2 c = search le-ltb
 
 pub contains-spec : {M : Type 1} → statement M
 contains-spec = tie.close (tie.spec returns returns-2)

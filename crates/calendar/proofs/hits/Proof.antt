@@ -1,4 +1,3 @@
-use borrow.Author.Needs.{needs}
 -- `calendar::hits` meets its contract. Assumes nothing.
 use borrow.Author.Tests.{lt-ltb, le-ltb}
 use Rattle.calendar.specs.Calendar.{hits}
@@ -11,7 +10,7 @@ returns c = simp (le-ltb _ _ (c .if1 .taken))
 
 returns-2 : tie.Need-returns-2
 unfolding hits
-returns-2 c = search (needs, lt-ltb)
+returns-2 c = search lt-ltb
 
 pub hits-spec : {M : Type 1} → statement M
 hits-spec = tie.close (tie.spec returns returns-2)
