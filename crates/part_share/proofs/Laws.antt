@@ -116,15 +116,18 @@ module _ (ms work d : ℕ) (M : ms ≤ 4000000000000) (W : work ≤ 400000000000
     pub sum-fits : Fits w64 (lowOf ms work d)
     sum-fits = let k = known in record { fits = omega arith }
 
-    pub twice-fits : Fits w64 (lowOf ms work d % d * 2)
-    twice-fits = let k = known in record { fits = omega arith }
+    rest-times : (k : ℕ) → k ≤ 2 → lowOf ms work d % d * k ≤ 4000000000000 * 2
+    rest-times k l = let m = known .rest in mul-le-mul {n₂ = 4000000000000} {m₂ = 2} (omega arith) l
+
+    pub twice-fits : (k : ℕ) → k ≤ 2 → Fits w64 (lowOf ms work d % d * k)
+    twice-fits k l = record { fits = omega (arith, rest-times k l) }
 
     module _ (l : highOf ms work / d < 4294967296) where
       pub digits-fit : Fits w64 (highOf ms work / d * 2097152 + lowOf ms work d / d)
       digits-fit = let k = known in record { fits = omega arith }
 
-      pub share-fits : Fits w64 (highOf ms work / d * 2097152 + lowOf ms work d / d + lowOf ms work d % d * 2 / d)
-      share-fits = let k = known in record { fits = omega arith }
+      pub share-fits : (k : ℕ) → k ≤ 2 → Fits w64 (highOf ms work / d * 2097152 + lowOf ms work d / d + lowOf ms work d % d * k / d)
+      share-fits k m = let q = known in record { fits = omega (arith, rest-times k m, div-le-self (lowOf ms work d % d * k) d) }
 
 -- ---- any times
 
