@@ -1,5 +1,4 @@
 -- `overlap::ahead` meets its contract. Assumes nothing.
-use borrow.Author.Needs.{needs}
 use Rattle.overlap.proofs.Laws.{span-held, cut-above, cut-below, cut-le, cut-held, cut-fits, ahead-more, more-within, ahead-same}
 use lib.Ieee.{inFloat}
 use Rattle.overlap.proofs.ahead.Statement.{statement}
@@ -10,20 +9,20 @@ unfolding inFloat
 int-to-float-x c = search span-held
 
 truncating-f64-to-u64-requires : tie.Need-truncating-f64-to-u64-requires
-truncating-f64-to-u64-requires c κs = (search (needs, cut-above), search (needs, cut-below))
+truncating-f64-to-u64-requires c κs = (search cut-above, search cut-below)
 
 int-to-float-if1 : tie.Need-int-to-float-if1
 unfolding inFloat
-int-to-float-if1 c = search (needs, cut-held)
+int-to-float-if1 c = search cut-held
 
 add-result : tie.Need-add-result
-add-result c = search (needs, cut-fits)
+add-result c = search cut-fits
 
 returns : tie.Need-returns
-returns c = (search (needs, ahead-more), search (needs, more-within))
+returns c = (search ahead-more, search more-within)
 
 returns-2 : tie.Need-returns-2
-returns-2 c = (search (needs, ahead-same), search (needs, cut-le))
+returns-2 c = (search ahead-same, search cut-le)
 
 pub ahead-spec : {M : Type 1} → statement M
 ahead-spec = tie.close (tie.spec int-to-float-x truncating-f64-to-u64-requires int-to-float-if1 add-result returns returns-2)

@@ -1,5 +1,4 @@
 -- `overlap::behind` meets its contract. Assumes nothing.
-use borrow.Author.Needs.{needs}
 use Rattle.overlap.proofs.Laws.{span-held, cut-above, cut-below, cut-is, cut-le}
 use lib.Ieee.{inFloat}
 use Rattle.overlap.proofs.behind.Statement.{statement}
@@ -10,10 +9,10 @@ unfolding inFloat
 int-to-float c = search span-held
 
 truncating-f64-to-u64-requires : tie.Need-truncating-f64-to-u64-requires
-truncating-f64-to-u64-requires c κs = (search (needs, cut-above), search (needs, cut-below))
+truncating-f64-to-u64-requires c κs = (search cut-above, search cut-below)
 
 returns : tie.Need-returns
-returns c = (search (needs, cut-is), search (needs, cut-le))
+returns c = (search cut-is, search cut-le)
 
 pub behind-spec : {M : Type 1} → statement M
 behind-spec = tie.close (tie.spec int-to-float truncating-f64-to-u64-requires returns)
