@@ -22,10 +22,10 @@ returns-2 : tie.Need-returns-2
 returns-2 c = cc
 
 returns-3 : tie.Need-returns-3
-returns-3 c = earlier-first (c .if1 .taken) (cc) (cc)
+returns-3 c = earlier-first (c .if1 .taken) (search needs) (cc)
 
 returns-4 : tie.Need-returns-4
-returns-4 c = earlier-second (c .if1 .left) (cc) (cc)
+returns-4 c = earlier-second (c .if1 .left) (search needs) (cc)
 
 pub earlier-spec : {M : Type 1} → statement M
 earlier-spec =
