@@ -1,7 +1,7 @@
 -- One window more, and what all of them say. Assumes nothing.
 use Prim.Native.Nat.{ℕ, _+_, _≤_, max, min}
 use mathlib.Core.Path.{_≡_, sym, ap, _∙_}
-use mathlib.Core.Bool.{Bool, not, _&&_, _||_, or-false}
+use mathlib.Core.Bool.{Bool, true, false, not, _&&_, _||_, or-false}
 use mathlib.Core.List.{List, [], _∷_, _++_, map}
 use native.Mathlib.Omega.{arith}
 use lib.Dec.{eqb}
@@ -19,26 +19,35 @@ use Rattle.calendar.proofs.Places.{below, below-none, below-more, below
 any-more : (p : Window ℤ → Bool) (l : Calendar ℤ) (x : Window ℤ) → anyOf p (l ++ x ∷ []) ≡ (anyOf p l || p x)
 any-more p l x = any-append p l (x ∷ []) ∙ ap (λ b. anyOf p l || b) (unfold anyOf in or-false (p x))
 
-pub fit-more : (l : Calendar ℤ) (a e : ℕ) (x : TimeWindow) {s : Fit} {o h c : Bool} → s ≡ fitOf l a e
+pub fit-more : (l : Calendar ℤ) (a e : ℕ) (x : TimeWindow) {s : Fit} {o h c u v : Bool} → s ≡ fitOf l a e
     → o ≡ (s .listed || eqb (x .closed) 0)
-    → h ≡ (s .held || (isOpen (windowOf x) && covers clock (pos (s .start)) (pos (s .end)) (windowOf x)))
-    → c ≡ (s .hit || (isClosed (windowOf x) && hits clock (pos (s .start)) (pos (s .end)) (windowOf x)))
+    → u ≡ (isOpen (windowOf x) && covers clock (pos (s .start)) (pos (s .end)) (windowOf x)) → h ≡ (s .held || u)
+    → v ≡ (isClosed (windowOf x) && hits clock (pos (s .start)) (pos (s .end)) (windowOf x)) → c ≡ (s .hit || v)
     → _≡_ {A = Fit} (record { start = s .start; end = s .end; listed = o; held = h; hit = c }) (fitOf (l ++ windowOf x ∷ []) a e)
 unfolding fitOf
-fit-more l a e x q f g k =
+fit-more l a e x q f m g n k =
     rw (
       f,
       g,
+      m,
       k,
+      n,
       q,
       any-more isOpen l (windowOf x),
       any-more (λ y. isOpen y && covers clock (pos a) (pos e) y) l (windowOf x),
       any-more (λ y. isClosed y && hits clock (pos a) (pos e) y) l (windowOf x),
     )
 
-pub fits-whole : (l : Calendar ℤ) (a e : ℕ) {s : Fit} → s ≡ fitOf l a e → ((not (s .listed) || s .held) && not (s .hit)) ≡ intervalFits clock l (pos a) (pos e)
+fits-whole : (l : Calendar ℤ) (a e : ℕ) {s : Fit} → s ≡ fitOf l a e → ((not (s .listed) || s .held) && not (s .hit)) ≡ intervalFits clock l (pos a) (pos e)
 unfolding fitOf intervalFits
 fits-whole l a e q = rw q
+
+module _ (l : Calendar ℤ) (a e : ℕ) {s : Fit} (q : s ≡ fitOf l a e) {b : Bool} (h : b ≡ (not (s .listed) || s .held)) where
+  pub fits-yes : b ≡ true → not (s .hit) ≡ intervalFits clock l (pos a) (pos e)
+  fits-yes f = ap (λ b. b && not (s .hit)) (sym f ∙ h) ∙ fits-whole l a e q
+
+  pub fits-no : b ≡ false → b ≡ intervalFits clock l (pos a) (pos e)
+  fits-no f = f ∙ ap (λ b. b && not (s .hit)) (sym f ∙ h) ∙ fits-whole l a e q
 
 -- ---- the windows at some places, one after the other
 

@@ -2,7 +2,7 @@
 use Prim.Native.Nat.{ℕ, zero, suc, _+_, _*_, _<_, _≤_, max, min, _/_}
 use mathlib.Core.Path.{_≡_, refl, sym, ap, _∙_}
 use mathlib.Core.Logic.{⊎-elim}
-use mathlib.Core.Bool.{true}
+use mathlib.Core.Bool.{Bool, true}
 use mathlib.Core.List.{List, [], _∷_, _++_, foldl, foldl-append}
 use native.Mathlib.Numerals.{add-one}
 use native.Mathlib.Omega.{arith}
@@ -12,6 +12,9 @@ use borrow.Author.Tests.{le-leb, lt-leb}
 use Rattle.loops.specs.Lists.{given}
 use Rattle.loops.specs.Range.{collect}
 use Rattle.calendar.specs.declared.TimeWindow.{TimeWindow}
+use Rattle.calendar.specs.declared.Here.{Here}
+use Rattle.calendar.specs.declared.Joint.{Joint}
+use Rattle.calendar.specs.inner.Scan.{allows, lookAt, withCalendar}
 use Rattle.calendar.specs.Layout.{windowsIn, windowAt, windowsOf, listsOf}
 use Rattle.calendar.proofs.Tests.{le-or-lt}
 
@@ -41,9 +44,9 @@ module _ (w : List ℕ) (from : ℕ) where
     pub scan-start : b ≡ foldl f b (below w from from)
     scan-start = sym (ap (foldl f b) (below-none from (omega arith)))
 
-    pub scan-more : (i : ℕ) {s r : S} → from ≤ i → s ≡ foldl f b (below w from i) → r ≡ f s (windowAt w i) → r ≡ foldl f b (below w from (i + 1))
-    scan-more i l e e′ =
-        e′ ∙ ap (λ z. f z (windowAt w i)) e
+    pub scan-more : (i : ℕ) {s r : S} {x : TimeWindow} → from ≤ i → s ≡ foldl f b (below w from i) → x ≡ windowAt w i → r ≡ f s x → r ≡ foldl f b (below w from (i + 1))
+    scan-more i {s} l e g e′ =
+        e′ ∙ ap (f s) g ∙ ap (λ z. f z (windowAt w i)) e
         ∙ sym (ap (foldl f b) (below-more i l) ∙ foldl-append f b (below w from i) (windowAt w i ∷ []))
 
     pub scan-end : (to n i : ℕ) {s : S} → from ≤ i → i ≤ max n from → n ≤ i → n ≡ min to (windowsIn w) → s ≡ foldl f b (below w from i) → s ≡ foldl f b (windowsOf w from to)
@@ -59,7 +62,7 @@ module _ (w cs : List ℕ) {S : Type 0} (f : S → List TimeWindow → S) (b : S
   unfolding listsBelow collect
   joint-start = refl
 
-  pub joint-more :
+  joint-more :
       (j : ℕ) {s r : S}
       → s ≡ foldl f b (listsBelow w cs j)
       → r ≡ f s (windowsOf w (getD cs (2 * j) 0) (getD cs (2 * j + 1) 0))
@@ -72,3 +75,14 @@ module _ (w cs : List ℕ) {S : Type 0} (f : S → List TimeWindow → S) (b : S
   pub joint-end : (n j : ℕ) {s : S} → j ≤ n → n ≤ j → n ≡ length cs / 2 → s ≡ foldl f b (listsBelow w cs j) → s ≡ foldl f b (listsOf w cs)
   unfolding listsOf listsBelow
   joint-end n j l l′ e h = let z : j ≡ length cs / 2 = omega arith in h ∙ ap (λ (k : ℕ). foldl f b (listsBelow w cs k)) z
+
+-- one calendar more, as it is looked at
+pub joint-next : (w cs : List ℕ) (t b j : ℕ) {s r : Joint} {x : Here}
+    → r ≡ withCalendar s x → x ≡ lookAt (windowsOf w (getD cs (2 * j) 0) (getD cs (2 * j + 1) 0)) t (s .stop)
+    → s ≡ foldl (λ s l. withCalendar s (lookAt l t (s .stop))) (record { working = true; stop = b }) (listsBelow w cs j)
+    → r ≡ foldl (λ s l. withCalendar s (lookAt l t (s .stop))) (record { working = true; stop = b }) (listsBelow w cs (j + 1))
+joint-next w cs t b j {s} h g e = joint-more w cs (λ s l. withCalendar s (lookAt l t (s .stop))) (record { working = true; stop = b }) j e (h ∙ ap (withCalendar s) g)
+
+pub calendar-working : (s : Joint) (x : Here) {r : Bool} → s .working ≡ true → r ≡ allows (x .most) → _≡_ {A = Joint} (record { working = r; stop = x .stop }) (withCalendar s x)
+unfolding withCalendar
+calendar-working s x e g = rw (e, g)

@@ -91,3 +91,13 @@ pub joint-most : (ls : List (List TimeWindow)) (t : ℕ) → allWork ls t ≡ jo
 unfolding allWork jointWorking allOf
 joint-most [] t = refl
 joint-most (l ∷ ls) t = ap₂ _&&_ (works-most l t) (joint-most ls t)
+
+-- ---- what an open window says
+module _ (hit : Bool) {closed : ℕ} {held : Bool} (e : closed ≡ 0) where
+  pub stands-here : held ≡ true → 2 ≡ standing closed held hit
+  unfolding standing
+  stands-here f = rw (e, f)
+
+  pub stands-elsewhere : held ≡ false → 1 ≡ standing closed held hit
+  unfolding standing
+  stands-elsewhere f = rw (e, f)

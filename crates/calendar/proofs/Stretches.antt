@@ -1,5 +1,5 @@
 -- What one pass finds holds up to the stop that it names: from the instant up to there no window starts or ends. Assumes nothing.
-use Prim.Native.Nat.{ℕ, zero, suc, _+_, _*_, _/_, _<_, _≤_, max, min}
+use Prim.Native.Nat.{ℕ, zero, suc, _+_, _*_, _/_, _^_, _<_, _≤_, max, min}
 use mathlib.Core.Path.{_≡_, refl, sym, ap, ap₂, subst, _∙_}
 use mathlib.Core.Logic.{_⊎_, inl, inr}
 use mathlib.Core.Bool.{Bool, true, false, cond, _&&_, and-assoc, and-true}
@@ -48,10 +48,16 @@ nearer-min t x b m = go (ltb t x) (ltb x (min b m)) (ltb x m) refl refl
     go false v′ v″ e e′ = refl
 
 -- the nearer of two instants may be found before b is known, and held to b then
-pub nearer-first : (t x y b m : ℕ) → b ≤ m → min b (nearer t y (nearer t x m)) ≡ nearer t y (nearer t x b)
+nearer-first : (t x y b m : ℕ) → b ≤ m → min b (nearer t y (nearer t x m)) ≡ nearer t y (nearer t x b)
 nearer-first t x y b m l =
     let e : min b m ≡ b = omega arith in
     sym (nearer-min t y b (nearer t x m)) ∙ ap (nearer t y) (sym (nearer-min t x b m) ∙ ap (nearer t x) e)
+
+-- the window's own stop, then the nearer of the two
+pub window-more : (t : ℕ) (s : Here) (x : TimeWindow) {m n p q r : ℕ} → n ≡ max (s .most) m → m ≡ standingAt t x → r ≡ min (s .stop) q → q ≡ nearer t (x .end) p
+    → p ≡ nearer t (x .start) 18446744073709551615 → s .stop < 2 ^ 64 → _≡_ {A = Here} (record { most = n; stop = r }) (withWindow t s x)
+unfolding withWindow
+window-more t s x k h e g f l = rw (k, h, e, g, f, nearer-first t (x .start) (x .end) (s .stop) 18446744073709551615 (omega arith))
 
 -- no start and no end of a window lies after t and before r
 abbrev Clear : ℕ → ℕ → List TimeWindow → Type 0
@@ -169,9 +175,13 @@ joint-stretch ls t b =
 
 -- ---- what the passes say of the calendars
 
-pub works-look : (w : List ℕ) (from to t b : ℕ) → allows (lookAt (windowsOf w from to) t b .most) ≡ isWorkingTime clock (calendarOf w from to) (pos t)
+works-look : (w : List ℕ) (from to t b : ℕ) → allows (lookAt (windowsOf w from to) t b .most) ≡ isWorkingTime clock (calendarOf w from to) (pos t)
 unfolding calendarOf
 works-look w from to t b = ap allows (look-most (windowsOf w from to) t b) ∙ works-most (windowsOf w from to) t
+
+pub works-at : (w : List ℕ) (from to t b : ℕ) {h : Here} {r : Bool} → h ≡ lookAt (windowsOf w from to) t b → r ≡ allows (h .most)
+    → r ≡ isWorkingTime clock (calendarOf w from to) (pos t)
+works-at w from to t b e g = g ∙ ap (λ (z : Here). allows (z .most)) e ∙ works-look w from to t b
 
 -- joint working time, as a test of numbers
 abbrev pub jointAt : List ℕ → List ℕ → ℕ → Bool

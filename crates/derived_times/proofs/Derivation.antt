@@ -16,16 +16,17 @@ use Rattle.loops.proofs.Walks.{fold-first, fold-next, stands-end}
 use Rattle.rows.specs.Cells.{rowCount, num, is}
 use Rattle.sheet.specs.Places.{placeOf}
 use Rattle.sheet.specs.declared.Found.{Found}
-use Rattle.sheet.specs.declared.Found.the-variants.{At}
+use Rattle.sheet.specs.declared.Found.the-variants.{At, Nothing}
 use Rattle.sheet.specs.inner.Found.{foundOf}
 use Rattle.sheet.specs.inner.Accepted.{Accepted}
 use Rattle.owners.specs.inner.Owners.{ownPlace, ownedBy}
 use Rattle.resource_timing.specs.declared.ResourceTiming.{ResourceTiming}
 use Rattle.resource_timing.specs.declared.Piece.{Piece}
 use Rattle.resource_timing.specs.declared.Timed.{Timed}
+use Rattle.resource_timing.specs.declared.Derived.{Derived}
 use Rattle.resource_timing.specs.Durations.{TimedSoFar, start, timedOn, pieceTiming, pieceDuration, timed, timedDuration}
-use Rattle.resource_timing.specs.inner.Limits.{timedOf, timedWith, PieceAmounts}
-use Rattle.resource_timing.proofs.Laws.{timed-known}
+use Rattle.resource_timing.specs.inner.Limits.{within, timedOf, timedWith, derivedOf, PieceAmounts}
+use Rattle.resource_timing.proofs.Laws.{timed-known, derived-known}
 use Rattle.model.specs.Sheet.{sheet}
 use Rattle.model.specs.Activity.{pieceOf, timing, durationOn}
 use Rattle.model.specs.Schedule.{Assignment, assignmentAt, assignmentsBelow, assignments}
@@ -144,12 +145,18 @@ module _ (rows : List ℤ) where
       unfolding timedAt
       timed-here i p q f = rw (p, q, timing-at (some i) p f)
 
-      pub untimed-here : inPiece rows k j ≡ true → heldAt rows j ≡ false → firstPlace (timedBy rows (num rows j 1) (num rows j 3)) (rowCount rows) ≡ none
+      untimed-here : inPiece rows k j ≡ true → heldAt rows j ≡ false → firstPlace (timedBy rows (num rows j 1) (num rows j 3)) (rowCount rows) ≡ none
           → g ≡ timedAt rows k piece g j
       unfolding timedAt
       untimed-here p q f = rw (p, q, timing-at none p f)
 
       -- the same, of what the code found
+      pub timed-still : {t : Timed} → t ≡ timedOf g → g ≡ timedAt rows k piece g j → t ≡ timedOf (timedAt rows k piece g j)
+      timed-still e h = e ∙ ap timedOf h
+
+      pub untimed-found : {r : Found} → foundOf r ≡ timingPlace rows j → r ≡ Nothing → inPiece rows k j ≡ true → heldAt rows j ≡ false → g ≡ timedAt rows k piece g j
+      untimed-found f w p q = untimed-here p q (timing-row rows j (piece-kind rows k j p) (sym (ap foundOf w) ∙ f))
+
       pub timed-found : {t t′ : Timed} {x : ResourceTiming} {r : Found} {i : ℕ} → t ≡ timedOf g → t′ ≡ timedWith t piece x → x ≡ timingOf rows i
           → r ≡ At i → foundOf r ≡ timingPlace rows j → inPiece rows k j ≡ true → heldAt rows j ≡ false → Accepted rows → PieceAmounts piece
           → t′ ≡ timedOf (timedAt rows k piece g j)
@@ -162,7 +169,7 @@ module _ (rows : List ℤ) where
 
   -- ---- the whole derivation
 
-  pub derived-is : Accepted rows → (k o : ℕ) (piece : Piece) → k < rowCount rows → is rows k 0 23 ≡ true → placeOf rows 2 (num rows k 1) ≡ some o
+  derived-is : Accepted rows → (k o : ℕ) (piece : Piece) → k < rowCount rows → is rows k 0 23 ≡ true → placeOf rows 2 (num rows k 1) ≡ some o
       → piece ≡ pieceOf (sheet rows) (activityOf rows o) (partAt rows k)
       → timed (pieceDuration piece (columnsOf rows o 4)) (fold (timedAt rows k piece) start (rowCount rows))
       ≡ derived (sheet rows) (assignmentOf rows k) (activityOf rows o)
@@ -170,6 +177,18 @@ module _ (rows : List ℤ) where
   derived-is acc k o piece l h e p =
       ap (timed (pieceDuration piece (columnsOf rows o 4))) (sym (fold-is k piece acc l h (num rows o 1) (activity-id rows (num rows k 1) o e)))
       ∙ ap (λ z. timed (pieceDuration z (columnsOf rows o 4)) (foldl timedOn start (map (pieceTiming z) (each (λ r. option (timing (sheet rows) (num rows o 1) r) [] (λ t. t ∷ [])) (runsOn (sheet rows) (assignmentOf rows k)))))) p
+
+  -- the same, of what the code found
+  pub duration-found : (k o : ℕ) {d : Derived} {t : Timed} {piece : Piece} {a b c : ℕ} → t ≡ timedOf (fold (timedAt rows k piece) start (rowCount rows))
+      → d ≡ derivedOf t (pieceDuration piece (record { «setup_ms» = a; «process_ms» = b; «teardown_ms» = c })) → a ≡ num rows o 4 → b ≡ num rows o 5 → c ≡ num rows o 6
+      → piece ≡ pieceOf (sheet rows) (activityOf rows o) (partAt rows k) → Accepted rows → k < rowCount rows → is rows k 0 23 ≡ true → placeOf rows 2 (num rows k 1) ≡ some o
+      → d ≡ within (derived (sheet rows) (assignmentOf rows k) (activityOf rows o))
+  duration-found k o {d} {t} {piece} e f p q r w acc l h z =
+      let u : d ≡ derivedOf t (pieceDuration piece (columnsOf rows o 4)) = rw (p, q, r) at f in
+      u
+      ∙ ap (λ y. derivedOf y (pieceDuration piece (columnsOf rows o 4))) e
+      ∙ derived-known (fold (timedAt rows k piece) start (rowCount rows)) (pieceDuration piece (columnsOf rows o 4))
+      ∙ ap within (derived-is acc k o piece l h z w)
 
 -- ---- a loop whose value is known as far as it is below 2^53
 

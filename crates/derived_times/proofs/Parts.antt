@@ -8,19 +8,22 @@ use native.Mathlib.Omega.{arith}
 use mir.Syntax.{w64}
 use mir.Val.{SFits, toZ, ofZ}
 use mir.Facts.{toZ-ofZ}
+use borrow.Author.Tests.{lt-ltb, le-ltb}
+use lib.Dec.{ltb}
 use lib.IntN.{ℤ}
 use lib.ListN.{getD, set, replicate}
-use lib.Ieee.{binary64, ofBits}
+use lib.Ieee.{Float, binary64, ofBits}
 use Rattle.loops.specs.Lists.{option}
 use Rattle.loops.specs.Search.{firstPlace}
-use Rattle.loops.proofs.StoreLaws.{Filled}
+use Rattle.loops.specs.inner.Chain.{Blind}
+use Rattle.loops.proofs.StoreLaws.{Filled, filled-turn}
 use Rattle.loops.proofs.BoolLaws.{or-right}
 use Rattle.loops.proofs.PlaceLaws.{found-at, place-same}
 use Rattle.rows.specs.Cells.{rowCount, cell, num, is}
 use Rattle.rows.specs.Ranges.{isNone}
 use Rattle.sheet.specs.Places.{named, placeOf}
 use Rattle.sheet.specs.declared.Found.{Found}
-use Rattle.sheet.specs.declared.Found.the-variants.{At}
+use Rattle.sheet.specs.declared.Found.the-variants.{At, Nothing}
 use Rattle.sheet.specs.inner.Found.{foundOf}
 use Rattle.sheet.specs.inner.Index.{orEnd, storedPlace}
 use Rattle.sheet.specs.inner.Kept.{IsRow}
@@ -42,11 +45,33 @@ use Rattle.model.proofs.RowLaws.{kind-is}
 use Rattle.model.proofs.Accepting.{at-most, has-owner}
 use Rattle.model.proofs.OwnedLaws.{of-activity, own-activity}
 use Rattle.pieces.specs.inner.Bookings.{names}
-use Rattle.pieces.proofs.Chains.{names-kind, place-never, unnamed}
+use Rattle.pieces.proofs.Chains.{names-kind, place-never, unnamed, timings-blind}
 use Rattle.pieces.proofs.Companions.{both-parts}
 use Rattle.derived_times.specs.inner.Rows.{columnsOf, partAt, timedBy, timingOf, timingPlace, earlierOf, Timings}
 use Rattle.derived_times.specs.inner.Needs.{restAt, Times}
 use Rattle.derived_times.proofs.Finds.{splitOf, split-is, earlier-is}
+
+pub kind-9 : ownerKind 9 ≡ 2
+kind-9 = unfold ownerKind in refl
+
+pub kind-10 : ownerKind 10 ≡ 2
+kind-10 = unfold ownerKind in refl
+
+-- ---- what is found
+
+pub found-none : {r : Found} {x : Option ℕ} → foundOf r ≡ x → r ≡ Nothing → x ≡ none
+found-none e f = sym e ∙ ap foundOf f
+
+pub found-some : {r : Found} {x : Option ℕ} {i : ℕ} → foundOf r ≡ x → r ≡ At i → x ≡ some i
+found-some e f = sym e ∙ ap foundOf f
+
+-- the earlier of two places that were found, by the code's test
+module _ {i j : ℕ} {r e : Option ℕ} where
+  pub earlier-first : i < j → r ≡ some i → e ≡ cond (ltb i j) (some i) (some j) → r ≡ e
+  earlier-first l p q = let h : cond (ltb i j) (some i) (some j) ≡ some i = rw (lt-ltb i j l) in p ∙ sym (q ∙ h)
+
+  pub earlier-second : j ≤ i → r ≡ some j → e ≡ cond (ltb i j) (some i) (some j) → r ≡ e
+  earlier-second l p q = let h : cond (ltb i j) (some i) (some j) ≡ some j = rw (le-ltb i j l) in p ∙ sym (q ∙ h)
 
 module _ (rows : List ℤ) where
   -- ---- the activity's row
@@ -65,6 +90,13 @@ module _ (rows : List ℤ) where
 
   pub activity-below : (x o : ℕ) → placeOf rows 2 x ≡ some o → o ≤ rowCount rows
   activity-below x o e = omega (arith, placed rows 2 x o e .within)
+
+  module _ (k o : ℕ) {r : Found} (e : foundOf r ≡ placeOf rows 2 (num rows k 1)) (f : r ≡ At o) where
+    pub found-below : o ≤ rowCount rows
+    found-below = activity-below (num rows k 1) o (found-some e f)
+
+    pub found-blind : (x b : ℕ) {a : ℕ} → a ≡ num rows k 1 → ownerKind x ≡ 2 → Blind (ownedBy rows o x) (names rows x a b)
+    found-blind x b p z = timings-blind rows x o b z p (sym (found-some e f))
 
   -- ---- the split's row
 
@@ -92,7 +124,7 @@ module _ (rows : List ℤ) where
   -- ---- the piece
 
   module _ (k o : ℕ) (h : is rows k 0 23 ≡ true) (e : placeOf rows 2 (num rows k 1) ≡ some o) where
-    pub piece-whole : isNone (cell rows k 7) ≡ true → Whole ≡ pieceOf (sheet rows) (activityOf rows o) (partAt rows k)
+    piece-whole : isNone (cell rows k 7) ≡ true → Whole ≡ pieceOf (sheet rows) (activityOf rows o) (partAt rows k)
     unfolding pieceOf
     piece-whole f = rw (part-none k h f)
 
@@ -104,7 +136,7 @@ module _ (rows : List ℤ) where
     part-amounts acc = (at-most rows acc k 23 8 h, at-most rows acc o 2 5 (activity-kind (num rows k 1) o e))
 
     module _ (acc : Accepted rows) (l : k < rowCount rows) (f : isNone (cell rows k 7) ≡ false) where
-      pub piece-unsplit : none ≡ firstPlace (ownedBy rows o 4) (rowCount rows) → Whole ≡ pieceOf (sheet rows) (activityOf rows o) (partAt rows k)
+      piece-unsplit : none ≡ firstPlace (ownedBy rows o 4) (rowCount rows) → Whole ≡ pieceOf (sheet rows) (activityOf rows o) (partAt rows k)
       unfolding pieceOf
       piece-unsplit q = rw (part-some acc k l h f, split-at none (sym (q ∙ split-place (num rows k 1) o e)))
 
@@ -117,6 +149,15 @@ module _ (rows : List ℤ) where
       piece-part i q = rw (part-some acc k l h f, split-at (some i) (split-row i q))
 
   -- the same, of what the code found
+  module _ (k o : ℕ) {x : ℤ} {b : Bool} (q : b ≡ isNone (toZ w64 (ofZ w64 x))) (c : x ≡ cell rows k 7) (s : SFits w64 x) (h : is rows k 0 23 ≡ true)
+      (e : placeOf rows 2 (num rows k 1) ≡ some o) where
+    pub whole-found : b ≡ true → Whole ≡ pieceOf (sheet rows) (activityOf rows o) (partAt rows k)
+    whole-found z = piece-whole k o h e (rw (toZ-ofZ s, c) at (sym q ∙ z))
+
+    pub unsplit-found : {r : Found} → b ≡ false → r ≡ Nothing → foundOf r ≡ firstPlace (ownedBy rows o 4) (rowCount rows) → Accepted rows → k < rowCount rows
+        → Whole ≡ pieceOf (sheet rows) (activityOf rows o) (partAt rows k)
+    unsplit-found z t f acc l = piece-unsplit k o h e acc l (rw (toZ-ofZ s, c) at (sym q ∙ z)) (sym (found-none f t))
+
   pub piece-found : (k o : ℕ) {x : ℤ} {b : Bool} {r : Found} {i work whole overhead : ℕ} {part : PartTimes} → part ≡ partOf (toZ w64 (ofZ w64 x)) work whole overhead
       → x ≡ cell rows k 7 → SFits w64 x → work ≡ num rows k 8 → whole ≡ num rows o 5 → overhead ≡ num rows i 4 → b ≡ isNone (toZ w64 (ofZ w64 x)) → b ≡ false
       → r ≡ At i → foundOf r ≡ firstPlace (ownedBy rows o 4) (rowCount rows)
@@ -135,10 +176,6 @@ module _ (rows : List ℤ) where
 
   -- ---- amounts
 
-  pub columns-are : (o : ℕ) {s p t : ℕ} → s ≡ num rows o 4 → p ≡ num rows o 5 → t ≡ num rows o 6
-      → _≡_ {A = ActivityDuration} (record { «setup_ms» = s; «process_ms» = p; «teardown_ms» = t }) (columnsOf rows o 4)
-  columns-are o e f g = rw (e, f, g)
-
   pub timing-amounts : Accepted rows → (a r i : ℕ) → timedBy rows a r i ≡ true → TimingAmounts (timingOf rows i)
   unfolding timingOf
   timing-amounts acc a r i e = go (is rows i 0 9) refl
@@ -148,6 +185,14 @@ module _ (rows : List ℤ) where
       go false h = at-most rows acc i 10 4 (names-kind rows 10 a r i (or-right (names rows 9 a r i) (names rows 10 a r i) (unfold timedBy in e) (unfold names in (rw h))))
 
   -- ---- a booking's timing
+
+  pub timing-speed : (i : ℕ) {s : Float} {n : ℕ} → is rows i 0 9 ≡ true → s ≡ ofBits binary64 n → n ≡ num rows i 3 → Speed s ≡ timingOf rows i
+  unfolding timingOf
+  timing-speed i h e f = rw (h, e, f)
+
+  pub timing-fixed : (i : ℕ) {d : ActivityDuration} → is rows i 0 9 ≡ false → d ≡ columnsOf rows i 3 → Duration d ≡ timingOf rows i
+  unfolding timingOf
+  timing-fixed i h e = rw (h, e)
 
   pub timing-row : (j : ℕ) {x : Option ℕ} → is rows j 0 23 ≡ true → x ≡ timingPlace rows j → firstPlace (timedBy rows (num rows j 1) (num rows j 3)) (rowCount rows) ≡ x
   unfolding timingPlace
@@ -163,9 +208,10 @@ module _ (rows : List ℤ) where
   row-none k h = rw h
 
   -- an activity that is not in the sheet has no timings
-  pub row-unknown : Accepted rows → (k : ℕ) → is rows k 0 23 ≡ true → none ≡ placeOf rows 2 (num rows k 1) → none ≡ timingPlace rows k
+  pub row-unknown : Accepted rows → (k : ℕ) → is rows k 0 23 ≡ true → placeOf rows 2 (num rows k 1) ≡ none → none ≡ timingPlace rows k
   unfolding timingPlace timedBy
-  row-unknown acc k h p =
+  row-unknown acc k h e =
+      let p = sym e in
       rw h
       (sym (place-never _ (rowCount rows) λ i l.
       ap₂ _||_ (unnamed rows acc 9 2 (num rows k 1) (num rows k 3) (λ j m g. unfold lacks in (has-owner rows acc j 9 1 m g)) p i l)
@@ -206,6 +252,10 @@ module _ (rows : List ℤ) where
 
   pub timings-end : (k n : ℕ) {t : List ℕ} → n ≤ k → k ≤ n → n ≡ rowCount rows → rowCount rows ≤ 800 → TimingsBelow k t → Timings rows t
   timings-end k n l u z s h = keeping-end rows (timingPlace rows) k n l u z s (h .kept)
+
+  pub times-next : (k v : ℕ) {n : ℕ} {t t′ : List ℕ} → Filled (restAt rows) k t → t′ ≡ set t k v → v ≡ restAt rows k → k < n → n ≡ rowCount rows → rowCount rows ≤ 800
+      → Filled (restAt rows) (k + 1) t′
+  times-next k v {n} {t} {t′} h q e l z s = filled-turn (restAt rows) k v t t′ (omega arith) e q h
 
   pub times-end : (k n : ℕ) (t : List ℕ) → n ≤ k → k ≤ n → n ≡ rowCount rows → rowCount rows ≤ 800 → Filled (restAt rows) k t → Times rows t
   times-end k n t l u z s h = record { short = s; at = λ j m. h .at j (omega arith); past = λ j m. h .rest j (omega arith) }

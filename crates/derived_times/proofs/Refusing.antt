@@ -18,6 +18,7 @@ use Rattle.loops.proofs.SearchLaws.{first-hit, first-done}
 use Rattle.rows.specs.Cells.{rowCount, num, is}
 use Rattle.sheet.specs.Places.{placeOf}
 use Rattle.resource_timing.specs.declared.ActivityDuration.{ActivityDuration}
+use Rattle.resource_timing.specs.declared.Derived.{Derived}
 use Rattle.resource_timing.specs.declared.Derived.the-variants.{Within, TooLarge}
 use Rattle.resource_timing.specs.Durations.{totalMs}
 use Rattle.resource_timing.specs.inner.Limits.{within}
@@ -33,14 +34,17 @@ use Rattle.derived_times.specs.inner.Needs.{restMs, restAt, Times, Needs
 
 -- ---- one derived time
 
-pub rest-most : (e : Option ActivityDuration) → restMs (within e) ≤ 9007199254740992
+most : (e : Option ActivityDuration) → restMs (within e) ≤ 9007199254740992
 unfolding within
-rest-most none = omega arith
-rest-most (some d) = go (ltb (totalMs d) (2 ^ 53)) refl
+most none = omega arith
+most (some d) = go (ltb (totalMs d) (2 ^ 53)) refl
   where
     go : (b : Bool) → ltb (totalMs d) (2 ^ 53) ≡ b → restMs (cond b (Within d) TooLarge) ≤ 9007199254740992
     go true h = let l : totalMs d < 9007199254740992 = ltb-true (totalMs d) 9007199254740992 h in omega arith
     go false h = omega arith
+
+pub rest-most : (e : Option ActivityDuration) {d : Derived} → d ≡ within e → restMs d ≤ 9007199254740992
+rest-most e h = rw h (most e)
 
 large-is : (e : Option ActivityDuration) → leb 9007199254740992 (restMs (within e)) ≡ tooLarge e
 unfolding within
@@ -51,8 +55,8 @@ large-is (some d) = go (ltb (totalMs d) (2 ^ 53)) refl
     go true h = let l : totalMs d < 9007199254740992 = ltb-true (totalMs d) 9007199254740992 h in lt-leb 9007199254740992 (d .«process_ms» + d .«teardown_ms») (omega arith)
     go false h = le-leb 9007199254740992 9007199254740992 (omega arith)
 
-pub rest-fits : (d : ActivityDuration) → restMs (Within d) ≤ 9007199254740992 → Fits w64 (d .«process_ms» + d .«teardown_ms»)
-rest-fits d h = record { fits = omega arith }
+pub rest-fits : (d : ActivityDuration) {x : Derived} → x ≡ Within d → restMs x ≤ 9007199254740992 → Fits w64 (d .«process_ms» + d .«teardown_ms»)
+rest-fits d e h = let g : restMs (Within d) ≤ 9007199254740992 = rw e at h in record { fits = omega arith }
 
 -- ---- a row
 
@@ -65,12 +69,12 @@ module _ (rows : List ℤ) where
   unfolding restAt
   rest-unknown k h e = rw (assignment-row rows k h, find-activity rows (num rows k 1), e)
 
-  pub rest-known : (k o : ℕ) → is rows k 0 23 ≡ true → placeOf rows 2 (num rows k 1) ≡ some o
-      → restMs (within (derived (sheet rows) (assignmentOf rows k) (activityOf rows o))) ≡ restAt rows k
+  pub rest-known : (k o : ℕ) {v : ℕ} {d : Derived} → v ≡ restMs d → d ≡ within (derived (sheet rows) (assignmentOf rows k) (activityOf rows o)) → is rows k 0 23 ≡ true
+      → placeOf rows 2 (num rows k 1) ≡ some o → v ≡ restAt rows k
   unfolding restAt
-  rest-known k o h e = rw (assignment-row rows k h, find-activity rows (num rows k 1), e)
+  rest-known k o p q h e = p ∙ ap restMs q ∙ rw (assignment-row rows k h, find-activity rows (num rows k 1), e)
 
-  pub too-large : (k : ℕ) → leb 9007199254740992 (restAt rows k) ≡ anyOf (isTooLarge (sheet rows)) (assignmentAt (sheet rows) k)
+  too-large : (k : ℕ) → leb 9007199254740992 (restAt rows k) ≡ anyOf (isTooLarge (sheet rows)) (assignmentAt (sheet rows) k)
   too-large k = go (is rows k 0 23) refl
     where
       go : (b : Bool) → is rows k 0 23 ≡ b → leb 9007199254740992 (restAt rows k) ≡ anyOf (isTooLarge (sheet rows)) (assignmentAt (sheet rows) k)
@@ -82,6 +86,9 @@ module _ (rows : List ℤ) where
               ≡ (option x false (λ a. tooLarge (derived (sheet rows) (assignmentOf rows k) a)) || false)
           known none = lt-leb 9007199254740992 0 (omega arith)
           known (some a) = large-is (derived (sheet rows) (assignmentOf rows k) a) ∙ sym (or-false (tooLarge (derived (sheet rows) (assignmentOf rows k) a)))
+
+  pub large-here : (k : ℕ) {need : List ℕ} → Times rows need → k < rowCount rows → leb 9007199254740992 (getD need k 0) ≡ anyOf (isTooLarge (sheet rows)) (assignmentAt (sheet rows) k)
+  large-here k t l = ap (leb 9007199254740992) (t .at k l) ∙ too-large k
 
   -- ---- the search
 
@@ -137,6 +144,6 @@ module _ (rows : List ℤ) where
     at = λ k b a l p q.
         needed-at k b a p q (sym (or-false (tooLarge (derived (sheet rows) b a))) ∙ sym (large-at k b a p q) ∙ all-within e k l)
         ∙ ap (λ x. b .setup + x) (sym (t .at k l ∙ rest-at k b a p q));
-    small = λ k l. let z = leb-false 9007199254740992 (getD need k 0) (ap (leb 9007199254740992) (t .at k l) ∙ too-large k ∙ all-within e k l) in omega arith;
+    small = λ k l. let z = leb-false 9007199254740992 (getD need k 0) (large-here k t l ∙ all-within e k l) in omega arith;
     past = t .past;
   }

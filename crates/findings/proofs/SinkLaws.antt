@@ -1,11 +1,17 @@
 -- Laws of `emit`, those of lines of four numbers. A function that reports findings ensures `sink out′ r ≡ emit (sink out n) findings`; two calls in a row
 -- are `emit-then`, and at the top `emit-whole` says what the buffer then holds. Assumes nothing.
 use Prim.Native.Nat.{ℕ, _+_, _*_, _^_, _<_, _≤_, min}
-use mathlib.Core.Path.{_≡_, refl}
+use mathlib.Core.Path.{_≡_, refl, sym, _∙_}
+use mathlib.Core.Bool.{Bool, true, false}
 use mathlib.Core.List.{List, [], _∷_, _++_}
 use native.Mathlib.Omega.{arith}
 use lib.ListN.{length, drop}
 use lib.IntN.{ℤ}
+use mir.Syntax.{w64}
+use mir.Val.{toZ}
+use mir.Facts.{toZ-pos}
+use Rattle.loops.specs.Lists.{given}
+use Rattle.line_buffer.specs.inner.Sink.{putLine}
 use Rattle.loops.specs.Range.{collect}
 use Rattle.line_buffer.proofs.LineLaws.{lines-one, lines-none, lines-then, lines-kept, turns-start, turns-again, turns-end}
 use Rattle.line_buffer.proofs.Whole as whole
@@ -20,6 +26,19 @@ emit-one s f = lines-one 4 four s f
 pub emit-none : (s : Sink) → emit s [] ≡ s
 unfolding emit
 emit-none s = lines-none 4 four s
+
+-- what the code wrote: the numbers as the machine reads them back
+pub put-read : (s : Sink) (f : Violation) {s′ : Sink} → s′ ≡ putLine 4 s (toZ w64 (f .check) ∷ toZ w64 (f .kind) ∷ toZ w64 (f .entity) ∷ toZ w64 (f .severity) ∷ [])
+    → f .check < 2 ^ 63 → f .kind < 2 ^ 63 → f .entity < 2 ^ 63 → f .severity < 2 ^ 63 → s′ ≡ put1 s f
+unfolding put1
+put-read s f h a b d e = rw (toZ-pos w64 a, toZ-pos w64 b, toZ-pos w64 d, toZ-pos w64 e) at h
+
+module _ (s : Sink) (f : Violation) {yes : Bool} where
+  pub emit-yes : {s′ : Sink} → s′ ≡ put1 s f → yes ≡ true → s′ ≡ emit s (given yes f)
+  emit-yes h e = rw e (h ∙ sym (emit-one s f))
+
+  pub emit-no : yes ≡ false → s ≡ emit s (given yes f)
+  emit-no e = rw e (sym (emit-none s))
 
 -- two calls, one after the other
 pub emit-then : (a b : List Violation) (s₀ : Sink) {s s′ : Sink} → s ≡ emit s₀ a → s′ ≡ emit s b → s′ ≡ emit s₀ (a ++ b)

@@ -1,11 +1,11 @@
 -- What becomes of lines that are handed over, by how many they are. Assumes nothing.
-use Prim.Native.Nat.{ℕ, _*_, _/_, _<_, _≤_}
+use Prim.Native.Nat.{ℕ, _+_, _*_, _/_, _<_, _≤_}
 use mathlib.Core.Path.{_≡_, refl, ap, sym, _∙_}
 use mathlib.Core.Bool.{Bool, true, false, cond}
 use mathlib.Core.List.{List, _++_}
 use native.Mathlib.Omega.{arith}
 use native.Mathlib.Nat.{zero-add, mul-le-mul-right, div-mul-le-self}
-use lib.ListN.{length, take, drop}
+use lib.ListN.{length, take, drop, length-take}
 use lib.Seq.{sets, sets-eq, length-take-le}
 use lib.Dec.{ltb}
 use lib.IntN.{ℤ}
@@ -61,6 +61,13 @@ module _ (room held count : ℕ) where
 -- so many lines stand in so many numbers
 pub lines-within : (n l w : ℕ) → n ≤ l / w → n * w ≤ l
 lines-within n l w h = omega (arith, mul-le-mul-right w h, div-mul-le-self l w)
+
+-- the first n numbers
+pub taken-long : (n : ℕ) (l : List ℤ) → n ≤ length l → n ≡ length (take n l)
+taken-long n l h = sym (length-take-le n l h)
+
+pub taken-within : (n : ℕ) (l : List ℤ) (room : ℕ) → n ≤ room → 0 + length (take n l) ≤ room
+taken-within n l room h = simp length-take (omega arith)
 
 -- the first n numbers, stored from the front on
 pub stored-first : (o found : List ℤ) (n : ℕ) {o′ : List ℤ} → n ≤ length found → n ≤ length o → o′ ≡ sets o 0 (take n found)

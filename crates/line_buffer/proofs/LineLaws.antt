@@ -1,12 +1,14 @@
 -- Laws of `putLine` and `putLines`: two runs in a row, a loop that reports, the buffer's length. Assumes nothing.
 use Prim.Native.Nat.{ℕ, suc, _+_, _*_, _/_, _^_, _<_, _≤_}
-use mathlib.Core.Path.{_≡_, refl, ap, sym, _∙_}
+use mathlib.Core.Path.{_≡_, refl, ap, ap₂, sym, _∙_}
 use mathlib.Core.Bool.{Bool, true, false, cond}
 use mathlib.Core.List.{List, [], _∷_, _++_}
 use lib.ListN.{length}
 use lib.Seq.{sets, length-sets}
 use lib.Dec.{ltb}
 use lib.IntN.{ℤ}
+use mir.Syntax.{w64}
+use mir.Val.{Fits}
 use native.Mathlib.Omega.{arith}
 use native.Mathlib.Nat.{suc-mul, mul-le-mul-right, div-mul-le-self, div-zero}
 use borrow.Author.Tests.{lt-ltb, le-ltb, ltb-true}
@@ -21,10 +23,16 @@ pub more-at : (n : ℕ) → 2 ^ 60 ≤ n → more n ≡ n
 more-at n h = rw (le-ltb n (2 ^ 60) h)
 
 -- where a line lies that the buffer holds; lines of no numbers are not held
-pub held-within : (l n w : ℕ) → ltb n (l / w) ≡ true → n * w + w ≤ l
+held-within : (l n w : ℕ) → ltb n (l / w) ≡ true → n * w + w ≤ l
 held-within l n w e =
     let h : suc n ≤ l / w = ltb-true n (l / w) e in
     omega (arith, mul-le-mul-right w h, div-mul-le-self l w, suc-mul n w)
+
+pub held-room : (l n w : ℕ) {b : Bool} → b ≡ ltb n (l / w) → b ≡ true → n * w + w ≤ l
+held-room l n w e f = held-within l n w (sym e ∙ f)
+
+pub held-fits : (l n w : ℕ) {b : Bool} → b ≡ ltb n (l / w) → b ≡ true → Fits w64 l → Fits w64 (n * w)
+held-fits l n w e f g = let h = held-room l n w e f in record { fits = omega (arith, g .fits) }
 
 pub held-none : (l n w : ℕ) → w ≤ 0 → false ≡ ltb n (l / w)
 held-none l n w h = let z : w ≡ 0 = omega arith in rw (z, div-zero) (sym (le-ltb n 0 (omega arith)))
@@ -33,9 +41,17 @@ pub put-fits : (w : ℕ) (o : List ℤ) (n : ℕ) (line : List ℤ) → ltb n (l
 unfolding putLine
 put-fits w o n line h = rw h
 
-pub put-over : (w : ℕ) (o : List ℤ) (n : ℕ) (line : List ℤ) → ltb n (length o / w) ≡ false → putLine w (sink o n) line ≡ sink o (more n)
+put-over : (w : ℕ) (o : List ℤ) (n : ℕ) (line : List ℤ) → ltb n (length o / w) ≡ false → putLine w (sink o n) line ≡ sink o (more n)
 unfolding putLine
 put-over w o n line h = rw h
+
+-- the same, of what the code found
+module _ (w : ℕ) (o : List ℤ) (n : ℕ) (line : List ℤ) {b : Bool} (e : b ≡ ltb n (length o / w)) where
+  pub put-held : {o′ : List ℤ} {r : ℕ} → b ≡ true → o′ ≡ sets o (n * w) line → r ≡ more n → sink o′ r ≡ putLine w (sink o n) line
+  put-held f p q = ap₂ sink p q ∙ sym (put-fits w o n line (sym e ∙ f))
+
+  pub put-past : {r : ℕ} → b ≡ false → r ≡ more n → sink o r ≡ putLine w (sink o n) line
+  put-past f q = ap (sink o) q ∙ sym (put-over w o n line (sym e ∙ f))
 
 -- the buffer keeps its length
 pub put-length : (w : ℕ) (s : Sink) (line : List ℤ) → length ((putLine w s line) .buf) ≡ length (s .buf)

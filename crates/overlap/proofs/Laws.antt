@@ -4,12 +4,13 @@ use Prim.Native.Nat.{ℕ, zero, suc, _+_, _-_, _*_, _/_, _%_, _^_, _≤_, _<_}
 use native.Mathlib.Nat.{mul-comm, mul-left-comm, mul-right-comm, mul-one, mul-pos, mul-le-mul, mul-le-mul-right, le-of-mul-le-mul-right, le-trans, le-of-eq, lt-of-le-of-lt, lt-of-lt-of-le, eq-or-lt-of-le, mod-eq-of-lt, add-mul, mul-lt-mul-of-pos-right, lt-of-mul-lt-mul-right, div-lt-iff-lt-mul, div-eq-of-lt-le, mod-lt, div-add-mod'}
 use native.Mathlib.Omega.{arith}
 use mathlib.Core.Bool.{Bool, true, false, not, _&&_, _||_, cond, true≢false}
-use lib.Dec.{T, ltb, eqb, leb→le, le→leb, ltb→lt, eqb→eq, lit≤}
+use lib.Dec.{T, leb, ltb, eqb, leb→le, le→leb, ltb→lt, eqb→eq, lit≤}
 use borrow.Author.Tests.{ltb-true, ltb-false, ne-eqb, lt-leb, le-ltb, lt-ltb}
 use lib.IntN.{ℤ, pos, negsuc, subℕ, negℤ, _+ℤ_, _-ℤ_, natAbs}
 use lib.Signed.{mag}
 use mir.Syntax.{w64}
-use mir.Val.{toZ}
+use mir.Val.{Fits, SFits, toZ, ofZ}
+use mir.Facts.{toZ-ofZ}
 use lib.Pow.{pow-pos, pow-mono}
 use lib.Ieee.{Float, nan, inf, fin, Format, binary64, prec, emax, low, up, down, odd, units, round, mul, ofInt, lt, le, toUnsigned, neg, ofFields, ofBits}
 use lib.Ieee.Fits.{down-pos, round-is}
@@ -19,7 +20,8 @@ use lib.Ieee.Back.{round-whole}
 use lib.Ieee.Order.{round-mono}
 use lib.Ieee.Positive.{num, den, den-pos}
 use Rattle.rounding.proofs.Laws.{Cut, cut-of-value}
-use Rattle.overlap.specs.Bounds.{ceilDiv, ceiling, ceilingShare}
+use Rattle.overlap.specs.declared.Overlap.{Overlap}
+use Rattle.overlap.specs.Bounds.{ceilDiv, ceiling, ceilingShare, overlapOf}
 use Rattle.overlap.specs.inner.Shares.{isShare, product}
 
 -- ---- a float that is finite with its sign clear
@@ -183,12 +185,22 @@ bits-share b h =
     rw (lt-leb (2 ^ 63) b (omega arith), m) (fields-share (b / 2 ^ 52) (b % 2 ^ 52) (omega arith) (omega arith) (omega arith))
 
 -- ---- what the two roundings of a share of a span are
+pub span-held : (n : ℕ) → n ≤ 4000000000000 → T (leb n (2 ^ 53))
+span-held n h = le→leb n (2 ^ 53) (omega arith)
+
 module _ (s : Float) (n : ℕ) (t : T (isShare s)) (h : n ≤ 4000000000000) where
-  pub known : Held (product s n) n
+  known : Held (product s n) n
   known = held (product s n) n (omega arith) (share-of s n t (omega arith))
 
   pub is-plain : T (plain (product s n))
   is-plain = share-of s n t (omega arith) .0
+
+  -- it is cut to a whole number without loss
+  pub cut-above : T (lt (fin true 1 (pos 0)) (product s n))
+  cut-above = known .cut .above
+
+  pub cut-below : T (lt (product s n) (fin false 1 (pos 64)))
+  cut-below = known .cut .below
 
   module _ (k : ℕ) (e : k ≡ toUnsigned 64 (product s n)) where
     pub cut-is : k ≡ num (product s n) / den (product s n)
@@ -197,14 +209,26 @@ module _ (s : Float) (n : ℕ) (t : T (isShare s)) (h : n ≤ 4000000000000) whe
     pub cut-le : k ≤ n
     cut-le = let w = known .whole-le in let q = cut-is in omega arith
 
-    pub ahead-more : lt (ofInt binary64 (pos k)) (product s n) ≡ true → (k + 1 ≡ ceilDiv (num (product s n)) (den (product s n))) × (k + 1 ≤ n)
-    ahead-more b =
+    pub cut-held : T (leb k (2 ^ 53))
+    cut-held = le→leb k (2 ^ 53) (let w = cut-le in omega arith)
+
+    pub cut-fits : Fits w64 (k + 1)
+    cut-fits = let w = cut-le in record { fits = omega arith }
+
+    more : lt (ofInt binary64 (pos k)) (product s n) ≡ true → (k + 1 ≡ ceilDiv (num (product s n)) (den (product s n))) × (k + 1 ≤ n)
+    more b =
         let p = product s n in
         let l : k * den p < num p = whole-lt k p (let w = cut-le in omega arith) is-plain .0 b in (
           ap (λ (z : ℕ). z + 1) cut-is ∙ ceil-more (num p) (den p) (den-pos p) (subst (λ (z : ℕ). z * den p < num p) cut-is l),
           let q : k < n = lt-of-mul-lt-mul-right (den p) (lt-of-lt-of-le l (share-of s n t (omega arith) .1)) in
               omega arith,
         )
+
+    pub ahead-more : lt (ofInt binary64 (pos k)) (product s n) ≡ true → k + 1 ≡ ceilDiv (num (product s n)) (den (product s n))
+    ahead-more b = more b .0
+
+    pub more-within : lt (ofInt binary64 (pos k)) (product s n) ≡ true → k + 1 ≤ n
+    more-within b = more b .1
 
     pub ahead-same : lt (ofInt binary64 (pos k)) (product s n) ≡ false → k ≡ ceilDiv (num (product s n)) (den (product s n))
     ahead-same b =
@@ -295,3 +319,18 @@ sum-mag a (negsuc b) = mag-sub a (suc b)
 
 pub pos-back : (n : ℕ) → n < 2 ^ 63 → toZ w64 n ≡ pos n
 pos-back n h = rw (lt-ltb n (2 ^ 63) h)
+
+-- an operand as the machine reads it back
+module _ (end : ℕ) (lag : ℤ) (h : end ≤ 4000000000000) (k : natAbs lag ≤ 4000000000000) (f : SFits w64 lag) where
+  sum-fits : SFits w64 (pos end +ℤ lag)
+  sum-fits = let m = sum-mag end lag in record { sfits = omega arith }
+
+  pub end-fits : SFits w64 (toZ w64 end +ℤ toZ w64 (ofZ w64 lag))
+  end-fits = rw (pos-back end (omega arith), toZ-ofZ f) sum-fits
+
+  pub end-is : toZ w64 (ofZ w64 (toZ w64 end +ℤ toZ w64 (ofZ w64 lag))) ≡ pos end +ℤ lag
+  end-is = rw (pos-back end (omega arith), toZ-ofZ f) (toZ-ofZ sum-fits)
+
+pub new-is : (bits : ℕ) (lag : ℤ) {x : Float} → x ≡ ofBits binary64 bits → SFits w64 lag
+    → _≡_ {A = Overlap} (record { «start_after» = x; «finish_after_ms» = toZ w64 (ofZ w64 lag) }) (overlapOf bits lag)
+new-is bits lag e f = rw (e, toZ-ofZ f)

@@ -7,12 +7,16 @@ use borrow.Author.Tests.{eq-eqb, ne-eqb, le-leb, lt-leb}
 use mathlib.Core.Bool.{Bool, true, false, cond, _&&_}
 use mathlib.Core.Option.{none, some}
 use lib.Dec.{leb}
-use Rattle.rounding.specs.declared.Time.the-variants.{TooLarge}
+use Rattle.rounding.specs.declared.Time.{Time}
+use Rattle.rounding.specs.declared.Time.the-variants.{Ms, TooLarge}
+use Rattle.rounding.proofs.Laws.{limit-within, limit-beyond}
+use mir.Syntax.{w64}
+use mir.Val.{Fits}
 use Rattle.rounding.specs.inner.Limited.{limited}
 use Rattle.part_share.specs.Share.{shareOf}
 use Rattle.part_share.specs.inner.Within.{shareWithin}
 
-pub of-none : (ms work d : ℕ) → d ≡ 0 → shareOf ms work d ≡ ms
+of-none : (ms work d : ℕ) → d ≡ 0 → shareOf ms work d ≡ ms
 unfolding shareOf
 of-none ms work d e = rw (eq-eqb d 0 e)
 
@@ -40,7 +44,7 @@ highOf ms work = ms * (work / 2097152)
 abbrev pub lowOf : ℕ → ℕ → ℕ → ℕ
 lowOf ms work d = highOf ms work % d * 2097152 + ms * (work % 2097152)
 
-pub record Parts (ms work d : ℕ) : Type 0 where
+record Parts (ms work d : ℕ) : Type 0 where
   pub high : highOf ms work ≤ 4000000000000 * 1907348
   pub low : ms * (work % 2097152) ≤ 4000000000000 * 2097151
   pub high-rest : highOf ms work % d < d
@@ -70,7 +74,7 @@ module _ (ms work d : ℕ) (D : 0 < d) where
       let h = last-bit (low % d) d (mod-lt low D) .0 in
       rw (ne-eqb d 0 (omega arith)) (omega arith)
 
-pub parts : (ms work d : ℕ) → ms ≤ 4000000000000 → work ≤ 4000000000000 → 0 < d → Parts ms work d
+parts : (ms work d : ℕ) → ms ≤ 4000000000000 → work ≤ 4000000000000 → 0 < d → Parts ms work d
 parts ms work d M W D =
     let low = lowOf ms work d in
     record {
@@ -82,6 +86,48 @@ parts ms work d M W D =
       bit = last-bit (low % d) d (mod-lt low D) .1;
       sum = digits ms work d D;
     }
+
+-- ---- what the code works out: no step of it passes 64 bits
+
+pub share-none : (ms work d : ℕ) → d ≡ 0 → ms ≤ 4000000000000 → Ms ms ≡ limited (some (shareOf ms work d))
+share-none ms work d e M = limit-within ms (omega arith) ∙ ap (λ (n : ℕ). limited (some n)) (sym (of-none ms work d e))
+
+module _ (ms work : ℕ) (M : ms ≤ 4000000000000) (W : work ≤ 4000000000000) where
+  pub high-fits : Fits w64 (highOf ms work)
+  high-fits = let k = parts ms work 1 M W (omega arith) in record { fits = omega arith }
+
+  pub low-fits : Fits w64 (ms * (work % 2097152))
+  low-fits = let k = parts ms work 1 M W (omega arith) in record { fits = omega arith }
+
+module _ (ms work d : ℕ) (M : ms ≤ 4000000000000) (W : work ≤ 4000000000000) (N : d ≡ 0 → ⊥) where
+  known : Parts ms work d
+  known = parts ms work d M W (omega arith)
+
+  pub share-beyond : 4294967296 ≤ highOf ms work / d → TooLarge ≡ limited (some (shareOf ms work d))
+  share-beyond l = let k = known in limit-beyond (shareOf ms work d) (omega arith)
+
+  pub share-is : {r : Time} → r ≡ limited (some (highOf ms work / d * 2097152 + lowOf ms work d / d + lowOf ms work d % d * 2 / d)) → r ≡ limited (some (shareOf ms work d))
+  share-is e = e ∙ ap (λ (n : ℕ). limited (some n)) (sym (known .sum))
+
+  module _ (D : d ≤ 4000000000000) where
+    pub rest-fits : Fits w64 (highOf ms work % d * 2097152)
+    rest-fits = let k = known in record { fits = omega arith }
+
+    pub sum-fits : Fits w64 (lowOf ms work d)
+    sum-fits = let k = known in record { fits = omega arith }
+
+    rest-times : (k : ℕ) → k ≤ 2 → lowOf ms work d % d * k ≤ 4000000000000 * 2
+    rest-times k l = let m = known .rest in mul-le-mul {n₂ = 4000000000000} {m₂ = 2} (omega arith) l
+
+    pub twice-fits : (k : ℕ) → k ≤ 2 → Fits w64 (lowOf ms work d % d * k)
+    twice-fits k l = record { fits = omega (arith, rest-times k l) }
+
+    module _ (l : highOf ms work / d < 4294967296) where
+      pub digits-fit : Fits w64 (highOf ms work / d * 2097152 + lowOf ms work d / d)
+      digits-fit = let k = known in record { fits = omega arith }
+
+      pub share-fits : (k : ℕ) → k ≤ 2 → Fits w64 (highOf ms work / d * 2097152 + lowOf ms work d / d + lowOf ms work d % d * k / d)
+      share-fits k m = let q = known in record { fits = omega (arith, rest-times k m, div-le-self (lowOf ms work d % d * k) d) }
 
 -- ---- any times
 

@@ -7,21 +7,24 @@ use mathlib.Core.Bool.{Bool, true, false, not, _&&_, _||_, cond, true≢false}
 use lib.Dec.{T, leb, ltb, eqb, leb→le, ltb→lt, lt→ltb, eqb→eq, lit≤}
 use lib.IntN.{ℤ, pos, negsuc}
 use lib.Pow.{pow-pos, pow-add, pow-lt, pow-mono}
-use lib.Ieee.{Float, nan, inf, fin, Format, binary64, low, prec, emax, up, down, round, mul, lt, le, fits, toUnsigned, ofBits, isNan, nanBits}
+use lib.Ieee.{Float, nan, inf, fin, Format, binary64, low, prec, emax, up, down, round, mul, div, ofInt, lt, le, fits, toUnsigned, ofBits, isNan, nanBits}
 use lib.Ieee.Fits.{up-pos, down-pos, and-l, and-r}
 use lib.Ieee.Exact.{HasValue, round-exact}
 use lib.Ieee.Nearest.{div-same}
-use lib.Ieee.Positive.{num, den}
+use lib.Ieee.Positive.{num, den, den-pos}
+use mir.Syntax.{w64}
+use mir.Val.{Fits}
 use lib.Ieee.Digits.{back}
-use Rattle.rounding.specs.Rounding.{halfUp, rounded}
+use Rattle.rounding.specs.Rounding.{halfUp, rounded, dividedBy}
 use Rattle.rounding.specs.inner.Limited.{limited}
+use Rattle.rounding.specs.declared.Time.{Time}
 use Rattle.rounding.specs.declared.Time.the-variants.{Ms, TooLarge}
 use mathlib.Core.Option.{Option, none, some}
 use borrow.Author.Tests.{lt-ltb, le-ltb, ltb-true, ltb-false}
 use lib.Ieee.Bits.{nanBits-is, nanBits-above}
 
 -- (2n / d + 1) / 2
-pub half-of-double : (n d : ℕ) → 0 < d → (n * 2 / d + 1) / 2 ≡ halfUp n d
+half-of-double : (n d : ℕ) → 0 < d → (n * 2 / d + 1) / 2 ≡ halfUp n d
 unfolding halfUp
 half-of-double n d h =
     ap (λ (z : ℕ). z / 2) (sym (add-div-right (n * 2) h)) ∙ div-div-eq-div-mul (n * 2 + d) d 2 ∙ ap (λ (z : ℕ). (z + d) / (d * 2)) (mul-comm n 2) ∙ ap (λ (z : ℕ). (2 * n + d) / z) (mul-comm d 2)
@@ -129,7 +132,7 @@ from-exact s m e t z h =
       div-lt-iff-lt-mul (down-pos e) .1 (omega arith),
     )
 
-pub doubled : (x : Float) → T (fits binary64 x) → le (fin false 0 (pos 0)) x ≡ true → lt x (fin false 1 (pos 53)) ≡ true
+doubled : (x : Float) → T (fits binary64 x) → le (fin false 0 (pos 0)) x ≡ true → lt x (fin false 1 (pos 53)) ≡ true
     → Cut (mul binary64 x (fin false 1 (pos 1))) (num x * 2) (den x) × (num x * 2 / den x < 2 ^ 54)
 unfolding lt mul le
 doubled nan t p q = absurd (true≢false (sym q))
@@ -194,7 +197,7 @@ half-above : (n d : ℕ) → 0 < d → 2 ^ 53 * d ≤ n → 2 ^ 53 ≤ halfUp n 
 unfolding halfUp
 half-above n d D h = le-div-iff-mul-le {k = 2 * d} (omega arith) .1 (omega arith)
 
-pub below-limit : (x : Float) → T (fits binary64 x) → le (fin false 0 (pos 0)) x ≡ true → lt x (fin false 1 (pos 53)) ≡ true → Ms (halfUp (num x) (den x)) ≡ limited (rounded x)
+below-limit : (x : Float) → T (fits binary64 x) → le (fin false 0 (pos 0)) x ≡ true → lt x (fin false 1 (pos 53)) ≡ true → Ms (halfUp (num x) (den x)) ≡ limited (rounded x)
 unfolding rounded
 below-limit nan t p q = absurd (true≢false (sym (unfold lt in q)))
 below-limit (inf true) t p q = absurd (true≢false (sym (unfold le in p)))
@@ -250,3 +253,23 @@ nan-above b h = is-nan (ofBits binary64 b) (sym (nanBits-is binary64 b) ∙ nanB
 
 pub number-below : (b : ℕ) → b % 2 ^ 63 ≤ 0x7ff0_0000_0000_0000 → T (not (nanBits binary64 b))
 number-below b h = rw (nanBits-above, le-ltb (2047 * 2 ^ 52) (b % 2 ^ 63) h) tt
+
+-- ---- what the code works out
+module _ (x : Float) (t : T (fits binary64 x)) (p : le (fin false 0 (pos 0)) x ≡ true) (q : lt x (fin false 1 (pos 53)) ≡ true) where
+  pub twice-above : T (lt (fin true 1 (pos 0)) (mul binary64 x (fin false 1 (pos 1))))
+  twice-above = doubled x t p q .0 .above
+
+  pub twice-under : T (lt (mul binary64 x (fin false 1 (pos 1))) (fin false 1 (pos 64)))
+  twice-under = doubled x t p q .0 .below
+
+  module _ (k : ℕ) (e : k ≡ toUnsigned 64 (mul binary64 x (fin false 1 (pos 1)))) where
+    pub twice-fits : Fits w64 (k + 1)
+    twice-fits = let d = doubled x t p q in record { fits = omega (arith, d .0 .whole, d .1) }
+
+    pub nearest-is : Ms ((k + 1) / 2) ≡ limited (rounded x)
+    nearest-is = ap (λ (n : ℕ). Ms ((n + 1) / 2)) (e ∙ doubled x t p q .0 .whole) ∙ ap Ms (half-of-double (num x) (den x) (den-pos x)) ∙ below-limit x t p q
+
+pub divided-is : (process : ℕ) (product : Float) {x : Float} {r : Time} → r ≡ limited (rounded (div binary64 x product)) → x ≡ ofInt binary64 (pos process)
+    → r ≡ limited (dividedBy process product)
+unfolding dividedBy
+divided-is process product g e = rw (← e) g

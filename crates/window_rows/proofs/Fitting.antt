@@ -1,7 +1,7 @@
 -- Whether an interval fits the windows of a row, found along their chain. Assumes nothing.
-use Prim.Native.Nat.{ℕ, suc, _+_, _≤_}
+use Prim.Native.Nat.{ℕ, suc, _+_, _<_, _≤_}
 use mathlib.Core.Path.{_≡_, ap, sym, _∙_}
-use mathlib.Core.Bool.{Bool, true, false}
+use mathlib.Core.Bool.{Bool, false}
 use mathlib.Core.List.{List, [], _∷_, _++_, append-nil}
 use native.Mathlib.Omega.{arith}
 use lib.IntN.{ℤ, pos}
@@ -34,14 +34,12 @@ module _ (rows : List ℤ) (o x a e : ℕ) where
   pub fitting-first : {n i : ℕ} {f : Fit} → First (ownedBy rows o x) 0 n i → f ≡ fitOf [] a e → Fitting i f
   fitting-first {f = f} h q = over (λ k. Fitting k f) (ownedBy rows o x) 0 _ _ (still f) h (record { fit = unfold collect in q })
 
-  -- what the calendar promises of one window more
-  pub fitting-turn : {k : ℕ} {f g : Fit} {y : TimeWindow} → ownedBy rows o x k ≡ true → y ≡ windowHere rows k
-      → ((l : Calendar ℤ) (a e : ℕ) → f ≡ fitOf l a e → g ≡ fitOf (l ++ windowOf y ∷ []) a e) → Fitting k f → Fitting (suc k) g
-  fitting-turn {k} h q p s =
-      record { fit = p (collect (windowBy rows o x) k) a e (s .fit) ∙ ap (λ l. fitOf l a e) (unfold collect windowBy in rw (h, q)) }
-
-  pub fitting-next : {n j i : ℕ} {f : Fit} → First (ownedBy rows o x) (suc i) n j → Fitting (suc i) f → Fitting j f
-  fitting-next {i = i} {f} h g = over (λ k. Fitting k f) (ownedBy rows o x) (suc i) _ _ (still f) h g
+  -- one window more, as the calendar promises, and on to the next
+  pub fitting-next : {N n i j : ℕ} {f g : Fit} {y : TimeWindow} → First (ownedBy rows o x) (suc i) n j → y ≡ windowHere rows i
+      → ((l : Calendar ℤ) (a e : ℕ) → f ≡ fitOf l a e → g ≡ fitOf (l ++ windowOf y ∷ []) a e) → Fitting i f → i < N → N ≡ n → Stands (ownedBy rows o x) n i → Fitting j g
+  fitting-next {i = i} {g = g} h q p s l z d =
+      over (λ k. Fitting k g) (ownedBy rows o x) (suc i) _ _ (still g) h
+      (record { fit = p (collect (windowBy rows o x) i) a e (s .fit) ∙ ap (λ l. fitOf l a e) (unfold collect windowBy in rw (d .here (omega arith), q)) })
 
   pub fitted : {N i : ℕ} {f : Fit} {r : Bool} → Holder rows o x → N ≤ i → N ≡ rowCount rows → Stands (ownedBy rows o x) (rowCount rows) i → Fitting i f
       → ((l : Calendar ℤ) (a e : ℕ) → f ≡ fitOf l a e → r ≡ intervalFits clock l (pos a) (pos e))

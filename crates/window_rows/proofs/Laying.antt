@@ -11,6 +11,8 @@ use lib.Dec.{leb}
 use lib.IntN.{ℤ, pos}
 use lib.ListN.{length, length-append}
 use lib.Seq.{sets}
+use mir.Syntax.{w64}
+use mir.Val.{Fits}
 use Rattle.loops.specs.Lists.{given, each}
 use Rattle.loops.specs.Numbers.{toNat}
 use Rattle.loops.specs.Range.{collect}
@@ -88,6 +90,12 @@ nothing-yet : (w : List ℕ) (at : ℕ) → calendarOf w at at ≡ []
 unfolding calendarOf windowsOf
 nothing-yet w at = ap (map windowOf) (none-below w at (min at (windowsIn w)) (omega arith))
 
+pub one-fits : (to : ℕ) → to < 800 → Fits w64 (to + 1)
+one-fits to l = record { fits = omega arith }
+
+pub below : {i N n : ℕ} → i < N → N ≡ n → i < n
+below l z = omega arith
+
 pub same-three : (w : List ℕ) (i : ℕ) {w′ : List ℕ} {a b c a′ b′ c′ : ℕ} → a ≡ a′ → b ≡ b′ → c ≡ c′ → w′ ≡ setThree w i a b c → w′ ≡ setThree w i a′ b′ c′
 same-three w i p q r h = rw (← p, ← q, ← r) h
 
@@ -154,7 +162,7 @@ module _ (rows : List ℤ) (o x : ℕ) where
         kept = λ from j l. refl;
       })
 
-  pub laying-turn : {w₀ w w′ : List ℕ} {at to k : ℕ} → ownedBy rows o x k ≡ true → to < 800 → w′ ≡ setThree w to (num rows k 2) (num rows k 3) (num rows k 4)
+  laying-turn : {w₀ w w′ : List ℕ} {at to k : ℕ} → ownedBy rows o x k ≡ true → to < 800 → w′ ≡ setThree w to (num rows k 2) (num rows k 3) (num rows k 4)
       → Laying w₀ w at to k → Laying w₀ w′ at (to + 1) (suc k)
   laying-turn {w₀} {w} {w′} {at} {to} {k} h l e g =
       let m : at ≤ to = omega (arith, g .count) in
@@ -174,15 +182,19 @@ module _ (rows : List ℤ) (o x : ℕ) where
         kept = λ from j q. before-kept w to (num rows k 2) (num rows k 3) (num rows k 4) from j (omega arith) ∙ g .kept from j q;
       })
 
-  pub laying-next : {n j i : ℕ} {w₀ w : List ℕ} {at to : ℕ} → First (ownedBy rows o x) (suc i) n j → Laying w₀ w at to (suc i) → Laying w₀ w at to j
-  laying-next {i = i} {w₀} {w} {at} {to} f g = over (λ k. Laying w₀ w at to k) (ownedBy rows o x) (suc i) _ _ (still w₀ w at to) f g
-
   -- there is room for one more
   pub room : {n N i : ℕ} {w₀ w : List ℕ} {at to : ℕ} → Laying w₀ w at to i → i < N → N ≡ n → Stands (ownedBy rows o x) n i → at + countBelow (ownedBy rows o x) n ≤ 800 → to < 800
   room {n} {N} {i} g l z s b = let h = counts n i (omega arith) (s .here (omega arith)) in omega (arith, g .count)
     where
       counts : (m k : ℕ) → k < m → ownedBy rows o x k ≡ true → countBelow (ownedBy rows o x) k < countBelow (ownedBy rows o x) m
       counts m k q e = count-less (ownedBy rows o x) k m q e
+
+  -- one window more, and on to the next
+  pub laying-next : {N i j : ℕ} {w₀ w w′ : List ℕ} {at to : ℕ} → Laying w₀ w at to i → First (ownedBy rows o x) (suc i) (rowCount rows) j
+      → Stands (ownedBy rows o x) (rowCount rows) i → i < N → N ≡ rowCount rows → w′ ≡ setThree w to (num rows i 2) (num rows i 3) (num rows i 4)
+      → at + countBelow (ownedBy rows o x) (rowCount rows) ≤ 800 → Laying w₀ w′ at (to + 1) j
+  laying-next {N} {i} {j} {w₀} {w} {w′} {at} {to} g f s l z e b =
+      over (λ k. Laying w₀ w′ at (to + 1) k) (ownedBy rows o x) (suc i) _ _ (still w₀ w′ at (to + 1)) f (laying-turn (s .here (omega arith)) (room g l z s b) e g)
 
   -- they are those of the definition
   by-owner : (id : ℕ) → ((k : ℕ) → ownedBy rows o x k ≡ (is rows k 0 x && is rows k 1 id)) → collect windowBy (rowCount rows) ≡ collect (windowNaming rows x id) (rowCount rows)
@@ -200,17 +212,17 @@ module _ (rows : List ℤ) (o x : ℕ) where
       ∙ rw (q .0) (sym (resource-windows rows (num rows o 1))))
       h
 
-  pub laid : {N i : ℕ} {w₀ w : List ℕ} {at to : ℕ} → Holder rows o x → N ≤ i → N ≡ rowCount rows → Stands (ownedBy rows o x) (rowCount rows) i
-      → Laying w₀ w at to i → Laid w₀ w at to (windows (sheet rows) x (num rows o 1)) × (to ≡ at + countBelow (ownedBy rows o x) (rowCount rows))
-  laid {i = i} {w₀ = w₀} {at = at} h l z s g =
-      let e : i ≡ rowCount rows = stands-end s l z in
-      let f : collect windowBy i ≡ windows (sheet rows) x (num rows o 1) = ap (collect windowBy) e ∙ windows-are h in (
+  module _ {N i : ℕ} {w₀ w : List ℕ} {at to : ℕ} (g : Laying w₀ w at to i) (l : N ≤ i) (z : N ≡ rowCount rows) (s : Stands (ownedBy rows o x) (rowCount rows) i) where
+    pub laid : Holder rows o x → Laid w₀ w at to (windows (sheet rows) x (num rows o 1))
+    laid h =
+        let f : collect windowBy i ≡ windows (sheet rows) x (num rows o 1) = ap (collect windowBy) (stands-end s l z) ∙ windows-are h in
         record {
           whole = g .whole ∙ ap (λ c. sets w₀ (3 * at) (calendarNumbers c)) f;
           places = g .places ∙ ap (λ c. at + length c) f;
           size = g .size;
           calendar = g .list ∙ f;
           kept = g .kept;
-        },
-        g .count ∙ ap (λ k. at + countBelow (ownedBy rows o x) k) e,
-      )
+        }
+
+    pub counted : to ≡ at + countBelow (ownedBy rows o x) (rowCount rows)
+    counted = g .count ∙ ap (λ k. at + countBelow (ownedBy rows o x) k) (stands-end s l z)

@@ -35,6 +35,10 @@ module _ (rows : List ℤ) where
   abbrev pub windowRow : ℕ → Window ℤ
   windowRow k = windowOf (windowHere rows k)
 
+  pub window-is : (k : ℕ) {a b c : ℕ} → a ≡ num rows k 2 → b ≡ num rows k 3 → c ≡ num rows k 4
+      → record { closed = a; start = b; end = c } ≡ windowHere rows k
+  window-is k p q r = rw (p, q, r)
+
   -- the window of row k, if it is of kind x and names that id
   abbrev pub windowNaming : ℕ → ℕ → ℕ → Calendar ℤ
   windowNaming x id k = given (is rows k 0 x && is rows k 1 id) (windowRow k)

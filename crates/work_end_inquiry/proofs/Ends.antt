@@ -3,9 +3,13 @@ use Prim.Native.Nat.{ℕ, zero, suc, _+_, _^_, _<_, _≤_, max, min}
 use mathlib.Core.Path.{_≡_, refl, sym, ap, subst, _∙_}
 use mathlib.Core.Bool.{Bool, true, false, cond, _&&_, _||_, true≢false}
 use mathlib.Core.List.{List, [], _∷_, _++_}
-use mathlib.Core.Option.{none, some}
+use mathlib.Core.Logic.{inr}
+use mathlib.Core.Option.{none}
 use native.Mathlib.Omega.{arith}
 use borrow.Author.Tests.{leb-true, lt-ltb}
+use mir.Syntax.{w64}
+use mir.Val.{SFits, toZ, ofZ}
+use mir.Facts.{toZ-ofZ}
 use lib.IntN.{ℤ, pos, negsuc}
 use lib.Signed.{leZ}
 use Rattle.loops.specs.Numbers.{toNat}
@@ -27,14 +31,24 @@ use Rattle.sheet.specs.Refusals.{refusalOf}
 use Rattle.refusals.specs.declared.Verdict.{Verdict}
 use Rattle.refusals.specs.declared.Verdict.the-variants as verdict
 use Rattle.sheet.specs.Places.{placeOf}
+use Rattle.sheet.specs.declared.Found.{Found}
+use Rattle.sheet.specs.declared.Found.the-variants.{At, Nothing}
+use Rattle.sheet.specs.inner.Found.{foundOf}
+use Rattle.sheet.specs.inner.Index.{Kinds}
 use Rattle.sheet.proofs.Lookups.{placed}
+use Rattle.owners.specs.inner.Owners.{Owned}
+use Rattle.validation.specs.inner.Answer.{Indexing}
+use Rattle.validation.proofs.Order.{tables-of}
 use Rattle.model.specs.Sheet.{sheet}
 use Rattle.model.specs.Resource.{windows}
 use Rattle.model.proofs.Accepting.{accepted, at-most}
-use Rattle.window_rows.specs.inner.Laid.{calendarNumbers, Laid}
-use Rattle.window_rows.proofs.WindowRows.{windowRow, windowNaming, resource-windows}
+use Rattle.model.proofs.Finds.{found-self}
+use Rattle.window_rows.specs.inner.Laid.{Holder, calendarNumbers, Laid}
+use Rattle.window_rows.proofs.WindowRows.{windowRow, windowNaming, resource-windows, windows-none}
 use Rattle.calendar.specs.declared.WorkEnd as calendar
+use Rattle.calendar.specs.declared.WorkEnd.the-variants as ending
 use Rattle.work_end_inquiry.specs.declared.InquiryAnswer.{InquiryAnswer}
+use Rattle.work_end_inquiry.specs.declared.InquiryAnswer.the-variants as answer
 use Rattle.work_end_inquiry.specs.inner.Said.{said}
 use Rattle.work_end_inquiry.specs.Inquiry.{InquiryOutcome, ends, refused, outcomeOf, inOrder, inquiryRefusal, inquiredCalendar, inquiry}
 
@@ -127,32 +141,29 @@ unfolding inClass inRange between
 work-in (pos n) e = leb-true n most (and-right (leZ (negsuc 3999999999999) (pos n)) (leZ (pos n) (pos most)) (in-range (inRange g-c (pos n)) (isNone (pos n)) e))
 work-in (negsuc n) e = omega arith
 
--- ---- what the functions work out: a signed number reaches a called function as a number that is equal to it
+-- ---- what the functions work out: a signed number reaches a called function as the machine reads it back
 
-module _ {start work z y : ℤ} {a : Bool} (p : z ≡ start) (q : y ≡ work) (e : a ≡ inClass t-c z) where
-  pub order-more : {b : Bool} → a ≡ true → b ≡ inClass g-c y → b ≡ inOrder start work
+abbrev read : ℤ → ℤ
+read x = toZ w64 (ofZ w64 x)
+
+module _ (start work : ℤ) {a : Bool} (e : a ≡ inClass t-c (read start)) (p : SFits w64 start) where
+  pub order-more : {b : Bool} → a ≡ true → b ≡ inClass g-c (read work) → SFits w64 work → b ≡ inOrder start work
   unfolding inOrder
-  order-more f g = g ∙ ap (λ c. c && inClass g-c y) (sym f ∙ e) ∙ ap (λ x. inClass t-c x && inClass g-c y) p ∙ ap (λ x. inClass t-c start && inClass g-c x) q
+  order-more f g q = rw (toZ-ofZ q) at g ∙ ap (λ c. c && inClass g-c work) (sym f ∙ rw (toZ-ofZ p) at e)
 
   pub order-no : a ≡ false → false ≡ inOrder start work
   unfolding inOrder
-  order-no f = ap (λ c. c && inClass g-c work) (sym f ∙ e ∙ ap (inClass t-c) p)
+  order-no f = ap (λ c. c && inClass g-c work) (sym f ∙ rw (toZ-ofZ p) at e)
 
-module _ (rows : List ℤ) {resource z : ℤ} {a : Bool} (p : z ≡ resource) (e : a ≡ inClass id-c z) where
-  pub calendar-known : {n : ℕ} → a ≡ true → n ≡ toNat z → windows (sheet rows) 15 n ≡ inquiredCalendar rows resource
-  unfolding inquiredCalendar
-  calendar-known f g = rw (sym (ap (inClass id-c) p) ∙ sym e ∙ f, g ∙ ap toNat p)
-
-  pub calendar-unknown : a ≡ false → [] ≡ inquiredCalendar rows resource
-  unfolding inquiredCalendar
-  calendar-unknown f = rw (sym (ap (inClass id-c) p) ∙ sym e ∙ f)
+pub said-end : {a : calendar.WorkEnd} {e : ℕ} → a ≡ ending.End e → answer.End e ≡ said a
+said-end h = sym (ap said h)
 
 -- no places, no windows
 calendar-none : (w : List ℕ) → layout.calendarOf w 0 0 ≡ []
 unfolding layout.calendarOf layout.windowsOf collect
 calendar-none w = let z : min 0 (layout.windowsIn w) ≡ 0 = omega arith in rw z
 
-pub laid-none : (w : List ℕ) {c : Calendar ℤ} → length w ≡ 2400 → [] ≡ c → Laid w w 0 0 c
+laid-none : (w : List ℕ) {c : Calendar ℤ} → length w ≡ 2400 → [] ≡ c → Laid w w 0 0 c
 laid-none w l e =
     subst (Laid w w 0 0) e
     (record {
@@ -163,11 +174,28 @@ laid-none w l e =
       kept = λ from j h. refl;
     })
 
-pub laid-found : (rows : List ℤ) (o id : ℕ) {w w′ : List ℕ} {r : ℕ} → placeOf rows 11 id ≡ some o → Laid w w′ 0 r (windows (sheet rows) 15 (num rows o 1)) → Laid w w′ 0 r (windows (sheet rows) 15 id)
-laid-found rows o id {w} {w′} {r} q h = subst (λ x. Laid w w′ 0 r (windows (sheet rows) 15 x)) (placed rows 11 id o q .id-is) h
+module _ (rows : List ℤ) where
+  module _ (resource : ℤ) {a : Bool} (e : a ≡ inClass id-c (read resource)) (p : SFits w64 resource) where
+    pub laid-known : {w w′ : List ℕ} {r n : ℕ} → Laid w w′ 0 r (windows (sheet rows) 15 n) → n ≡ toNat (read resource) → a ≡ true → Laid w w′ 0 r (inquiredCalendar rows resource)
+    unfolding inquiredCalendar
+    laid-known h g f = let c : inClass id-c resource ≡ true = sym (rw (toZ-ofZ p) at e) ∙ f in rw (c, sym (rw (toZ-ofZ p) at g)) h
 
-pub laid-as : {w w′ : List ℕ} {r : ℕ} {c d : Calendar ℤ} → c ≡ d → Laid w w′ 0 r c → Laid w w′ 0 r d
-laid-as {w} {w′} {r} e h = subst (Laid w w′ 0 r) e h
+    pub laid-unknown : {w : List ℕ} → a ≡ false → length w ≡ 2400 → Laid w w 0 0 (inquiredCalendar rows resource)
+    unfolding inquiredCalendar
+    laid-unknown {w} f l = let c : inClass id-c resource ≡ false = sym (rw (toZ-ofZ p) at e) ∙ f in laid-none w l (rw c)
+
+  module _ (id : ℕ) {f : Found} (e : foundOf f ≡ placeOf rows 11 id) where
+    pub laid-absent : {w : List ℕ} → f ≡ Nothing → refusalOf rows ≡ none → length w ≡ 2400 → Laid w w 0 0 (windows (sheet rows) 15 id)
+    laid-absent {w} g ok l = laid-none w l (sym (windows-none rows (accepted rows ok) id (sym e ∙ ap foundOf g)))
+
+    pub laid-found : {o r : ℕ} {w w′ : List ℕ} → f ≡ At o → Laid w w′ 0 r (windows (sheet rows) 15 (num rows o 1)) → Laid w w′ 0 r (windows (sheet rows) 15 id)
+    laid-found {o} {r} {w} {w′} g h = subst (λ x. Laid w w′ 0 r (windows (sheet rows) 15 x)) (placed rows 11 id o (sym e ∙ ap foundOf g) .id-is) h
+
+    pub found-below : (o : ℕ) → f ≡ At o → o ≤ rowCount rows
+    found-below o g = omega (arith, placed rows 11 id o (sym e ∙ ap foundOf g) .within)
+
+    pub found-holder : (o : ℕ) → f ≡ At o → Holder rows o 15
+    found-holder o g = inr (refl, found-self rows 11 id o (sym e ∙ ap foundOf g))
 
 -- ---- the answers
 
@@ -195,34 +223,38 @@ module _ (rows : List ℤ) (resource start work : ℤ) (ok : refusalOf rows ≡ 
       ∙ said-as-is (jointWorkEnd clock (inquiredCalendar rows resource ∷ []) (pos (toNat start)) work) fits-inquiry
       ∙ ap (λ x. ends (jointWorkEnd clock (inquiredCalendar rows resource ∷ []) x work)) same-start
 
-  pub ending-said : {r : InquiryAnswer} {a : calendar.WorkEnd} {s : ℕ} {z y : ℤ} (w : List ℕ) (m : ℕ) → z ≡ start → y ≡ work
-      → layout.calendarOf w 0 m ≡ inquiredCalendar rows resource → s ≡ toNat z
-      → a ≡ layout.saying (jointWorkEnd clock (layout.calendarsOf w (0 ∷ m ∷ [])) (pos s) y) → r ≡ said a
+  pub ending-said : {r : InquiryAnswer} {a : calendar.WorkEnd} {s m : ℕ} {w₀ w : List ℕ} → Laid w₀ w 0 m (inquiredCalendar rows (read resource)) → s ≡ toNat (read start)
+      → a ≡ layout.saying (jointWorkEnd clock (layout.calendarsOf w (0 ∷ m ∷ [])) (pos s) (read work)) → r ≡ said a → SFits w64 resource → SFits w64 start → SFits w64 work
       → outcomeOf r ≡ ends (jointWorkEnd clock (inquiredCalendar rows resource ∷ []) start work)
-  ending-said {r} {a} {s} {z} {y} w m p t q h e f =
-      ap outcomeOf
-      (f
-      ∙ ap said
-      (e
-      ∙ ap (λ (x : ℕ). layout.saying (jointWorkEnd clock (layout.calendarsOf w (0 ∷ m ∷ [])) (pos x) y)) (h ∙ ap toNat p)
-      ∙ ap (λ x. layout.saying (jointWorkEnd clock (layout.calendarsOf w (0 ∷ m ∷ [])) (pos (toNat start)) x)) t))
-      ∙ ending-is w m q
+  ending-said {m = m} {w = w} l h e f o p q =
+      ap outcomeOf (f ∙ ap said (rw (toZ-ofZ q, h, toZ-ofZ p) at e)) ∙ ending-is w m (l .calendar ∙ ap (inquiredCalendar rows) (toZ-ofZ o))
 
-module _ (rows : List ℤ) where
-  pub no-refusal : (v : Verdict) → verdictOf v ≡ refusalOf rows → v ≡ verdict.Fine → refusalOf rows ≡ none
-  no-refusal v e f = sym e ∙ ap verdictOf f
+module _ (rows : List ℤ) {v : Verdict} where
+  pub no-refusal : verdictOf v ≡ refusalOf rows → v ≡ verdict.Fine → refusalOf rows ≡ none
+  no-refusal e f = sym e ∙ ap verdictOf f
 
-  pub inquiry-refused : (resource start work : ℤ) {n k : ℕ} (v : Verdict) → verdictOf v ≡ refusalOf rows → v ≡ verdict.Refused n k
+  module _ {k₀ l₀ o₀ k l o : List ℕ} (i : Indexing rows k₀ l₀ o₀ v k l o) (f : v ≡ verdict.Fine) where
+    pub kinds-of : Kinds rows k
+    kinds-of = tables-of rows i (no-refusal (i .verdict) f) .kinds
+
+    pub owned-of : Owned rows o
+    owned-of = tables-of rows i (no-refusal (i .verdict) f) .owned
+
+  pub inquiry-refused : (resource start work : ℤ) {n k : ℕ} → verdictOf v ≡ refusalOf rows → v ≡ verdict.Refused n k
       → refused (record { number = n; place = k }) ≡ inquiry rows resource start work
   unfolding inquiry inquiryRefusal
-  inquiry-refused resource start work v e f = rw (sym e ∙ ap verdictOf f)
+  inquiry-refused resource start work e f = rw (sym e ∙ ap verdictOf f)
 
-  module _ {resource start work x z y : ℤ} (o : x ≡ resource) (p : z ≡ start) (q : y ≡ work) {a : Bool} (h : a ≡ inOrder z y) (ok : refusalOf rows ≡ none) where
+  module _ (resource start work : ℤ) {a : Bool} (h : a ≡ inOrder (read start) (read work)) (e : verdictOf v ≡ refusalOf rows) (f : v ≡ verdict.Fine)
+      (p : SFits w64 start) (q : SFits w64 work) where
+    in-order : inOrder start work ≡ a
+    in-order = sym (rw (toZ-ofZ p, toZ-ofZ q) at h)
+
     pub inquiry-own : a ≡ false → refused (record { number = 3; place = 0 }) ≡ inquiry rows resource start work
     unfolding inquiry inquiryRefusal
-    inquiry-own i = rw (ok, sym (ap (λ c. inOrder c y) p ∙ ap (inOrder start) q) ∙ sym h ∙ i)
+    inquiry-own i = rw (no-refusal e f, in-order ∙ i)
 
-    pub inquiry-ends : {r : InquiryOutcome} → a ≡ true → r ≡ ends (jointWorkEnd clock (inquiredCalendar rows x ∷ []) z y) → r ≡ inquiry rows resource start work
+    pub inquiry-ends : {r : InquiryOutcome} → r ≡ ends (jointWorkEnd clock (inquiredCalendar rows (read resource) ∷ []) (read start) (read work)) → a ≡ true → SFits w64 resource
+        → r ≡ inquiry rows resource start work
     unfolding inquiry inquiryRefusal
-    inquiry-ends i e =
-        e ∙ rw (ok, sym (ap (λ c. inOrder c y) p ∙ ap (inOrder start) q) ∙ sym h ∙ i, o, p, q)
+    inquiry-ends g i o = rw (toZ-ofZ o, toZ-ofZ p, toZ-ofZ q) at g ∙ rw (no-refusal e f, in-order ∙ i)

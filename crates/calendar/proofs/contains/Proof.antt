@@ -10,7 +10,7 @@ returns c = simp (lt-ltb _ _ (c .if1 .taken))
 
 returns-2 : tie.Need-returns-2
 unfolding contains
-returns-2 c = simp (le-ltb _ _ (c .before .if1 .left))
+returns-2 c = search le-ltb
 
 pub contains-spec : {M : Type 1} → statement M
 contains-spec = tie.close (tie.spec returns returns-2)

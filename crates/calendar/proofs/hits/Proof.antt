@@ -10,7 +10,7 @@ returns c = simp (le-ltb _ _ (c .if1 .taken))
 
 returns-2 : tie.Need-returns-2
 unfolding hits
-returns-2 c = simp (lt-ltb _ _ (c .before .if1 .left))
+returns-2 c = search lt-ltb
 
 pub hits-spec : {M : Type 1} → statement M
 hits-spec = tie.close (tie.spec returns returns-2)

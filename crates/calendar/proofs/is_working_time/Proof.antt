@@ -1,9 +1,6 @@
 -- `calendar::is_working_time` meets its contract. Assumes nothing.
 use borrow.Author.Needs.{needs}
-use mathlib.Core.Path.{ap, _∙_}
-use Rattle.calendar.specs.declared.Here.{Here}
-use Rattle.calendar.specs.inner.Scan.{allows}
-use Rattle.calendar.proofs.Stretches.{works-look}
+use Rattle.calendar.proofs.Stretches.{works-at}
 use Rattle.calendar.proofs.is_working_time.Statement.{statement}
 use Rattle.calendar.proofs.is_working_time.Tie as tie
 
@@ -14,7 +11,7 @@ is-allowed-requires : tie.Need-is-allowed-requires
 is-allowed-requires c κs = search needs
 
 returns : tie.Need-returns
-returns c = (c .is-allowed .ensures) ∙ ap (λ (z : Here). allows (z .most)) (c .before .look .ensures) ∙ works-look _ _ _ _ _
+returns c = search (needs, works-at)
 
 pub is-working-time-spec : {M : Type 1} → statement M
 is-working-time-spec = tie.close (tie.spec look-requires is-allowed-requires returns)

@@ -1,13 +1,13 @@
 -- `calendar::joint_look` meets its contract: `s` is what the calendars passed leave. Assumes nothing.
 use borrow.Author.Needs.{needs}
 use Prim.Native.Nat.{_-_, _/_, _≤_}
-use mathlib.Core.Path.{_≡_, ap, _∙_}
+use mathlib.Core.Path.{_≡_}
 use native.Mathlib.Omega.{arith}
 use mathlib.Core.Bool.{true}
 use mathlib.Core.List.{foldl}
 use lib.ListN.{length}
 use Rattle.calendar.specs.inner.Scan.{lookAt, withCalendar, jointLook}
-use Rattle.calendar.proofs.Places.{listsBelow, joint-start, joint-more, joint-end}
+use Rattle.calendar.proofs.Places.{listsBelow, joint-start, joint-next, joint-end}
 use Rattle.calendar.proofs.joint_look.Statement.{statement}
 use Rattle.calendar.proofs.joint_look.Tie as tie
 
@@ -54,11 +54,11 @@ loop-less : tie.Need-loop-less Inv-loop μ-loop
 loop-less c = omega arith
 
 loop-again : tie.Need-loop-again Inv-loop μ-loop
-loop-again c = (omega arith, joint-more _ _ _ _ _ ((c .before .before .before .before .before .loop .inv .1)) ((c .with-calendar .ensures) ∙ ap (withCalendar _) (c .before .look .ensures)))
+loop-again c = (omega arith, joint-next _ _ _ _ _ (c .with-calendar .ensures) (search needs) (search needs))
 
 returns : tie.Need-returns Inv-loop μ-loop
 unfolding jointLook
-returns c = joint-end _ _ _ _ _ _ ((c .before .loop .inv .0)) (c .loop-test .left) (omega arith) ((c .before .loop .inv .1))
+returns c = search (needs, joint-end)
 
 pub joint-look-spec : {M : Type 1} → statement M
 joint-look-spec =

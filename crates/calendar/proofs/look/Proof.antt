@@ -1,7 +1,7 @@
 -- `calendar::look` meets its contract: `s` is what the windows passed leave. Assumes nothing.
 use borrow.Author.Needs.{needs}
 use Prim.Native.Nat.{_-_, _≤_, max}
-use mathlib.Core.Path.{_≡_, ap, _∙_}
+use mathlib.Core.Path.{_≡_}
 use native.Mathlib.Omega.{arith}
 use mathlib.Core.List.{foldl}
 use Rattle.calendar.specs.inner.Scan.{withWindow, lookAt}
@@ -22,23 +22,23 @@ loop-holds : tie.Need-loop-holds Inv-loop μ-loop
 loop-holds c = (omega arith, omega arith, scan-start _ _ _ _)
 
 window-at-requires : tie.Need-window-at-requires Inv-loop μ-loop
-window-at-requires c κs = omega (arith, (c .before .before .last-place .ensures))
+window-at-requires c κs = search needs
 
 with-window-requires : tie.Need-with-window-requires Inv-loop μ-loop
 with-window-requires c κs = search needs
 
 add-i : tie.Need-add-i Inv-loop μ-loop
-add-i c = omega (arith, (c .before .before .before .before .last-place .ensures))
+add-i c = search needs
 
 loop-less : tie.Need-loop-less Inv-loop μ-loop
 loop-less c = omega arith
 
 loop-again : tie.Need-loop-again Inv-loop μ-loop
-loop-again c = (omega arith, omega arith, scan-more _ _ _ _ _ ((c .before .before .before .loop .inv .0)) ((c .before .before .before .loop .inv .2)) ((c .with-window .ensures) ∙ ap (withWindow _ _) (c .before .window-at .ensures)))
+loop-again c = (omega arith, omega arith, search (needs, scan-more))
 
 returns : tie.Need-returns Inv-loop μ-loop
 unfolding lookAt
-returns c = scan-end _ _ _ _ _ _ _ ((c .before .loop .inv .0)) ((c .before .loop .inv .1)) (c .loop-test .left) (c .before .before .last-place .ensures) ((c .before .loop .inv .2))
+returns c = search (needs, scan-end)
 
 pub look-spec : {M : Type 1} → statement M
 look-spec =

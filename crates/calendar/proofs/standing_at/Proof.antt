@@ -1,7 +1,5 @@
 -- `calendar::standing_at` meets its contract. Assumes nothing.
-use mathlib.Core.Path.{ap, _∙_}
-use mathlib.Core.Bool.{Bool}
-use Rattle.calendar.specs.inner.Scan.{standing, standingAt}
+use Rattle.calendar.specs.inner.Scan.{standingAt}
 use borrow.Author.Needs.{needs}
 use Rattle.calendar.proofs.standing_at.Statement.{statement}
 use Rattle.calendar.proofs.standing_at.Tie as tie
@@ -14,7 +12,7 @@ standing-of-requires c κs = search needs
 
 returns : tie.Need-returns
 unfolding standingAt
-returns c = (c .standing-of .ensures) ∙ ap (λ (b : Bool). standing (c .before .before .args .x .closed) b b) (c .before .contains .ensures)
+returns c = cc
 
 pub standing-at-spec : {M : Type 1} → statement M
 standing-at-spec = tie.close (tie.spec contains-requires standing-of-requires returns)

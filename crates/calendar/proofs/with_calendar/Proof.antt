@@ -1,5 +1,6 @@
 -- `calendar::with_calendar` meets its contract. Assumes nothing.
 use Rattle.calendar.specs.inner.Scan.{withCalendar}
+use Rattle.calendar.proofs.Places.{calendar-working}
 use borrow.Author.Needs.{needs}
 use Rattle.calendar.proofs.with_calendar.Statement.{statement}
 use Rattle.calendar.proofs.with_calendar.Tie as tie
@@ -8,8 +9,7 @@ is-allowed-requires : tie.Need-is-allowed-requires
 is-allowed-requires c κs = search needs
 
 returns : tie.Need-returns
-unfolding withCalendar
-returns c = rw ((c .before .if1 .taken), (c .is-allowed .ensures))
+returns c = search (needs, calendar-working)
 
 returns-2 : tie.Need-returns-2
 unfolding withCalendar

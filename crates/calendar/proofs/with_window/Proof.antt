@@ -1,9 +1,6 @@
 -- `calendar::with_window` meets its contract. Assumes nothing.
 use borrow.Author.Needs.{needs}
-use Prim.Native.Nat.{_≤_}
-use native.Mathlib.Omega.{arith}
-use Rattle.calendar.specs.inner.Scan.{withWindow}
-use Rattle.calendar.proofs.Stretches.{nearer-first}
+use Rattle.calendar.proofs.Stretches.{window-more}
 use Rattle.calendar.proofs.with_window.Statement.{statement}
 use Rattle.calendar.proofs.with_window.Tie as tie
 
@@ -23,10 +20,7 @@ lesser-requires : tie.Need-lesser-requires
 lesser-requires c κs = search needs
 
 returns : tie.Need-returns
-unfolding withWindow
-returns c =
-    let b : c .before .before .before .before .before .args .s .stop ≤ 18446744073709551615 = omega (arith, c .before .before .before .before .before .good .0) in
-    rw (c .before .greater .ensures, c .before .before .standing-at .ensures, c .lesser .ensures, c .before .before .before .nearer-of2 .ensures, c .before .before .before .before .nearer-of .ensures, nearer-first _ _ _ _ _ b)
+returns c = search (needs, window-more)
 
 pub with-window-spec : {M : Type 1} → statement M
 with-window-spec =

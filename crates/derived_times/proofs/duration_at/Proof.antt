@@ -18,7 +18,7 @@ num-at-requires-3 : tie.Need-num-at-requires-3
 num-at-requires-3 c κs = search needs
 
 returns : tie.Need-returns
-returns c = rw ((c .before .before .num-at .ensures), (c .before .num-at2 .ensures), (c .num-at3 .ensures))
+returns c = cc
 
 pub duration-at-spec : {M : Type 1} → statement M
 duration-at-spec =

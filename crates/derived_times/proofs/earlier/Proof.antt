@@ -1,4 +1,4 @@
-use borrow.Author.Tests.{lt-ltb, le-ltb}
+use Rattle.derived_times.proofs.Parts.{earlier-first, earlier-second}
 use borrow.Author.Needs.{needs}
 use Rattle.derived_times.proofs.earlier.Statement.{statement}
 use Rattle.derived_times.proofs.earlier.Tie as tie
@@ -19,13 +19,13 @@ enum-told-2 : tie.Need-enum-told-2
 enum-told-2 c = search needs
 
 returns-2 : tie.Need-returns-2
-returns-2 c = rw ((c .before .before .before .x .given .1), (c .enum-told2 .given .1))
+returns-2 c = cc
 
 returns-3 : tie.Need-returns-3
-returns-3 c = rw ((c .before .before .before .before .before .x .given .1), (c .before .before .y .given .1), lt-ltb _ _ (c .if1 .taken))
+returns-3 c = earlier-first (c .if1 .taken) (search needs) (cc)
 
 returns-4 : tie.Need-returns-4
-returns-4 c = rw ((c .before .before .before .before .before .x .given .1), (c .before .before .y .given .1), le-ltb _ _ (c .if1 .left))
+returns-4 c = earlier-second (c .if1 .left) (search needs) (cc)
 
 pub earlier-spec : {M : Type 1} → statement M
 earlier-spec =

@@ -1,9 +1,8 @@
+use Rattle.derived_times.proofs.Parts.{times-next, times-end}
 use borrow.Author.Needs.{needs}
-use Rattle.loops.proofs.StoreLaws.{Filled, filled-start, filled-turn}
+use Rattle.loops.proofs.StoreLaws.{Filled, filled-start}
 use Rattle.derived_times.specs.inner.Needs.{restAt}
 use Prim.Native.Nat.{_-_, _≤_}
-use Rattle.derived_times.proofs.Parts.{times-end}
-use native.Mathlib.Omega.{arith}
 use Rattle.derived_times.proofs.needs_of.Statement.{statement}
 use Rattle.derived_times.proofs.needs_of.Tie as tie
 
@@ -23,10 +22,10 @@ loop-holds : tie.Need-loop-holds Inv-loop μ-loop
 loop-holds c = (search needs, filled-start _)
 
 rest-at-requires : tie.Need-rest-at-requires Inv-loop μ-loop
-rest-at-requires c κs = ((c .before .before .before .before .before .before .pre .0), (c .before .before .before .before .before .before .pre .1), (c .before .before .before .before .before .before .pre .2), (c .before .before .before .before .before .before .pre .3), (c .before .before .before .before .timings-of .ensures), omega (arith, (c .before .before .loop-test .taken), (c .before .before .before .before .before .row-count .ensures)))
+rest-at-requires c κs = search needs
 
 set-need-requires : tie.Need-set-need-requires Inv-loop μ-loop
-set-need-requires c κs = (omega (arith, (c .before .before .before .loop-test .taken), (c .before .before .before .before .before .before .row-count .ensures), (c .before .before .before .before .before .before .before .pre .1 .short)))
+set-need-requires c κs = search needs
 
 add-k : tie.Need-add-k Inv-loop μ-loop
 add-k c = search needs
@@ -35,10 +34,10 @@ loop-less : tie.Need-loop-less Inv-loop μ-loop
 loop-less c = search needs
 
 loop-again : tie.Need-loop-again Inv-loop μ-loop
-loop-again c = (search needs, filled-turn _ _ _ _ _ (omega (arith, (c .before .before .before .before .loop-test .taken), (c .before .before .before .before .before .before .before .row-count .ensures), (c .before .before .before .before .before .before .before .before .pre .1 .short))) (c .before .rest-at .ensures) (c .set-need .ensures) ((c .before .before .before .before .before .loop .inv .1)))
+loop-again c = (search needs, search (needs, times-next))
 
 returns : tie.Need-returns Inv-loop μ-loop
-returns c = times-end _ _ _ _ (c .loop-test .left) ((c .before .loop .inv .0)) (c .before .before .before .row-count .ensures) ((c .before .before .before .before .pre .1 .short)) ((c .before .loop .inv .1))
+returns c = search (needs, times-end)
 
 pub needs-of-spec : {M : Type 1} → statement M
 needs-of-spec =

@@ -1,8 +1,4 @@
-use mathlib.Core.Path.{sym, ap, _∙_}
-use borrow.Author.Needs.{sfits-of}
-use mir.Facts.{toZ-ofZ}
-use Rattle.sheet.specs.inner.Found.{foundOf}
-use Rattle.derived_times.proofs.Parts.{piece-whole, activity-below, piece-found, work-amount, whole-amount, piece-unsplit}
+use Rattle.derived_times.proofs.Parts.{activity-below, whole-found, unsplit-found, piece-found, work-amount, whole-amount}
 use borrow.Author.Needs.{needs}
 use Rattle.derived_times.proofs.piece_at.Statement.{statement}
 use Rattle.derived_times.proofs.piece_at.Tie as tie
@@ -14,10 +10,10 @@ is-none-requires : tie.Need-is-none-requires
 is-none-requires c κs = search needs
 
 returns : tie.Need-returns
-returns c = (piece-whole _ _ _ ((c .before .before .before .pre .3)) ((c .before .before .before .pre .4)) (rw (toZ-ofZ (sfits-of (c .before .before .cell-at .ok)), (c .before .before .cell-at .ensures)) at (sym (c .before .is-none .ensures) ∙ (c .if1 .taken))), tt)
+returns c = (search (needs, whole-found), tt)
 
 find-owned-requires : tie.Need-find-owned-requires
-find-owned-requires c κs = (((c .before .before .before .pre .1)), activity-below _ _ _ ((c .before .before .before .pre .4)))
+find-owned-requires c κs = search (needs, activity-below)
 
 enum-known-i : tie.Need-enum-known-i
 enum-known-i c = search needs
@@ -26,7 +22,7 @@ enum-told : tie.Need-enum-told
 enum-told c = search needs
 
 returns-2 : tie.Need-returns-2
-returns-2 c = (piece-unsplit _ _ _ ((c .before .before .before .before .before .before .pre .3)) ((c .before .before .before .before .before .before .pre .4)) ((c .before .before .before .before .before .before .pre .0)) ((c .before .before .before .before .before .before .pre .2)) (rw (toZ-ofZ (sfits-of (c .before .before .before .before .before .cell-at .ok)), (c .before .before .before .before .before .cell-at .ensures)) at (sym (c .before .before .before .before .is-none .ensures) ∙ (c .before .before .before .if1 .left))) (sym (ap foundOf ((c .enum-told .given .1))) ∙ (c .before .before .find-owned .ensures)), tt)
+returns-2 c = (search (needs, unsplit-found), tt)
 
 num-at-requires : tie.Need-num-at-requires
 num-at-requires c κs = search needs

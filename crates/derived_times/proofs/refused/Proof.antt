@@ -5,7 +5,6 @@ use Rattle.loops.specs.Search.{first}
 use mathlib.Core.Option.{none}
 use Prim.Native.Nat.{_-_, _≤_}
 use Rattle.derived_times.proofs.Refusing.{refused-at, fault-some, fault-none, not-refused}
-use native.Mathlib.Omega.{arith}
 use mathlib.Core.Path.{_≡_}
 use Rattle.derived_times.proofs.refused.Statement.{statement}
 use Rattle.derived_times.proofs.refused.Tie as tie
@@ -23,10 +22,10 @@ loop-holds : tie.Need-loop-holds Inv-loop μ-loop
 loop-holds c = (search needs, first-zero _)
 
 is-too-large-requires : tie.Need-is-too-large-requires Inv-loop μ-loop
-is-too-large-requires c κs = ((c .before .before .before .pre), omega (arith, (c .loop-test .taken), (c .before .before .row-count .ensures)))
+is-too-large-requires c κs = search needs
 
 returns : tie.Need-returns Inv-loop μ-loop
-returns c = refused-at _ _ _ (c .before .before .loop-test .taken) (c .before .before .before .before .row-count .ensures) ((c .before .before .before .loop .inv .1)) (fault-some _ _ (c .before .is-too-large .ensures) (c .if1 .taken))
+returns c = search (needs, refused-at, fault-some)
 
 add-k : tie.Need-add-k Inv-loop μ-loop
 add-k c = search needs
@@ -35,10 +34,10 @@ loop-less : tie.Need-loop-less Inv-loop μ-loop
 loop-less c = search needs
 
 loop-again : tie.Need-loop-again Inv-loop μ-loop
-loop-again c = (search needs, first-miss _ _ ((c .before .before .before .loop .inv .1)) (fault-none _ _ (c .before .is-too-large .ensures) (c .if1 .left)))
+loop-again c = search (needs, first-miss, fault-none)
 
 returns-2 : tie.Need-returns-2 Inv-loop μ-loop
-returns-2 c = not-refused _ _ _ ((c .before .loop .inv .0)) (c .loop-test .left) (c .before .before .row-count .ensures) ((c .before .loop .inv .1))
+returns-2 c = search (needs, not-refused)
 
 pub refused-spec : {M : Type 1} → statement M
 refused-spec =

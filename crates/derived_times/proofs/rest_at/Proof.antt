@@ -1,7 +1,6 @@
-use mathlib.Core.Path.{sym, ap, _∙_}
-use Rattle.sheet.specs.inner.Found.{foundOf}
+use Rattle.sheet.proofs.Naming.{told}
 use Rattle.owners.proofs.Links.{books}
-use Rattle.derived_times.specs.inner.Needs.{restMs}
+use Rattle.derived_times.proofs.Parts.{found-none, found-some}
 use Rattle.derived_times.proofs.Refusing.{rest-most, rest-known, rest-unknown, rest-none}
 use borrow.Author.Needs.{needs}
 use Rattle.derived_times.proofs.rest_at.Statement.{statement}
@@ -11,7 +10,7 @@ is-at-requires : tie.Need-is-at-requires
 is-at-requires c κs = search needs
 
 activity-of-requires : tie.Need-activity-of-requires
-activity-of-requires c κs = (((c .before .before .pre .1)), ((c .before .before .pre .5)), books _ _ (sym (c .before .is-at .ensures) ∙ (c .if1 .taken)))
+activity-of-requires c κs = search (needs, books, told)
 
 enum-known-o : tie.Need-enum-known-o
 enum-known-o c = search needs
@@ -20,19 +19,19 @@ enum-told : tie.Need-enum-told
 enum-told c = search needs
 
 returns : tie.Need-returns
-returns c = rest-unknown _ _ (sym (c .before .before .before .before .is-at .ensures) ∙ (c .before .before .before .if1 .taken)) (sym (c .before .before .activity-of .ensures) ∙ ap foundOf ((c .enum-told .given .1)))
+returns c = search (needs, rest-unknown, told, found-none)
 
 duration-on-requires : tie.Need-duration-on-requires
-duration-on-requires c κs = (((c .before .before .before .before .before .before .pre .0)), ((c .before .before .before .before .before .before .pre .2)), ((c .before .before .before .before .before .before .pre .3)), ((c .before .before .before .before .before .before .pre .4)), ((c .before .before .before .before .before .before .pre .5)), (sym (c .before .before .before .before .before .is-at .ensures) ∙ (c .before .before .before .before .if1 .taken)), (sym (c .before .before .before .activity-of .ensures) ∙ ap foundOf ((c .before .o .given .1))))
+duration-on-requires c κs = search (needs, told, found-some)
 
 rest-ms-requires : tie.Need-rest-ms-requires
-rest-ms-requires c κs = rw (c .duration-on .ensures) (rest-most _)
+rest-ms-requires c κs = search (needs, rest-most)
 
 returns-2 : tie.Need-returns-2
-returns-2 c = (c .rest-ms .ensures) ∙ ap restMs (c .before .duration-on .ensures) ∙ rest-known _ _ _ (sym (c .before .before .before .before .before .before .before .is-at .ensures) ∙ (c .before .before .before .before .before .before .if1 .taken)) (sym (c .before .before .before .before .before .activity-of .ensures) ∙ ap foundOf ((c .before .before .before .o .given .1)))
+returns-2 c = search (needs, rest-known, told, found-some)
 
 returns-3 : tie.Need-returns-3
-returns-3 c = rest-none _ _ (sym (c .before .is-at .ensures) ∙ (c .if1 .left))
+returns-3 c = search (needs, rest-none, told)
 
 pub rest-at-spec : {M : Type 1} → statement M
 rest-at-spec =

@@ -1,6 +1,4 @@
-use Rattle.derived_times.specs.inner.Needs.{restMs}
 use Rattle.derived_times.proofs.Refusing.{rest-fits}
-use mathlib.Core.Path.{sym, ap}
 use borrow.Author.Needs.{needs}
 use Rattle.derived_times.proofs.rest_ms.Statement.{statement}
 use Rattle.derived_times.proofs.rest_ms.Tie as tie
@@ -9,13 +7,13 @@ enum-known-d : tie.Need-enum-known-d
 enum-known-d c = search needs
 
 add-result : tie.Need-add-result
-add-result c = rest-fits ((c .before .before .d .given .0 .0)) (rw ((c .before .before .d .given .1)) at (c .before .before .before .before .pre))
+add-result c = search (needs, rest-fits)
 
 enum-told : tie.Need-enum-told
 enum-told c = search needs
 
 returns : tie.Need-returns
-returns c = sym (ap restMs ((c .before .before .d .given .1)))
+returns c = cc
 
 returns-2 : tie.Need-returns-2
 returns-2 c = search needs

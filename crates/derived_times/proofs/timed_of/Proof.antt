@@ -8,7 +8,6 @@ use Rattle.loops.specs.Range.{fold}
 use Rattle.loops.specs.inner.Chain.{Stands}
 use Prim.Native.Nat.{_-_}
 use Rattle.derived_times.proofs.Derivation.{timed-quiet, known-first, known-next, known-end}
-use native.Mathlib.Omega.{arith}
 use mathlib.Core.Path.{_≡_}
 use Rattle.derived_times.proofs.timed_of.Statement.{statement}
 use Rattle.derived_times.proofs.timed_of.Tie as tie
@@ -26,13 +25,13 @@ new-requires : tie.Need-new-requires Inv-loop μ-loop
 new-requires c κs = search needs
 
 first-owned-requires : tie.Need-first-owned-requires Inv-loop μ-loop
-first-owned-requires c κs = ((c .before .before .pre .1), omega (arith, (c .before .before .pre .4)))
+first-owned-requires c κs = search needs
 
 loop-holds : tie.Need-loop-holds Inv-loop μ-loop
-loop-holds c = (search needs, known-first _ _ (c .first-owned .ensures) (timed-quiet _ _ _ _ ((c .before .before .before .pre .5)) ((c .before .before .before .pre .6))) (c .before .new .ensures))
+loop-holds c = search (needs, known-first, timed-quiet)
 
 timed-on-requires : tie.Need-timed-on-requires Inv-loop μ-loop
-timed-on-requires c κs = ((c .before .before .before .before .before .pre .0), (c .before .before .before .before .before .pre .2), (c .before .before .before .before .before .pre .3), (c .before .before .before .before .before .pre .7), omega (arith, (c .loop-test .taken), (c .before .before .before .before .row-count .ensures)))
+timed-on-requires c κs = search needs
 
 next-owned-requires : tie.Need-next-owned-requires Inv-loop μ-loop
 next-owned-requires c κs = search needs
@@ -41,10 +40,10 @@ loop-less : tie.Need-loop-less Inv-loop μ-loop
 loop-less c = search needs
 
 loop-again : tie.Need-loop-again Inv-loop μ-loop
-loop-again c = (search needs, known-next _ _ (c .next-owned .ensures) (timed-quiet _ _ _ _ ((c .before .before .before .before .before .before .before .pre .5)) ((c .before .before .before .before .before .before .before .pre .6))) ((c .before .before .before .loop .inv .1)) (c .before .timed-on .ensures))
+loop-again c = search (needs, known-next, timed-quiet)
 
 returns : tie.Need-returns Inv-loop μ-loop
-returns c = known-end _ _ _ _ _ (c .loop-test .left) (c .before .before .before .before .row-count .ensures) ((c .before .loop .inv .0)) ((c .before .loop .inv .1))
+returns c = search (needs, known-end)
 
 pub timed-of-spec : {M : Type 1} → statement M
 timed-of-spec =

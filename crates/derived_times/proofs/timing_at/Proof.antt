@@ -1,5 +1,5 @@
-use Rattle.derived_times.specs.inner.Rows.{timingOf}
-use mathlib.Core.Path.{sym, _∙_}
+use Rattle.sheet.proofs.Naming.{told}
+use Rattle.derived_times.proofs.Parts.{timing-speed, timing-fixed}
 use borrow.Author.Needs.{needs}
 use Rattle.derived_times.proofs.timing_at.Statement.{statement}
 use Rattle.derived_times.proofs.timing_at.Tie as tie
@@ -14,15 +14,13 @@ float-from-bits-requires : tie.Need-float-from-bits-requires
 float-from-bits-requires c κs = search needs
 
 returns : tie.Need-returns
-unfolding timingOf
-returns c = rw ((sym (c .before .before .before .is-at .ensures) ∙ (c .before .before .if1 .taken)), (c .float-from-bits .ensures), (c .before .num-at .ensures))
+returns c = search (needs, timing-speed, told)
 
 duration-at-requires : tie.Need-duration-at-requires
 duration-at-requires c κs = search needs
 
 returns-2 : tie.Need-returns-2
-unfolding timingOf
-returns-2 c = rw (sym (c .before .before .is-at .ensures) ∙ (c .before .if1 .left), (c .duration-at .ensures))
+returns-2 c = search (needs, timing-fixed, told)
 
 pub timing-at-spec : {M : Type 1} → statement M
 timing-at-spec =

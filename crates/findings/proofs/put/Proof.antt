@@ -1,8 +1,4 @@
-use Prim.Native.Nat.{_<_, _^_}
-use native.Mathlib.Omega.{arith}
-use mir.Facts.{toZ-pos}
-use mir.Syntax.{w64}
-use Rattle.findings.specs.inner.Sink.{put1}
+use Rattle.findings.proofs.SinkLaws.{put-read}
 use borrow.Author.Needs.{needs}
 use Rattle.findings.proofs.put.Statement.{statement}
 use Rattle.findings.proofs.put.Tie as tie
@@ -29,14 +25,7 @@ same-length : tie.Need-same-length
 same-length c = search needs
 
 returns : tie.Need-returns
-unfolding put1
-returns c =
-    let f = (c .before .before .before .before .before .before .before .before .args .f) in
-    let a : f .check < 2 ^ 63 = omega arith in
-    let b : f .kind < 2 ^ 63 = omega arith in
-    let d : f .entity < 2 ^ 63 = omega arith in
-    let e : f .severity < 2 ^ 63 = omega arith in
-    rw (toZ-pos w64 a, toZ-pos w64 b, toZ-pos w64 d, toZ-pos w64 e) at (c .before .put .ensures)
+returns c = put-read _ _ (search needs) (search needs) (search needs) (search needs) (search needs)
 
 pub put-spec : {M : Type 1} → statement M
 put-spec =

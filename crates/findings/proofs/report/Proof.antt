@@ -1,5 +1,4 @@
-use Rattle.findings.proofs.SinkLaws.{emit-one, emit-none}
-use mathlib.Core.Path.{sym, _∙_}
+use Rattle.findings.proofs.SinkLaws.{emit-yes, emit-no}
 use borrow.Author.Needs.{needs}
 use Rattle.findings.proofs.report.Statement.{statement}
 use Rattle.findings.proofs.report.Tie as tie
@@ -11,10 +10,10 @@ same-length : tie.Need-same-length
 same-length c = search needs
 
 returns : tie.Need-returns
-returns c = rw (c .before .before .before .if1 .taken) (c .before .put .ensures ∙ sym (emit-one _ _))
+returns c = search (needs, emit-yes)
 
 returns-2 : tie.Need-returns-2
-returns-2 c = rw (c .if1 .left) (sym (emit-none _))
+returns-2 c = search (needs, emit-no)
 
 pub report-spec : {M : Type 1} → statement M
 report-spec = tie.close (tie.spec put-requires same-length returns returns-2)

@@ -1,8 +1,4 @@
-use Rattle.line_buffer.proofs.Handing.{handed-full, handed-longer, handed-over, lines-within, stored-first}
-use mathlib.Core.Path.{sym}
-use native.Mathlib.Omega.{arith}
-use lib.ListN.{length-take}
-use lib.Seq.{length-take-le}
+use Rattle.line_buffer.proofs.Handing.{handed-full, handed-longer, handed-over, lines-within, taken-long, taken-within, stored-first}
 use borrow.Author.Needs.{needs}
 use Rattle.line_buffer.proofs.hand_over.Statement.{statement}
 use Rattle.line_buffer.proofs.hand_over.Tie as tie
@@ -20,13 +16,13 @@ returns-2 : tie.Need-returns-2
 returns-2 c = search (needs, handed-longer)
 
 mul-end : tie.Need-mul-end
-mul-end c = let h = lines-within _ _ _ (c .before .if1 .left) in search needs
+mul-end c = let h = lines-within _ _ _ (c .if2 .left) in search needs
 
 slice-aggregate-store : tie.Need-slice-aggregate-store
-slice-aggregate-store c = sym (length-take-le _ _ (lines-within _ _ _ (c .before .before .if2 .left)))
+slice-aggregate-store c = search (needs, taken-long, lines-within)
 
 store-requires : tie.Need-store-requires
-store-requires c κs = let h = lines-within _ _ _ (c .before .before .before .if1 .left) in simp length-take (omega arith)
+store-requires c κs = search (needs, taken-within, lines-within)
 
 same-length : tie.Need-same-length
 same-length c = search needs

@@ -1,7 +1,4 @@
-use lib.ListN.{length}
-use mathlib.Core.Path.{sym, ap, ap₂, _∙_}
-use Rattle.line_buffer.specs.inner.Sink.{sink}
-use Rattle.line_buffer.proofs.LineLaws.{held-within, put-fits, put-over}
+use Rattle.line_buffer.proofs.LineLaws.{held-room, held-fits, put-held, put-past}
 use borrow.Author.Needs.{needs}
 use Rattle.line_buffer.proofs.put.Statement.{statement}
 use Rattle.line_buffer.proofs.put.Tie as tie
@@ -10,10 +7,10 @@ is-held-requires : tie.Need-is-held-requires
 is-held-requires c κs = search needs
 
 mul-store : tie.Need-mul-store
-mul-store c = let h = held-within (length (c .before .before .before .args .out .now)) (c .before .before .before .args .n) (length (c .before .before .before .args .line .now)) (sym (c .before .before .is-held .ensures) ∙ (c .before .if1 .taken)) in search needs
+mul-store c = search (needs, held-fits)
 
 store-requires : tie.Need-store-requires
-store-requires c κs = let h = held-within (length (c .before .before .before .args .out .now)) (c .before .before .before .args .n) (length (c .before .before .before .args .line .now)) (sym (c .before .before .is-held .ensures) ∙ (c .before .if1 .taken)) in search needs
+store-requires c κs = search (needs, held-room)
 
 next-requires : tie.Need-next-requires
 next-requires c κs = search needs
@@ -22,13 +19,13 @@ same-length : tie.Need-same-length
 same-length c = search needs
 
 returns : tie.Need-returns
-returns c = ap₂ sink (c .before .before .store .ensures) (c .next .ensures) ∙ sym (put-fits _ _ _ _ (sym (c .before .before .before .before .before .is-held .ensures) ∙ (c .before .before .before .before .if1 .taken)))
+returns c = search (needs, put-held)
 
 next-requires-2 : tie.Need-next-requires-2
 next-requires-2 c κs = search needs
 
 returns-2 : tie.Need-returns-2
-returns-2 c = ap (sink _) (c .next2 .ensures) ∙ sym (put-over _ _ _ _ (sym (c .before .before .is-held .ensures) ∙ (c .before .if1 .left)))
+returns-2 c = search (needs, put-past)
 
 pub put-spec : {M : Type 1} → statement M
 put-spec =

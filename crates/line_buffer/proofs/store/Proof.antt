@@ -1,6 +1,5 @@
 use Prim.Native.Nat.{_-_}
 use lib.ListN.{length}
-use borrow.Author.Needs.{sfits-of}
 use Rattle.line_buffer.proofs.Storing.{Stored, stored-none, stored-next, stored-all}
 use borrow.Author.Needs.{needs}
 use Rattle.line_buffer.proofs.store.Statement.{statement}
@@ -37,13 +36,13 @@ loop-less : tie.Need-loop-less Inv-loop μ-loop
 loop-less c = search needs
 
 loop-again : tie.Need-loop-again Inv-loop μ-loop
-loop-again c = stored-next _ (sfits-of (c .out .given)) (c .before .loop-test .taken) (c .before .before .loop .inv)
+loop-again c = search (needs, stored-next)
 
 same-length : tie.Need-same-length Inv-loop μ-loop
-same-length c = (c .before .loop .inv .long)
+same-length c = search needs
 
 returns : tie.Need-returns Inv-loop μ-loop
-returns c = stored-all (c .loop-test .left) (c .before .loop .inv)
+returns c = search (needs, stored-all)
 
 pub store-spec : {M : Type 1} → statement M
 store-spec =

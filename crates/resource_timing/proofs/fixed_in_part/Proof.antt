@@ -1,7 +1,5 @@
-use mathlib.Core.Path.{sym, _∙_}
-use mathlib.Core.Path.{refl}
+use Rattle.resource_timing.proofs.Laws.{fixed-ms, fixed-large}
 use lib.Ieee.{ofBits, eq}
-use Rattle.resource_timing.proofs.Laws.{at-one, fixed-ms, fixed-large}
 use borrow.Author.Needs.{needs}
 use Rattle.resource_timing.proofs.fixed_in_part.Statement.{statement}
 use Rattle.resource_timing.proofs.fixed_in_part.Tie as tie
@@ -20,10 +18,10 @@ enum-told c = search needs
 
 returns : tie.Need-returns
 unfolding ofBits eq
-returns c = ((c .in-part .ensures)) ∙ sym (at-one _ _ refl) ∙ fixed-ms _ _ _ (sym ((c .before .before .process .given .1)) ∙ (c .before .before .before .before .share .ensures))
+returns c = search (needs, fixed-ms)
 
 returns-2 : tie.Need-returns-2
-returns-2 c = fixed-large _ _ (sym ((c .enum-told .given .1)) ∙ (c .before .before .share .ensures))
+returns-2 c = search (needs, fixed-large)
 
 pub fixed-in-part-spec : {M : Type 1} → statement M
 fixed-in-part-spec =

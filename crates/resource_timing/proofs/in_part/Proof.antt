@@ -1,8 +1,4 @@
-use mathlib.Core.Path.{sym, ap, _∙_}
-use Rattle.rounding.proofs.Laws.{limited-below, limited-large}
-use Rattle.resource_timing.specs.Durations.{atSpeed}
-use Rattle.resource_timing.specs.inner.Limits.{within}
-use Rattle.resource_timing.proofs.Laws.{at-beyond}
+use Rattle.resource_timing.proofs.Laws.{part-at, part-large}
 use borrow.Author.Needs.{needs}
 use Rattle.resource_timing.proofs.in_part.Statement.{statement}
 use Rattle.resource_timing.proofs.in_part.Tie as tie
@@ -20,10 +16,10 @@ enum-told : tie.Need-enum-told
 enum-told c = search needs
 
 returns : tie.Need-returns
-returns c = ((c .at-speed .ensures)) ∙ ap (λ n. within (atSpeed (record { «setup_ms» = (c .before .before .before .before .before .args .d) .«setup_ms»; «process_ms» = (c .before .before .before .before .before .args .process); «teardown_ms» = n }) ((c .before .before .before .before .before .args .speed)))) (limited-below _ _ (sym ((c .before .before .teardown .given .1)) ∙ (c .before .before .before .before .with-overhead .ensures)) .0)
+returns c = search (needs, part-at)
 
 returns-2 : tie.Need-returns-2
-returns-2 c = let l = limited-large _ (sym ((c .enum-told .given .1)) ∙ (c .before .before .with-overhead .ensures)) in at-beyond _ _ l
+returns-2 c = search (needs, part-large)
 
 pub in-part-spec : {M : Type 1} → statement M
 in-part-spec =

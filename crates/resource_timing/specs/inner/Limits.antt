@@ -46,7 +46,7 @@ longerBy time.TooLarge t f d = TooLarge
 longerBy (time.Ms m) time.TooLarge f d = TooLarge
 longerBy (time.Ms m) (time.Ms n) f d = cond (ltb m n) d f
 
-abbrev pub longerOf : Derived → Derived → Derived
+unfoldable pub longerOf : Derived → Derived → Derived
 longerOf f d = longerBy (timeOf f) (timeOf d) f d
 
 abbrev pub fixedWith : Fixed → Derived → Fixed
@@ -59,7 +59,7 @@ fixedIn Whole d = some d
 fixedIn (InPart p) d = option (shareWithin (d .«process_ms») (p .«work_ms») (p .«whole_ms»)) none (λ n. some (inPart d n p))
 
 -- one resource more that the piece runs on, by the activity's timing there
-abbrev pub timedWith : Timed → Piece → ResourceTiming → Timed
+unfoldable pub timedWith : Timed → Piece → ResourceTiming → Timed
 timedWith t piece (Speed s) = record { speed = mul binary64 (t .speed) s; fixed = t .fixed }
 timedWith t piece (Duration d) = record { speed = t .speed; fixed = fixedWith (t .fixed) (within (fixedIn piece d)) }
 

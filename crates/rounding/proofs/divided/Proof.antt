@@ -1,6 +1,6 @@
 -- `rounding::divided` meets its contract. Assumes nothing.
+use Rattle.rounding.proofs.Laws.{divided-is}
 use borrow.Author.Needs.{needs}
-use Rattle.rounding.specs.Rounding.{dividedBy}
 use Rattle.rounding.proofs.divided.Statement.{statement}
 use Rattle.rounding.proofs.divided.Tie as tie
 
@@ -11,8 +11,7 @@ round-requires : tie.Need-round-requires
 round-requires c κs = search needs
 
 returns : tie.Need-returns
-unfolding dividedBy
-returns c = rw (← c .before .nearest-u64-to-f64 .ensures) (c .round .ensures)
+returns c = search (needs, divided-is)
 
 pub divided-spec : {M : Type 1} → statement M
 divided-spec = tie.close (tie.spec nearest-u64-to-f64-requires round-requires returns)

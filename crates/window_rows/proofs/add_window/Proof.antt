@@ -16,7 +16,7 @@ set-window-requires : tie.Need-set-window-requires
 set-window-requires c κs = search needs
 
 returns : tie.Need-returns
-returns c = same-three (c .before .before .before .before .before .args .w .now) (c .before .before .before .before .before .args .i) (c .before .before .before .before .num-at .ensures) (c .before .before .before .num-at2 .ensures) (c .before .before .num-at3 .ensures) (c .set-window .ensures)
+returns c = search (needs, same-three)
 
 pub add-window-spec : {M : Type 1} → statement M
 add-window-spec =

@@ -1,12 +1,14 @@
 use borrow.Author.Needs.{needs}
 use Prim.Native.Nat.{_-_}
-use native.Mathlib.Omega.{arith}
 use Rattle.loops.specs.inner.Chain.{Stands}
 use Rattle.rows.specs.Cells.{rowCount}
 use Rattle.owners.specs.inner.Owners.{ownedBy}
-use Rattle.window_rows.proofs.Fitting.{Fitting, fitting-first, fitting-turn, fitting-next, fitted}
+use Rattle.window_rows.proofs.Fitting.{Fitting, fitting-first, fitting-next, fitted}
+use Rattle.window_rows.proofs.Laying.{below}
 use Rattle.window_rows.proofs.interval_fits.Statement.{statement}
 use Rattle.window_rows.proofs.interval_fits.Tie as tie
+
+ruleset walk = (needs, fitting-first, fitting-next, below, fitted)
 
 abbrev Inv-loop : tie.InvT-loop
 Inv-loop rows owned o x a e n fit₀ k₀ fit k = Stands (ownedBy rows o x) (rowCount rows) k × Fitting rows o x a e k fit
@@ -24,7 +26,7 @@ first-owned-requires : tie.Need-first-owned-requires Inv-loop μ-loop
 first-owned-requires c κs = search needs
 
 loop-holds : tie.Need-loop-holds Inv-loop μ-loop
-loop-holds c = (search needs, fitting-first _ _ _ _ _ (c .first-owned .ensures) (c .before .over .ensures))
+loop-holds c = search walk
 
 window-of-requires : tie.Need-window-of-requires Inv-loop μ-loop
 window-of-requires c κs = search needs
@@ -33,19 +35,19 @@ add-requires : tie.Need-add-requires Inv-loop μ-loop
 add-requires c κs = search needs
 
 next-owned-requires : tie.Need-next-owned-requires Inv-loop μ-loop
-next-owned-requires c κs = (((c .before .before .before .before .before .before .before .pre .0)), ((c .before .before .before .loop .inv .0)), omega (arith, (c .before .before .loop-test .taken), (c .before .before .before .before .before .before .row-count .ensures)))
+next-owned-requires c κs = search walk
 
 loop-less : tie.Need-loop-less Inv-loop μ-loop
 loop-less c = search needs
 
 loop-again : tie.Need-loop-again Inv-loop μ-loop
-loop-again c = (search needs, fitting-next _ _ _ _ _ (c .next-owned .ensures) (fitting-turn _ _ _ _ _ (((c .before .before .before .before .loop .inv .0 .here)) (omega (arith, (c .before .before .before .loop-test .taken), (c .before .before .before .before .before .before .before .row-count .ensures)))) (c .before .before .window-of .ensures) (c .before .add .ensures) ((c .before .before .before .before .loop .inv .1))))
+loop-again c = (search walk, search walk)
 
 fits-requires : tie.Need-fits-requires Inv-loop μ-loop
 fits-requires c κs = search needs
 
 returns : tie.Need-returns Inv-loop μ-loop
-returns c = fitted _ _ _ _ _ ((c .before .before .before .before .before .before .pre .2)) (c .before .loop-test .left) (c .before .before .before .before .before .row-count .ensures) ((c .before .before .loop .inv .0)) ((c .before .before .loop .inv .1)) (c .fits2 .ensures)
+returns c = search walk
 
 pub interval-fits-spec : {M : Type 1} → statement M
 interval-fits-spec =

@@ -1,4 +1,4 @@
-use mathlib.Core.Path.{sym}
+use Rattle.window_rows.proofs.WindowRows.{window-is}
 use borrow.Author.Needs.{needs}
 use Rattle.window_rows.proofs.window_of.Statement.{statement}
 use Rattle.window_rows.proofs.window_of.Tie as tie
@@ -13,7 +13,7 @@ num-at-requires-3 : tie.Need-num-at-requires-3
 num-at-requires-3 c κs = search needs
 
 returns : tie.Need-returns
-returns c = rw (sym ((c .before .before .num-at .ensures)), sym ((c .before .num-at2 .ensures)), sym ((c .num-at3 .ensures)))
+returns c = search (needs, window-is)
 
 pub window-of-spec : {M : Type 1} → statement M
 window-of-spec = tie.close (tie.spec num-at-requires num-at-requires-2 num-at-requires-3 returns)

@@ -1,5 +1,4 @@
-use mathlib.Core.Path.{sym, ap}
-use Rattle.work_end_inquiry.specs.inner.Said.{said}
+use Rattle.work_end_inquiry.proofs.Ends.{said-end}
 use borrow.Author.Needs.{needs}
 use Rattle.work_end_inquiry.proofs.answer_of.Statement.{statement}
 use Rattle.work_end_inquiry.proofs.answer_of.Tie as tie
@@ -17,7 +16,7 @@ enum-told-3 : tie.Need-enum-told-3
 enum-told-3 c = search needs
 
 returns : tie.Need-returns
-returns c = sym (ap said (c .before .a .given .1))
+returns c = search (needs, said-end)
 
 returns-2 : tie.Need-returns-2
 returns-2 c = search needs

@@ -1,7 +1,3 @@
-use mir.Syntax.{w64}
-use mir.ValLaws.{toZ-ofZ}
-use mathlib.Core.Path.{ap, _∙_}
-use Rattle.work_end_inquiry.specs.Inquiry.{inquiredCalendar}
 use Rattle.work_end_inquiry.proofs.Ends.{ending-said}
 use borrow.Author.Needs.{needs}
 use Rattle.work_end_inquiry.proofs.ending.Statement.{statement}
@@ -26,7 +22,7 @@ answer-of-requires : tie.Need-answer-of-requires
 answer-of-requires c κs = search needs
 
 returns : tie.Need-returns
-returns c = ending-said _ (c .before .before .before .before .before .before .before .args .resource) (c .before .before .before .before .before .before .before .args .start) (c .before .before .before .before .before .before .before .args .work) (c .before .before .before .before .before .before .before .pre .0) (c .before .before .before .before .before .before .before .pre .3) _ _ (toZ-ofZ w64 (c .before .before .before .before .before .before .before .args .start) (c .before .before .before .before .before .before .before .fits .start)) (toZ-ofZ w64 (c .before .before .before .before .before .before .before .args .work) (c .before .before .before .before .before .before .before .fits .work)) ((c .before .before .before .before .before .resource-calendar .ensures .calendar) ∙ ap (inquiredCalendar _) (toZ-ofZ w64 (c .before .before .before .before .before .before .before .args .resource) (c .before .before .before .before .before .before .before .fits .resource))) (c .before .before .nat .ensures) (c .before .joint-work-end .ensures) (c .answer-of .ensures)
+returns c = search (needs, ending-said)
 
 pub ending-spec : {M : Type 1} → statement M
 ending-spec =

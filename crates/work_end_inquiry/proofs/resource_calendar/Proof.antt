@@ -1,6 +1,4 @@
-use mir.Syntax.{w64}
-use mir.ValLaws.{toZ-ofZ}
-use Rattle.work_end_inquiry.proofs.Ends.{laid-none, laid-as, calendar-known, calendar-unknown}
+use Rattle.work_end_inquiry.proofs.Ends.{laid-known, laid-unknown}
 use borrow.Author.Needs.{needs}
 use Rattle.work_end_inquiry.proofs.resource_calendar.Statement.{statement}
 use Rattle.work_end_inquiry.proofs.resource_calendar.Tie as tie
@@ -18,10 +16,10 @@ resource-windows-requires : tie.Need-resource-windows-requires
 resource-windows-requires c κs = search needs
 
 returns : tie.Need-returns
-returns c = laid-as (calendar-known _ (toZ-ofZ w64 (c .before .before .before .before .before .before .before .args .resource) (c .before .before .before .before .before .before .before .fits .resource)) (c .before .before .before .before .in-class .ensures) (c .before .before .before .if1 .taken) (((c .before .before .nat .ensures)))) (c .resource-windows .ensures)
+returns c = search (needs, laid-known)
 
 returns-2 : tie.Need-returns-2
-returns-2 c = laid-none _ (c .before .before .before .before .pre .3) (calendar-unknown _ (toZ-ofZ w64 (c .before .before .before .before .args .resource) (c .before .before .before .before .fits .resource)) (c .before .in-class .ensures) (((c .if1 .left))))
+returns-2 c = search (needs, laid-unknown)
 
 pub resource-calendar-spec : {M : Type 1} → statement M
 resource-calendar-spec =

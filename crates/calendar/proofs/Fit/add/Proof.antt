@@ -1,5 +1,3 @@
-use mathlib.Core.Path.{ap, _∙_}
-use mathlib.Core.Bool.{_||_}
 use Rattle.calendar.proofs.Fitting.{fit-more}
 use borrow.Author.Needs.{needs}
 use Rattle.calendar.proofs.Fit.add.Statement.{statement}
@@ -21,7 +19,7 @@ either-requires-3 : tie.Need-either-requires-3
 either-requires-3 c κs = search needs
 
 returns : tie.Need-returns
-returns c = λ l a e q. fit-more l a e ((c .before .before .before .before .before .before .args .x)) q (c .before .before .before .before .either .ensures) ((c .before .before .either2 .ensures) ∙ ap (λ b. ((c .before .before .before .before .before .before .args .self .held)) || b) (c .before .before .before .opens .ensures)) ((c .either3 .ensures) ∙ ap (λ b. ((c .before .before .before .before .before .before .args .self .hit)) || b) (c .before .shuts .ensures))
+returns c = λ l a e q. search (needs, fit-more)
 
 pub add-spec : {M : Type 1} → statement M
 add-spec =

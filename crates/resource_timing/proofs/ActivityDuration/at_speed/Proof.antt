@@ -1,7 +1,6 @@
 -- `timing::ActivityDuration::at_speed` meets its contract. Assumes nothing.
-use mathlib.Core.Path.{sym, _∙_}
-use lib.Ieee.{ofBits}
 use Rattle.resource_timing.proofs.Laws.{at-one, at-other, at-large}
+use lib.Ieee.{ofBits}
 use borrow.Author.Needs.{needs}
 use Rattle.resource_timing.proofs.ActivityDuration.at_speed.Statement.{statement}
 use Rattle.resource_timing.proofs.ActivityDuration.at_speed.Tie as tie
@@ -11,7 +10,7 @@ derived-requires c κs = search needs
 
 returns : tie.Need-returns
 unfolding ofBits
-returns c = (c .derived .ensures) ∙ at-one _ _ (c .before .if1 .taken)
+returns c = search (needs, at-one)
 
 divided-requires : tie.Need-divided-requires
 divided-requires c κs = search needs
@@ -27,11 +26,11 @@ enum-told c = search needs
 
 returns-2 : tie.Need-returns-2
 unfolding ofBits
-returns-2 c = (c .derived2 .ensures) ∙ at-other _ _ _ (c .before .before .before .before .before .if1 .left) (sym (c .before .before .divided2 .given .1) ∙ (c .before .before .before .before .divided .ensures))
+returns-2 c = search (needs, at-other)
 
 returns-3 : tie.Need-returns-3
 unfolding ofBits
-returns-3 c = at-large _ _ (c .before .before .before .if1 .left) (sym (c .enum-told .given .1) ∙ (c .before .before .divided .ensures))
+returns-3 c = search (needs, at-large)
 
 pub at-speed-spec : {M : Type 1} → statement M
 at-speed-spec =

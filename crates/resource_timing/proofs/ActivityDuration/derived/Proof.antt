@@ -1,5 +1,4 @@
 -- `timing::ActivityDuration::derived` meets its contract. Assumes nothing.
-use mathlib.Core.Path.{sym, _∙_}
 use Rattle.resource_timing.proofs.Laws.{within-ms, within-large}
 use borrow.Author.Needs.{needs}
 use Rattle.resource_timing.proofs.ActivityDuration.derived.Statement.{statement}
@@ -15,10 +14,10 @@ enum-told-2 : tie.Need-enum-told-2
 enum-told-2 c = search needs
 
 returns : tie.Need-returns
-returns c = within-ms _ _ (sym (c .enum-told .given .1) ∙ (c .before .before .total-ms .ensures))
+returns c = search (needs, within-ms)
 
 returns-2 : tie.Need-returns-2
-returns-2 c = within-large _ (sym (c .enum-told2 .given .1) ∙ (c .before .before .total-ms .ensures))
+returns-2 c = search (needs, within-large)
 
 pub derived-spec : {M : Type 1} → statement M
 derived-spec = tie.close (tie.spec total-ms-requires enum-told enum-told-2 returns returns-2)

@@ -1,5 +1,4 @@
-use mathlib.Core.Path.{sym, _∙_}
-use borrow.Author.Tests.{lt-ltb, le-ltb}
+use Rattle.resource_timing.proofs.Laws.{first-large, next-large, next-longer, first-longer}
 use borrow.Author.Needs.{needs}
 use Rattle.resource_timing.proofs.Derived.longer.Statement.{statement}
 use Rattle.resource_timing.proofs.Derived.longer.Tie as tie
@@ -14,7 +13,7 @@ enum-told : tie.Need-enum-told
 enum-told c = search needs
 
 returns : tie.Need-returns
-returns c = rw (sym (c .before .before .total-ms .ensures) ∙ ((c .enum-told .given .1)))
+returns c = search first-large
 
 total-ms-requires-2 : tie.Need-total-ms-requires-2
 total-ms-requires-2 c κs = search needs
@@ -26,13 +25,13 @@ enum-told-2 : tie.Need-enum-told-2
 enum-told-2 c = search needs
 
 returns-2 : tie.Need-returns-2
-returns-2 c = rw (sym (c .before .before .before .before .before .before .total-ms .ensures) ∙ ((c .before .before .before .before .standing .given .1)), sym (c .before .before .total-ms2 .ensures) ∙ ((c .enum-told2 .given .1)))
+returns-2 c = search next-large
 
 returns-3 : tie.Need-returns-3
-returns-3 c = rw (sym (c .before .before .before .before .before .before .before .before .total-ms .ensures) ∙ ((c .before .before .before .before .before .before .standing .given .1)), sym (c .before .before .before .before .total-ms2 .ensures) ∙ ((c .before .before .total .given .1)), lt-ltb _ _ (c .if1 .taken))
+returns-3 c = search next-longer
 
 returns-4 : tie.Need-returns-4
-returns-4 c = rw (sym (c .before .before .before .before .before .before .before .before .total-ms .ensures) ∙ ((c .before .before .before .before .before .before .standing .given .1)), sym (c .before .before .before .before .total-ms2 .ensures) ∙ ((c .before .before .total .given .1)), le-ltb _ _ (c .if1 .left))
+returns-4 c = search first-longer
 
 pub longer-spec : {M : Type 1} → statement M
 longer-spec =

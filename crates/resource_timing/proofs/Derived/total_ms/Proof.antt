@@ -1,3 +1,4 @@
+use Rattle.resource_timing.proofs.Laws.{time-told}
 use Rattle.resource_timing.specs.inner.Limits.{timeOf}
 use borrow.Author.Needs.{needs}
 use Rattle.resource_timing.proofs.Derived.total_ms.Statement.{statement}
@@ -13,8 +14,7 @@ enum-told : tie.Need-enum-told
 enum-told c = search needs
 
 returns : tie.Need-returns
-unfolding timeOf
-returns c = rw ((c .before .before .self .given .1)) (c .total-ms .ensures)
+returns c = search (needs, time-told)
 
 returns-2 : tie.Need-returns-2
 unfolding timeOf

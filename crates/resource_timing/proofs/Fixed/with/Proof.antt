@@ -1,5 +1,4 @@
-use mathlib.Core.Path.{ap}
-use Rattle.resource_timing.specs.declared.Fixed.the-variants.{Standing}
+use Rattle.resource_timing.proofs.Laws.{with-longer}
 use borrow.Author.Needs.{needs}
 use Rattle.resource_timing.proofs.Fixed.with.Statement.{statement}
 use Rattle.resource_timing.proofs.Fixed.with.Tie as tie
@@ -17,7 +16,7 @@ returns : tie.Need-returns
 returns c = rw ((c .enum-told .given .1))
 
 returns-2 : tie.Need-returns-2
-returns-2 c = rw ((c .before .before .self .given .1)) (ap Standing (c .longer .ensures))
+returns-2 c = search (needs, with-longer)
 
 pub with-spec : {M : Type 1} → statement M
 with-spec = tie.close (tie.spec enum-told enum-known-self longer-requires returns returns-2)

@@ -1,3 +1,4 @@
+use Rattle.resource_timing.proofs.Laws.{whole-at, in-part-at}
 use borrow.Author.Needs.{needs}
 use Rattle.resource_timing.proofs.Piece.at_speed.Statement.{statement}
 use Rattle.resource_timing.proofs.Piece.at_speed.Tie as tie
@@ -15,10 +16,10 @@ in-part-requires : tie.Need-in-part-requires
 in-part-requires c κs = search needs
 
 returns : tie.Need-returns
-returns c = rw ((c .before .enum-told .given .1)) ((c .at-speed .ensures))
+returns c = search (needs, whole-at)
 
 returns-2 : tie.Need-returns-2
-returns-2 c = rw ((c .before .before .self .given .1)) ((c .in-part .ensures))
+returns-2 c = search (needs, in-part-at)
 
 pub at-speed-spec : {M : Type 1} → statement M
 at-speed-spec =

@@ -1,3 +1,4 @@
+use Rattle.resource_timing.proofs.Laws.{whole-fixed, in-part-fixed}
 use borrow.Author.Needs.{needs}
 use Rattle.resource_timing.proofs.Piece.fixed.Statement.{statement}
 use Rattle.resource_timing.proofs.Piece.fixed.Tie as tie
@@ -15,10 +16,10 @@ fixed-in-part-requires : tie.Need-fixed-in-part-requires
 fixed-in-part-requires c κs = search needs
 
 returns : tie.Need-returns
-returns c = rw ((c .before .enum-told .given .1)) ((c .derived .ensures))
+returns c = search (needs, whole-fixed)
 
 returns-2 : tie.Need-returns-2
-returns-2 c = rw ((c .before .before .self .given .1)) ((c .fixed-in-part .ensures))
+returns-2 c = search (needs, in-part-fixed)
 
 pub fixed-spec : {M : Type 1} → statement M
 fixed-spec =

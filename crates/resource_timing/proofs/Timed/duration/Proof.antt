@@ -1,3 +1,4 @@
+use Rattle.resource_timing.proofs.Laws.{no-fixed}
 use borrow.Author.Needs.{needs}
 use Rattle.resource_timing.proofs.Timed.duration.Statement.{statement}
 use Rattle.resource_timing.proofs.Timed.duration.Tie as tie
@@ -12,7 +13,7 @@ enum-known-fixed : tie.Need-enum-known-fixed
 enum-known-fixed c = search needs
 
 returns : tie.Need-returns
-returns c = rw ((c .before .enum-told .given .1)) ((c .at-speed .ensures))
+returns c = search no-fixed
 
 returns-2 : tie.Need-returns-2
 returns-2 c = search needs

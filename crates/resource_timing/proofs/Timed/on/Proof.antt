@@ -1,5 +1,4 @@
-use mathlib.Core.Path.{ap, _∙_}
-use Rattle.resource_timing.specs.inner.Limits.{fixedWith}
+use Rattle.resource_timing.proofs.Laws.{on-speed, on-fixed}
 use borrow.Author.Needs.{needs}
 use Rattle.resource_timing.proofs.Timed.on.Statement.{statement}
 use Rattle.resource_timing.proofs.Timed.on.Tie as tie
@@ -17,10 +16,10 @@ with-requires : tie.Need-with-requires
 with-requires c κs = search needs
 
 returns : tie.Need-returns
-returns c = rw ((c .before .timing .given .1))
+returns c = search on-speed
 
 returns-2 : tie.Need-returns-2
-returns-2 c = rw ((c .before .before .before .timing2 .given .1)) (ap (λ w. record { speed = (c .before .before .before .before .before .args .self) .speed; fixed = w }) ((c .with .ensures) ∙ ap (fixedWith ((c .before .before .before .before .before .args .self) .fixed)) (c .before .fixed .ensures)))
+returns-2 c = search on-fixed
 
 pub on-spec : {M : Type 1} → statement M
 on-spec =
