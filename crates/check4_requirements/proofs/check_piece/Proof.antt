@@ -22,7 +22,7 @@ same-length : tie.Need-same-length
 same-length c = search (needs, kept-thrice)
 
 returns : tie.Need-returns
-returns c = search (needs, piece-wrote)
+returns c = search piece-wrote
 
 pub check-piece-spec : {M : Type 1} → statement M
 check-piece-spec = tie.close (tie.spec id-at-requires is-apart-requires report-requires report-unaccompanied-requires fill-all-requires same-length returns)
