@@ -22,7 +22,7 @@ same-length : tie.Need-same-length
 same-length c = search (needs, kept-thrice)
 
 returns : tie.Need-returns
-returns c = search piece-wrote
+returns c = piece-wrote _ _ _ _ _ _ (c .before .before .before .before .before .before .before .before .before .before .id-at .ensures .0) (c .before .before .before .before .before .before .before .before .is-apart .ensures) (c .before .fill-all .ensures) (c .before .before .before .before .report-unaccompanied .ensures) (c .before .before .before .before .before .before .before .report .ensures)
 
 pub check-piece-spec : {M : Type 1} → statement M
 check-piece-spec = tie.close (tie.spec id-at-requires is-apart-requires report-requires report-unaccompanied-requires fill-all-requires same-length returns)
