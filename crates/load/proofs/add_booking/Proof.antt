@@ -22,7 +22,7 @@ add-result : tie.Need-add-result
 add-result c = search needs
 
 returns : tie.Need-returns
-returns c = (search (needs, gather-more), search (needs, behind-more))
+returns c = (gather-more _ _ (c .before .before .before .before .before .before .before .pre .0) (c .before .before .before .before .before .before .before .pre .2) (c .before .before .before .before .before .before .before .pre .4) (c .before .before .before .before .before .before .is-at .ensures) (c .before .before .before .before .before .if1 .taken) (c .before .before .before .before .num-at .ensures) (c .before .before .before .num-at2 .ensures) (c .before .before .usage-of .ensures .0) (c .before .before .usage-of .ensures .1) (c .before .before .before .before .before .before .before .pre .3) (c .set-booking .ensures) (c .before .before .before .before .before .before .before .pre .5), search (needs, behind-more))
 
 returns-2 : tie.Need-returns-2
 returns-2 c = search (needs, gather-other, behind-self)
