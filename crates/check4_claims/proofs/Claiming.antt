@@ -18,8 +18,9 @@ use Rattle.loops.proofs.BoolLaws.{bit}
 use Rattle.loops.proofs.RangeLaws.{collect-ext}
 use Rattle.loops.proofs.ListLaws.{each-append}
 use Rattle.loops.proofs.Walks.{collect-first, collect-next, silent-only, stands-end, only-here}
-use Rattle.findings.specs.inner.Sink.{Sink, emit}
-use Rattle.findings.proofs.SinkLaws.{emit-none, emit-then}
+use Rattle.findings.specs.declared.Violation.{Violation}
+use Rattle.findings.specs.inner.Sink.{Sink, sink, emit}
+use Rattle.findings.proofs.SinkLaws.{emit-none, emit-then, kept}
 use Rattle.rows.specs.Cells.{rowCount, num}
 use Rattle.owners.specs.inner.Owners.{ownedBy}
 use Rattle.model.specs.Schedule.{requirementUnfilled}
@@ -102,6 +103,10 @@ module _ (rows : List ℤ) (o q : ℕ) where
         wrote = sym (ap (λ x. emit s (each (lackingOf rows q) (x .claimed))) c ∙ (unfold each in emit-none s));
       }
 
+  pub claiming-kept : {free₀ free : List ℕ} {out₀ out out′ : List ℤ} {n₀ n n′ i units : ℕ} (fs : List Violation) → Claiming free₀ (sink out₀ n₀) i free units (sink out n)
+      → sink out′ n′ ≡ emit (sink out n) fs → length out′ ≡ length out₀
+  claiming-kept fs h w = kept _ _ fs w ∙ kept _ _ _ (h .wrote)
+
   module _ (free₀ : List ℕ) (s₀ : Sink) {n N i j : ℕ} (free : List ℕ) (units : ℕ) (s : Sink) (h : Claiming free₀ s₀ i free units s)
       (x : First (ownedBy rows o 23) (suc i) n j) (l : i < N) (z : N ≡ n) (a : Stands (ownedBy rows o 23) n i) where
     -- booking i is looked at
@@ -137,7 +142,7 @@ module _ (rows : List ℤ) (o q : ℕ) where
     unfolding only markedAt
     same-seen v = collect-ext _ _ i (λ k m. ap (λ y. cond (ownedBy rows o 23 k) (given (eqb y 1) (num rows k 3)) []) (getD-set-other free i k v 0 (λ w. omega arith)))
 
-    pub claiming-turn : {free′ : List ℕ} {units′ : ℕ} {s′ : Sink} → i < 800
+    pub claiming-turn : {free′ : List ℕ} {units′ : ℕ} {s′ : Sink} → n ≤ 800
         → s′ ≡ emit s (cond (takes rows q free units i) (lackingOf rows q (num rows i 3)) [])
         → units′ ≡ units + cond (takes rows q free units i) 1 0
         → free′ ≡ cond (takes rows q free units i) (set free i 0) free
@@ -180,13 +185,13 @@ module _ (rows : List ℤ) (o q : ℕ) where
     pub claiming-left : unclaimedOf rows o free ≡ claimOf rows q (unclaimedOf rows o free₀) .unclaimed
     claiming-left = rw at-end at (h .left)
 
-    pub claiming-wrote : (activity : ℕ) {s′ : Sink} {b : Bool} {u : ℕ} → b ≡ ltb units u → u ≡ num rows q 3
-        → s′ ≡ emit s (given b (requirementUnfilled 4 activity)) → s′ ≡ emit s₀ (filled rows activity q (unclaimedOf rows o free₀))
+    pub claiming-wrote : (activity : ℕ) {s′ : Sink} {u : ℕ} → u ≡ num rows q 3
+        → s′ ≡ emit s (given (ltb units u) (requirementUnfilled 4 activity)) → s′ ≡ emit s₀ (filled rows activity q (unclaimedOf rows o free₀))
     unfolding filled
-    claiming-wrote activity e f w =
+    claiming-wrote activity f w =
         emit-then _ _ s₀ (h .wrote) w
         ∙ ap (emit s₀) (ap₂ (λ k b. each (lackingOf rows q) (claimOf rows q (seen free₀ k) .claimed) ++ given b (requirementUnfilled 4 activity)) at-end
-        (e ∙ ap₂ ltb (h .count ∙ ap (λ k. length (claimOf rows q (seen free₀ k) .claimed)) at-end) f))
+        (ap₂ ltb (h .count ∙ ap (λ k. length (claimOf rows q (seen free₀ k) .claimed)) at-end) f))
 
 -- ---- the loop over the requirements
 
@@ -227,11 +232,11 @@ module _ (rows : List ℤ) (activity : ℕ) where
           wrote = sym (ap (λ y. emit s (claimsOf rows activity y (runsOnIn rows o p))) e ∙ emit-none s);
         }
 
-    pub filling-turn : (s₀ : Sink) {N i j : ℕ} {free free′ : List ℕ} {s s′ : Sink} → First (ownedBy rows o 5) (suc i) (rowCount rows) j → i < N → N ≡ rowCount rows
-        → Stands (ownedBy rows o 5) (rowCount rows) i → Filling s₀ i free s
+    pub filling-turn : (s₀ : Sink) {N i j : ℕ} {free free′ : List ℕ} {s s′ : Sink} → Filling s₀ i free s → First (ownedBy rows o 5) (suc i) (rowCount rows) j → i < N → N ≡ rowCount rows
+        → Stands (ownedBy rows o 5) (rowCount rows) i
         → s′ ≡ emit s (filled rows activity i (unclaimedOf rows o free))
         → unclaimedOf rows o free′ ≡ claimOf rows i (unclaimedOf rows o free) .unclaimed → length free′ ≡ 800 → Filling s₀ j free′ s′
-    filling-turn s₀ {N} {i} {j} {free} {free′} {s} {s′} x l z a h w m k =
+    filling-turn s₀ {N} {i} {j} {free} {free′} {s} {s′} h x l z a w m k =
         let e : asked j ≡ asked i ++ (i ∷ []) =
         collect-next (only (ownedBy rows o 5) (λ q. q ∷ [])) x (silent-only (ownedBy rows o 5) (λ q. q ∷ []))
         ∙ ap (λ y. asked i ++ y) (only-here (ownedBy rows o 5) (λ q. q ∷ []) l z a) in

@@ -77,8 +77,8 @@ module _ {p : ℕ → Bool} {f : ℕ → List Violation} {n : ℕ} where
   pub reporting-start : {s : Sink} {i : ℕ} → First p 0 n i → Reporting p f n s i s
   reporting-start {s} a = record { stands = record { high = a .high; here = a .here }; wrote = emit-first _ s a (silent-only p f) }
 
-  pub reporting-turn : {s₀ s s′ : Sink} {N i j : ℕ} → First p (suc i) n j → i < N → N ≡ n → Reporting p f n s₀ i s → s′ ≡ emit s (f i) → Reporting p f n s₀ j s′
-  reporting-turn x l z a t = record { stands = record { high = x .high; here = x .here }; wrote = emit-turn p f _ x l z (a .stands) (a .wrote) t }
+  pub reporting-turn : {s₀ s s′ : Sink} {N i j : ℕ} → Reporting p f n s₀ i s → First p (suc i) n j → i < N → N ≡ n → s′ ≡ emit s (f i) → Reporting p f n s₀ j s′
+  reporting-turn a x l z t = record { stands = record { high = x .high; here = x .here }; wrote = emit-turn p f _ x l z (a .stands) (a .wrote) t }
 
   pub reporting-end : {s₀ s : Sink} {N i : ℕ} → N ≤ i → N ≡ n → Reporting p f n s₀ i s → s ≡ emit s₀ (collect (only p f) n)
   reporting-end l z a = emit-end _ _ _ _ _ l z (a .stands) (a .wrote)

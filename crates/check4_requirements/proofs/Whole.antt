@@ -14,6 +14,7 @@ use Rattle.loops.specs.inner.Chain.{only}
 use Rattle.loops.proofs.RangeLaws.{collect-ext}
 use Rattle.loops.proofs.NumberLaws.{eqb-swap}
 use Rattle.findings.specs.declared.Violation.{Violation}
+use Rattle.findings.specs.inner.Sink.{Sink, emit}
 use Rattle.calendar.specs.Clock.{clock}
 use Rattle.rows.specs.Cells.{rowCount, num, is}
 use Rattle.sheet.specs.Places.{ofKind, placeOf}
@@ -157,6 +158,6 @@ module _ (rows : List ℤ) (acc : Accepted rows) where
   unfolding checkRequirements checkTask
   whole = tasks-by-rows rows acc (checkActivityRequirements clock (sheet rows)) (checkActivity rows) activity-is
 
-pub by-rows : (rows : List ℤ) {kinds links owned : List ℕ} → Indexed rows kinds links owned
-    → collect (only (ofKind rows 1) (checkTask rows)) (rowCount rows) ≡ checkRequirements clock (sheet rows)
-by-rows rows h = whole rows (accepted rows (h .accepted))
+pub by-rows : (rows : List ℤ) {kinds links owned : List ℕ} (s : Sink) {s′ : Sink} → Indexed rows kinds links owned
+    → s′ ≡ emit s (collect (only (ofKind rows 1) (checkTask rows)) (rowCount rows)) → s′ ≡ emit s (checkRequirements clock (sheet rows))
+by-rows rows s h w = w ∙ ap (emit s) (whole rows (accepted rows (h .accepted)))

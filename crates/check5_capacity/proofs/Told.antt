@@ -49,7 +49,7 @@ module _ (z : ℤ) (n : ℕ) (f : SFits w64 z) where
 -- ---- a resource
 
 module _ (rows : List ℤ) (x : ℕ) where
-  pub peak-is : {p m : ℕ} {b b′ : List ℕ} → Gathered rows x b b′ m → p ≡ peakOf ltZ (lent b′ m) → p ≡ peak clock (sheet rows) x
+  peak-is : {p m : ℕ} {b b′ : List ℕ} → Gathered rows x b b′ m → p ≡ peakOf ltZ (lent b′ m) → p ≡ peak clock (sheet rows) x
   unfolding peak
   peak-is g e = e ∙ ap (peakOf ltZ) (g .list)
 
@@ -57,10 +57,10 @@ module _ (rows : List ℤ) (x : ℕ) where
   pub bookings-all : {m : ℕ} {b b′ : List ℕ} → Gathered rows x b b′ m → Gathered rows x b b′ (length (bookingsOn (sheet rows) x))
   bookings-all {b = b} {b′ = b′} g = subst (Gathered rows x b b′) (g .count) g
 
-  pub resource-told : (s : Sink) {s′ : Sink} {o : Bool} {c : ℤ} {p : ℕ} → SFits w64 c → o ≡ ltZ (toZ w64 (ofZ w64 c)) (pos p) → c ≡ capOf (sheet rows) x
-      → p ≡ peak clock (sheet rows) x → s′ ≡ emit s (given o (capacityExceeded 5 x)) → s′ ≡ emit s (checkResource clock (sheet rows) x)
+  pub resource-told : (s : Sink) {s′ : Sink} {o : Bool} {c : ℤ} {p m : ℕ} {b b′ : List ℕ} → SFits w64 c → o ≡ ltZ (toZ w64 (ofZ w64 c)) (pos p) → c ≡ capOf (sheet rows) x
+      → Gathered rows x b b′ m → p ≡ peakOf ltZ (lent b′ m) → s′ ≡ emit s (given o (capacityExceeded 5 x)) → s′ ≡ emit s (checkResource clock (sheet rows) x)
   unfolding checkResource
-  resource-told s f e c p q = rw (← c, ← p) (rw (e, toZ-ofZ f) at q)
+  resource-told s f e c g p q = rw (← c, ← peak-is g p) (rw (e, toZ-ofZ f) at q)
 
 -- ---- row by row
 
@@ -76,6 +76,6 @@ module _ (rows : List ℤ) where
   unfolding each
   told-first {k = k} s l z a e q = rw (booked-at rows k, a .here (omega arith), ← e) (q ∙ ap (emit s) (sym (append-nil _)))
 
-  pub told-all : collect toldAt (rowCount rows) ≡ checkCapacity clock (sheet rows)
+  pub told-all : (s : Sink) {s′ : Sink} → s′ ≡ emit s (collect toldAt (rowCount rows)) → s′ ≡ emit s (checkCapacity clock (sheet rows))
   unfolding checkCapacity bookedResources
-  told-all = sym (each-collect (checkResource clock (sheet rows)) (bookedAt (sheet rows)) (rowCount rows))
+  told-all s q = q ∙ ap (emit s) (sym (each-collect (checkResource clock (sheet rows)) (bookedAt (sheet rows)) (rowCount rows)))

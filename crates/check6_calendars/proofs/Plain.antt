@@ -3,7 +3,7 @@ use Prim.Native.Nat.{ℕ}
 use mathlib.Core.Path.{_≡_, ap, ap₂, sym, _∙_}
 use mathlib.Core.Bool.{Bool, not}
 use mathlib.Core.List.{List, append-nil}
-use mathlib.Core.Option.{none, some}
+use mathlib.Core.Option.{Option, none, some}
 use lib.IntN.{ℤ, pos}
 use Rattle.loops.specs.Lists.{given}
 use Rattle.calendar.specs.Clock.{clock}
@@ -12,25 +12,24 @@ use Rattle.findings.specs.declared.Violation.{Violation}
 use Rattle.findings.specs.inner.Sink.{Sink, emit}
 use Rattle.findings.proofs.SinkLaws.{emit-then}
 use Rattle.rows.specs.Cells.{num}
+use Rattle.sheet.specs.declared.Found.{Found}
+use Rattle.sheet.specs.declared.Found.the-variants.{At}
+use Rattle.sheet.specs.inner.Found.{foundOf}
+use Rattle.sheet.specs.Places.{placeOf}
+use Rattle.sheet.proofs.Lookups.{placed}
 use Rattle.model.specs.Sheet.{sheet}
 use Rattle.model.specs.Resource.{windows}
 use Rattle.model.specs.Schedule.{violation, resourceUnavailable, timeWindowViolation}
 use Rattle.model.specs.inner.Records.{activityOf, assignmentOf}
 use Rattle.definition.specs.CheckCalendars.{checkPlain}
 
+-- a row that was found
+pub place-told : {f : Found} {x : Option ℕ} {k : ℕ} → f ≡ At k → foundOf f ≡ x → x ≡ some k
+place-told q e = sym e ∙ ap foundOf q
+
 module _ (rows : List ℤ) (k : ℕ) where
   abbrev fitting : ℕ → ℕ → Bool
   fitting x id = intervalFits clock (windows (sheet rows) x id) (pos (num rows k 4)) (pos (num rows k 5))
-
-  -- the finding by the windows of row o, whose id is the one that the booking names
-  pub outside-told : (x o id kind severity : ℕ) {b : Bool} {e : ℕ} (s : Sink) {s′ : Sink} → num rows o 1 ≡ id → b ≡ fitting x (num rows o 1) → e ≡ id
-      → s′ ≡ emit s (given (not b) (violation 6 kind e severity)) → s′ ≡ emit s (given (not (fitting x id)) (violation 6 kind id severity))
-  outside-told x o id kind severity s i f e q =
-      q ∙ ap (emit s) (ap₂ (λ y z. given (not y) (violation 6 kind z severity)) (f ∙ ap (fitting x) i) e)
-
-  pub outside-here : (x o kind severity : ℕ) {b : Bool} {e : ℕ} (s : Sink) {s′ : Sink} → b ≡ fitting x (num rows o 1) → e ≡ num rows k 1
-      → s′ ≡ emit s (given (not b) (violation 6 kind e severity)) → s′ ≡ emit s (given (not (fitting x (num rows o 1))) (violation 6 kind (num rows k 1) severity))
-  outside-here x o kind severity s f e q = q ∙ ap (emit s) (ap₂ (λ y z. given (not y) (violation 6 kind z severity)) f e)
 
   pub fits-told : (c : Calendar ℤ) {b : Bool} {a e : ℕ} → a ≡ num rows k 4 → e ≡ num rows k 5
       → b ≡ intervalFits clock c (pos a) (pos e) → b ≡ intervalFits clock c (pos (num rows k 4)) (pos (num rows k 5))
@@ -39,10 +38,20 @@ module _ (rows : List ℤ) (k : ℕ) where
   abbrev pub byResource : List Violation
   byResource = given (not (fitting 15 (num rows k 3))) (resourceUnavailable 6 (num rows k 3))
 
-  pub both-told : (a : ℕ) (s : Sink) {s₁ s₂ : Sink} → s₁ ≡ emit s byResource → s₂ ≡ emit s₁ (given (not (fitting 16 (num rows a 1))) (timeWindowViolation 6 (num rows k 1)))
+  -- the finding by the windows of row o, whose id is the one that the booking names
+  pub resource-outside : {o e : ℕ} {b : Bool} (s : Sink) {s′ : Sink} → placeOf rows 11 (num rows k 3) ≡ some o → b ≡ fitting 15 (num rows o 1) → e ≡ num rows k 3
+      → s′ ≡ emit s (given (not b) (violation 6 4 e 85)) → s′ ≡ emit s byResource
+  resource-outside {o} s p f e q =
+      q ∙ ap (emit s) (ap₂ (λ y z. given (not y) (violation 6 4 z 85)) (f ∙ ap (fitting 15) (placed rows 11 _ o p .id-is)) e)
+
+  pub activity-outside : (a : ℕ) {e : ℕ} {b : Bool} (s : Sink) {s′ : Sink} → b ≡ fitting 16 (num rows a 1) → e ≡ num rows k 1
+      → s′ ≡ emit s (given (not b) (violation 6 7 e 75)) → s′ ≡ emit s (given (not (fitting 16 (num rows a 1))) (timeWindowViolation 6 (num rows k 1)))
+  activity-outside a s f e q = q ∙ ap (emit s) (ap₂ (λ y z. given (not y) (violation 6 7 z 75)) f e)
+
+  pub both-told : (a : ℕ) (s s₁ : Sink) {s₂ : Sink} → s₂ ≡ emit s₁ (given (not (fitting 16 (num rows a 1))) (timeWindowViolation 6 (num rows k 1))) → s₁ ≡ emit s byResource
       → s₂ ≡ emit s (checkPlain clock (sheet rows) (assignmentOf rows k) (some (activityOf rows a)))
   unfolding checkPlain
-  both-told a s p q = emit-then _ _ s p q
+  both-told a s s₁ q p = emit-then _ _ s p q
 
   pub alone : byResource ≡ checkPlain clock (sheet rows) (assignmentOf rows k) none
   unfolding checkPlain

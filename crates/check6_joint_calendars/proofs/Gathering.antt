@@ -32,6 +32,7 @@ use Rattle.owners.specs.inner.Owners.{ownPlace, ownedBy}
 use Rattle.model.specs.Sheet.{sheet}
 use Rattle.model.specs.Resource.{windows}
 use Rattle.model.proofs.Requiring.{count-less}
+use Rattle.model.proofs.Standing.{stands-kind}
 use Rattle.window_rows.specs.inner.Laid.{Holder, calendarNumbers, Laid}
 use Rattle.window_rows.proofs.Laying.{numbers-length}
 use Rattle.pieces.proofs.Chains.{owned-kind}
@@ -205,13 +206,12 @@ module _ (rows : List ℤ) where
 
 module _ (rows : List ℤ) (marks : List ℕ) where
   -- there is place for one calendar more
-  pub room : {r : ℕ} {w₀ cs₀ w cs : List ℕ} {g : Gathered} → r < rowCount rows → rowCount rows ≤ 800 → Resources rows marks r w₀ cs₀ w cs g
-      → (g .windows + countBelow (ownedBy rows r 15) (rowCount rows) ≤ 800) × (g .calendars < 800)
-  room {r} {g = g} l b h =
-      let a = windows-more rows r (rowCount rows) in
-      let c = count-le (windowAbove rows (suc r)) (rowCount rows) in
-      let d = count-le (ofKind rows 11) r in
-      (omega (arith, h .windows), omega (arith, h .calendars))
+  module _ {r : ℕ} {w₀ cs₀ w cs : List ℕ} {g : Gathered} (h : Resources rows marks r w₀ cs₀ w cs g) (b : rowCount rows ≤ 800) where
+    pub room-windows : g .windows + countBelow (ownedBy rows r 15) (rowCount rows) ≤ 800
+    room-windows = omega (arith, windows-more rows r (rowCount rows), count-le (windowAbove rows (suc r)) (rowCount rows), h .windows)
+
+    pub room-calendars : {N : ℕ} → r < N → N ≡ rowCount rows → g .calendars < 800
+    room-calendars l z = omega (arith, count-le (ofKind rows 11) r, h .calendars)
 
   module _ {r : ℕ} {w₀ cs₀ w cs : List ℕ} {g : Gathered} where
     gather-more : {w′ cs′ : List ℕ} {g′ : Gathered} → marked marks r ≡ true → is rows r 0 11 ≡ true
@@ -243,7 +243,7 @@ module _ (rows : List ℤ) (marks : List ℕ) where
     }
 
     -- row r is judged
-    pub gather-at : {w′ cs′ : List ℕ} {g′ : Gathered} → is rows r 0 11 ≡ true → AddedAt rows marks r w cs g w′ cs′ g′
+    gather-at : {w′ cs′ : List ℕ} {g′ : Gathered} → is rows r 0 11 ≡ true → AddedAt rows marks r w cs g w′ cs′ g′
         → Resources rows marks r w₀ cs₀ w cs g → Resources rows marks (suc r) w₀ cs₀ w′ cs′ g′
     gather-at {w′} {cs′} {g′} k a h = go (marked marks r) refl
       where
@@ -251,9 +251,18 @@ module _ (rows : List ℤ) (marks : List ℕ) where
         go true e = gather-more e k (a .taken e) h
         go false e = let p = a .passed e in rw (p .0, p .1, p .2) (gather-none e h)
 
+  -- row r's mark is read
+  module _ {r : ℕ} {w cs : List ℕ} {g : Gathered} where
+    pub added-taken : {w′ cs′ : List ℕ} {g′ : Gathered} → Added (windows (sheet rows) 15 (num rows r 1)) (countBelow (ownedBy rows r 15) (rowCount rows)) w cs g w′ cs′ g′
+        → getD marks r 0 ≡ 1 → AddedAt rows marks r w cs g w′ cs′ g′
+    added-taken a q = record { taken = λ e. a; passed = λ e. absurd (true≢false (sym (eq-eqb _ _ q) ∙ e)) }
+
+    pub added-passed : (getD marks r 0 ≡ 1 → ⊥) → AddedAt rows marks r w cs g w cs g
+    added-passed q = record { taken = λ e. absurd (true≢false (sym e ∙ ne-eqb _ _ q)); passed = λ e. (refl, refl, refl) }
+
   module _ (m : OnResources rows marks) where
-    pub holder : {r : ℕ} → r < rowCount rows → marked marks r ≡ true → Holder rows r 15
-    holder l e = inr (refl, m .resource _ l e)
+    pub holder : {r : ℕ} → r < rowCount rows → getD marks r 0 ≡ 1 → Holder rows r 15
+    holder l e = inr (refl, m .resource _ l (eq-eqb _ _ e))
 
     -- a row that is no resource is not marked
     unmarked : (r : ℕ) → r < rowCount rows → ofKind rows 11 r ≡ false → (b : Bool) → marked marks r ≡ b → marked marks r ≡ false
@@ -284,19 +293,19 @@ module _ (rows : List ℤ) (marks : List ℕ) where
         })
         (f .high)
 
-    pub gather-next : {i j : ℕ} {w₀ cs₀ w cs : List ℕ} {g : Gathered} → First (ofKind rows 11) (suc i) (rowCount rows) j
-        → Resources rows marks (suc i) w₀ cs₀ w cs g → Resources rows marks j w₀ cs₀ w cs g
-    gather-next {i} {j} {w₀} {cs₀} {w} {cs} {g} f h = over (At w₀ cs₀ w cs g) (ofKind rows 11) (suc i) _ _ (still w₀ cs₀ w cs g) f (λ z. h) (f .high)
+    pub gather-next : {N i j : ℕ} {w₀ cs₀ w cs w′ cs′ : List ℕ} {g g′ : Gathered} → Resources rows marks i w₀ cs₀ w cs g → First (ofKind rows 11) (suc i) (rowCount rows) j
+        → i < N → N ≡ rowCount rows → Stands (ofKind rows 11) (rowCount rows) i → AddedAt rows marks i w cs g w′ cs′ g′ → Resources rows marks j w₀ cs₀ w′ cs′ g′
+    gather-next {i = i} {w₀ = w₀} {cs₀} {w′ = w′} {cs′} {g′ = g′} h f l z s a =
+        over (At w₀ cs₀ w′ cs′ g′) (ofKind rows 11) (suc i) _ _ (still w₀ cs₀ w′ cs′ g′) f (λ _. gather-at (stands-kind rows 11 l z s) a h) (f .high)
 
   pub gather-end : {N i : ℕ} {w₀ cs₀ w cs : List ℕ} {g : Gathered} → N ≤ i → N ≡ rowCount rows → Stands (ofKind rows 11) (rowCount rows) i
       → Resources rows marks i w₀ cs₀ w cs g → Resources rows marks (rowCount rows) w₀ cs₀ w cs g
   gather-end l z s h = rw (stands-end s l z) at h
 
   -- there is place for the calendar of the activity of row a, which booking k is of
-  pub last-room : {w₀ cs₀ w cs : List ℕ} {g : Gathered} (a k : ℕ) → rowCount rows ≤ 800 → k < rowCount rows → is rows k 0 23 ≡ true
-      → Resources rows marks (rowCount rows) w₀ cs₀ w cs g
-      → (g .windows + countBelow (ownedBy rows a 16) (rowCount rows) ≤ 800) × (g .calendars < 800)
-  last-room a k b l e h =
-      let c = windows-all rows (rowCount rows) a (rowCount rows) in
-      let d = resources-few rows k (rowCount rows) l e in
-      (omega (arith, h .windows), omega (arith, h .calendars))
+  module _ {w₀ cs₀ w cs : List ℕ} {g : Gathered} (h : Resources rows marks (rowCount rows) w₀ cs₀ w cs g) (b : rowCount rows ≤ 800) where
+    pub last-windows : (a : ℕ) → g .windows + countBelow (ownedBy rows a 16) (rowCount rows) ≤ 800
+    last-windows a = omega (arith, windows-all rows (rowCount rows) a (rowCount rows), h .windows)
+
+    pub last-calendars : (k : ℕ) → is rows k 0 23 ≡ true → k < rowCount rows → g .calendars < 800
+    last-calendars k e l = omega (arith, resources-few rows k (rowCount rows) l e, h .calendars)

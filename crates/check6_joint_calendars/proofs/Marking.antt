@@ -3,7 +3,7 @@ use Prim.Native.Nat.{ℕ, suc, _+_, _<_, _≤_}
 use mathlib.Core.Path.{_≡_, refl, ap, sym, _∙_}
 use mathlib.Core.Bool.{Bool, true, false, cond, _&&_, _||_, or-true, or-false}
 use mathlib.Core.List.{List}
-use mathlib.Core.Option.{none, some}
+use mathlib.Core.Option.{some}
 use native.Mathlib.Omega.{arith}
 use native.Mathlib.Decide.{ℕ-discrete}
 use borrow.Author.Tests.{eq-eqb, ne-eqb}
@@ -15,12 +15,15 @@ use Rattle.loops.specs.Search.{anyBelow}
 use Rattle.loops.specs.inner.Chain.{First, Stands}
 use Rattle.loops.proofs.Walks.{over, stands-end}
 use Rattle.rows.specs.Cells.{rowCount, num, is}
+use Rattle.sheet.specs.declared.Found.{Found}
+use Rattle.sheet.specs.declared.Found.the-variants.{At, Nothing}
+use Rattle.sheet.specs.inner.Found.{foundOf}
 use Rattle.sheet.specs.Places.{placeOf}
 use Rattle.sheet.specs.inner.Index.{orEnd}
 use Rattle.sheet.proofs.Lookups.{placed}
 use Rattle.owners.specs.inner.Owners.{ownerKind, ownPlace, ownedBy}
 use Rattle.pieces.specs.inner.Bookings.{inPiece}
-use Rattle.pieces.proofs.Chains.{blind-if, own-activity, piece-owned}
+use Rattle.pieces.proofs.Chains.{blind-if, own-activity, piece-kind, piece-owned}
 use Rattle.check6_joint_calendars.specs.inner.Taken.{isOn, takenBelow, marked, Marked, OnResources}
 use Rattle.check6_joint_calendars.proofs.Once.{taken-place}
 
@@ -31,6 +34,16 @@ own-is rows k a h q = sym (own-activity rows 23 k (unfold ownerKind in refl) h �
 abbrev mark : Bool → ℕ
 mark b = cond b 1 0
 
+-- a row that was found
+pub place-low : (rows : List ℤ) (x id : ℕ) {r : ℕ} → placeOf rows x id ≡ some r → r ≤ rowCount rows
+place-low rows x id e = let w = placed rows x id _ e .within in omega (arith, w)
+
+pub mark-low : (rows : List ℤ) (x id : ℕ) {f : Found} {r : ℕ} → foundOf f ≡ placeOf rows x id → f ≡ At r → rowCount rows ≤ 800 → r < 800
+mark-low rows x id e q b = let w = placed rows x id _ (sym e ∙ ap foundOf q) .within in omega (arith, w)
+
+pub piece-row : (rows : List ℤ) (k j : ℕ) {b : Bool} → b ≡ inPiece rows k j → b ≡ true → is rows j 0 23 ≡ true
+piece-row rows k j e q = piece-kind rows k j (sym e ∙ q)
+
 module _ (rows : List ℤ) (k : ℕ) where
   -- one row more
   below-more : (j r : ℕ) → takenBelow rows k (suc j) r ≡ (takenBelow rows k j r || (inPiece rows k j && isOn rows j r))
@@ -38,7 +51,7 @@ module _ (rows : List ℤ) (k : ℕ) where
   below-more j r = refl
 
   -- a row that is no booking of the piece
-  pub mark-other : {j : ℕ} {marks : List ℕ} → inPiece rows k j ≡ false → Marked rows k j marks → Marked rows k (suc j) marks
+  mark-other : {j : ℕ} {marks : List ℕ} → inPiece rows k j ≡ false → Marked rows k j marks → Marked rows k (suc j) marks
   mark-other {j} e g = record {
     size = g .size;
     at = λ r l. g .at r l ∙ ap mark (same r);
@@ -48,27 +61,34 @@ module _ (rows : List ℤ) (k : ℕ) where
       same : (r : ℕ) → takenBelow rows k j r ≡ takenBelow rows k (suc j) r
       same r = sym (below-more j r ∙ rw e (or-false (takenBelow rows k j r)))
 
+  pub mark-past : {j : ℕ} {b : Bool} {marks : List ℕ} → b ≡ inPiece rows k j → b ≡ false → Marked rows k j marks → Marked rows k (suc j) marks
+  mark-past e q g = mark-other (sym e ∙ q) g
+
   -- a booking on a resource that is not in the sheet
-  pub mark-none : {j : ℕ} {marks : List ℕ} → none ≡ placeOf rows 11 (num rows j 3) → Marked rows k j marks → Marked rows k (suc j) marks
-  mark-none {j} e g = record { size = g .size; at = λ r m. g .at r m ∙ ap mark (same r); past = g .past }
+  pub mark-none : {j : ℕ} {f : Found} {marks : List ℕ} → foundOf f ≡ placeOf rows 11 (num rows j 3) → f ≡ Nothing → Marked rows k j marks → Marked rows k (suc j) marks
+  mark-none {j} {f} d z g = record { size = g .size; at = λ r m. g .at r m ∙ ap mark (same r); past = g .past }
     where
       go : (b : Bool) (r : ℕ) → (takenBelow rows k j r || (b && false)) ≡ takenBelow rows k j r
       go true r = or-false _
       go false r = or-false _
 
       same : (r : ℕ) → takenBelow rows k j r ≡ takenBelow rows k (suc j) r
-      same r = sym (below-more j r ∙ rw (← e) (go (inPiece rows k j) r))
+      same r = sym (below-more j r ∙ rw (← d, z) (go (inPiece rows k j) r))
 
-  pub mark-more : {j s : ℕ} {marks marks′ : List ℕ} → inPiece rows k j ≡ true → some s ≡ placeOf rows 11 (num rows j 3) → rowCount rows ≤ 800
-      → marks′ ≡ set marks s 1 → Marked rows k j marks → Marked rows k (suc j) marks′
-  mark-more {j} {s} {marks} {marks′} p e b q g =
-      rw q
-      (record {
-        size = length-set marks s 1 ∙ g .size;
-        at = λ r m. go r m (ℕ-discrete r s);
-        past = λ r m l. getD-set-other marks s r 1 0 (λ z. omega (arith, placed rows 11 _ s (sym e) .within)) ∙ g .past r m l;
-      })
+  pub mark-more : {j s : ℕ} {f : Found} {y : Bool} {marks : List ℕ} → Marked rows k j marks → y ≡ inPiece rows k j → y ≡ true → foundOf f ≡ placeOf rows 11 (num rows j 3)
+      → f ≡ At s → rowCount rows ≤ 800 → Marked rows k (suc j) (set marks s 1)
+  mark-more {j} {s} {f} {marks = marks} g t u d z b = record {
+    size = length-set marks s 1 ∙ g .size;
+    at = λ r m. go r m (ℕ-discrete r s);
+    past = λ r m l. getD-set-other marks s r 1 0 (λ q. omega (arith, placed rows 11 _ s (sym e) .within)) ∙ g .past r m l;
+  }
     where
+      p : inPiece rows k j ≡ true
+      p = sym t ∙ u
+
+      e : some s ≡ placeOf rows 11 (num rows j 3)
+      e = sym (ap foundOf z) ∙ d
+
       here : (r : ℕ) → r ≡ s → true ≡ takenBelow rows k (suc j) r
       here r d = sym (below-more j r ∙ rw (p, ← e, eq-eqb s r (sym d)) (or-true (takenBelow rows k j r)))
 

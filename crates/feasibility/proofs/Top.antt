@@ -36,12 +36,12 @@ use Rattle.feasibility.specs.Refusals.{sheetRefusal, refusal}
 use Rattle.feasibility.specs.Call.{Listed, Checked}
 
 -- checks that run one after the other have reported their findings one after the other
-pub in-turn-3 : (a b c : List Violation) (s : Sink) {s₁ s₂ s₃ : Sink} → s₁ ≡ emit s a → s₂ ≡ emit s₁ b → s₃ ≡ emit s₂ c → s₃ ≡ emit s (a ++ b ++ c)
-in-turn-3 a b c s p q r = emit-then (a ++ b) c s (emit-then a b s p q) r
+pub in-turn-3 : (a b c : List Violation) (s s₁ s₂ : Sink) {s₃ : Sink} → s₃ ≡ emit s₂ c → s₂ ≡ emit s₁ b → s₁ ≡ emit s a → s₃ ≡ emit s (a ++ b ++ c)
+in-turn-3 a b c s s₁ s₂ r q p = emit-then (a ++ b) c s (emit-then a b s p q) r
 
-pub in-turn : (a b c d : List Violation) (s : Sink) {s₁ s₂ s₃ s₄ : Sink} → s₁ ≡ emit s a → s₂ ≡ emit s₁ b → s₃ ≡ emit s₂ c → s₄ ≡ emit s₃ d
+pub in-turn : (a b c d : List Violation) (s s₁ s₂ s₃ : Sink) {s₄ : Sink} → s₄ ≡ emit s₃ d → s₃ ≡ emit s₂ c → s₂ ≡ emit s₁ b → s₁ ≡ emit s a
     → s₄ ≡ emit s (a ++ b ++ c ++ d)
-in-turn a b c d s p q r t = emit-then (a ++ b ++ c) d s (in-turn-3 a b c s p q r) t
+in-turn a b c d s s₁ s₂ s₃ t r q p = emit-then (a ++ b ++ c) d s (in-turn-3 a b c s s₁ s₂ r q p) t
 
 -- the definition's own order is one that the call may write
 in-order : (rows : List ℤ) → Listed rows (findings rows)
@@ -50,7 +50,7 @@ in-order rows = record { capacity = checkCapacity clock (sheet rows); places = r
 
 module _ (rows o : List ℤ) where
   -- refused by 1 to 6
-  pub refused-sheet : (e : Refusal) → sheetRefusal rows ≡ some e → Checked rows o (Call·Refused (e .number) (e .place)) o
+  refused-sheet : (e : Refusal) → sheetRefusal rows ≡ some e → Checked rows o (Call·Refused (e .number) (e .place)) o
   unfolding refusal
   refused-sheet e h = record { ended = rw h (record { answered = refl; unchanged = refl }) }
 
@@ -115,15 +115,14 @@ module _ (rows : List ℤ) where
       let t = tables-of rows i a in
       record { accepted = a; by-kind = t .kinds; linked = t .links; by-owner = t .owned }
 
-  pub by-rows : {v : Verdict} {number place : ℕ} → verdictOf v ≡ refusalOf rows → v ≡ Refused number place
-      → sheetRefusal rows ≡ some (record { number = number; place = place })
-  unfolding sheetRefusal
-  by-rows q e = rw (sym q ∙ ap verdictOf e)
+  module _ (o : List ℤ) {v : Verdict} {number place : ℕ} where
+    pub refused-rows : verdictOf v ≡ refusalOf rows → v ≡ Refused number place → Checked rows o (Call·Refused number place) o
+    unfolding sheetRefusal
+    refused-rows q e = refused-sheet rows o (record { number = number; place = place }) (rw (sym q ∙ ap verdictOf e))
 
-  pub by-times : {v : Verdict} {number place : ℕ} → refusalOf rows ≡ none → verdictOf v ≡ timeRefusal rows → v ≡ Refused number place
-      → sheetRefusal rows ≡ some (record { number = number; place = place })
-  unfolding sheetRefusal
-  by-times a q e = rw (a, sym q ∙ ap verdictOf e)
+    pub refused-times : refusalOf rows ≡ none → verdictOf v ≡ timeRefusal rows → v ≡ Refused number place → Checked rows o (Call·Refused number place) o
+    unfolding sheetRefusal
+    refused-times a q e = refused-sheet rows o (record { number = number; place = place }) (rw (a, sym q ∙ ap verdictOf e))
 
   pub by-none : {v : Verdict} → refusalOf rows ≡ none → verdictOf v ≡ timeRefusal rows → v ≡ Fine → sheetRefusal rows ≡ none
   unfolding sheetRefusal

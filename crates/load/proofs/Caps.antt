@@ -6,6 +6,7 @@ use mathlib.Core.List.{List, [], append-nil}
 use mathlib.Core.Option.{Option, none, some}
 use lib.Dec.{eqb}
 use lib.IntN.{ℤ, pos}
+use lib.Signed.{ltZ}
 use mir.Syntax.{w64}
 use mir.Val.{SFits, toZ, ofZ}
 use mir.Facts.{toZ-ofZ}
@@ -26,6 +27,26 @@ use Rattle.model.specs.Constraint.{constraintAt, constraints}
 use Rattle.model.proofs.ConstraintLaws.{capacity-row, by-constraint}
 use Rattle.model.proofs.Finds.{find-resource}
 use Rattle.load.specs.Load.{capacityOf, capOverride, baseOf, capOf}
+
+-- ---- the greater and the lesser of two
+
+module _ {a b c : ℤ} (d : ℤ) (s : SFits w64 a) (t : SFits w64 b) (u : SFits w64 c) where
+  pub pick-yes : ltZ (toZ w64 (ofZ w64 a)) (toZ w64 (ofZ w64 b)) ≡ true → toZ w64 (ofZ w64 c) ≡ cond (ltZ a b) c d
+  pick-yes e = rw (toZ-ofZ u, rw (toZ-ofZ s, toZ-ofZ t) at e)
+
+  pub pick-no : ltZ (toZ w64 (ofZ w64 a)) (toZ w64 (ofZ w64 b)) ≡ false → toZ w64 (ofZ w64 c) ≡ cond (ltZ a b) d c
+  pick-no e = rw (toZ-ofZ u, rw (toZ-ofZ s, toZ-ofZ t) at e)
+
+-- ---- a row of a test that came out
+
+pub some-yes : {r b : Bool} {k : ℕ} → r ≡ b → r ≡ true → some k ≡ someIf b k
+some-yes e q = rw (sym e ∙ q)
+
+pub some-no : {r b : Bool} (k : ℕ) → r ≡ b → r ≡ false → none ≡ someIf b k
+some-no k e q = rw (sym e ∙ q)
+
+pub some-first : {f : Found} {k : ℕ} (y : Option ℕ) → f ≡ At k → some k ≡ orElse (foundOf f) y
+some-first y q = rw q
 
 module _ (rows : List ℤ) (x : ℕ) where
   -- ---- its own

@@ -11,8 +11,9 @@ use Rattle.loops.specs.Search.{anyBelow}
 use Rattle.loops.specs.inner.Chain.{Stands, Blind}
 use Rattle.loops.proofs.BoolLaws.{and-left}
 use Rattle.loops.proofs.ListLaws.{any-collect}
-use Rattle.loops.proofs.PlaceLaws.{any-same}
-use Rattle.rows.specs.Cells.{num, is}
+use Rattle.loops.proofs.PlaceLaws.{any-same, any-less}
+use Rattle.loops.proofs.SearchLaws.{any-hit}
+use Rattle.rows.specs.Cells.{rowCount, num, is}
 use Rattle.sheet.specs.Places.{ofKind}
 use Rattle.model.specs.Sheet.{sheet}
 use Rattle.model.specs.Schedule.{assignmentAt, assignmentsBelow}
@@ -41,10 +42,16 @@ module _ (rows : List ℤ) (x : ℕ) where
       go true h = rw (h, assignment-row rows k h) (or-false (eqb (num rows k 3) x))
       go false h = rw (h, assignment-none rows k h)
 
-  pub booked-are : (k : ℕ) → anyBelow booked k ≡ bookedAbove rows k x
+  booked-are : (k : ℕ) → anyBelow booked k ≡ bookedAbove rows k x
   unfolding assignmentsBelow
   booked-are k =
       sym (any-collect (λ y. eqb (y .resource) x) (assignmentAt (sheet rows)) k ∙ any-same _ _ k (λ j l. row-booked j))
+
+  pub booked-hit : {i k : ℕ} {r : Bool} → i < k → k ≤ rowCount rows → Stands (ofKind rows 23) (rowCount rows) i → r ≡ is rows i 3 x → r ≡ true → true ≡ bookedAbove rows k x
+  booked-hit {i} {k} l z a e f = any-hit booked i k k l refl (booked-test l z a e f) ∙ booked-are k
+
+  pub booked-none : {i k : ℕ} → anyBelow booked i ≡ false → k ≤ i → false ≡ bookedAbove rows k x
+  booked-none {i} {k} e l = sym (any-less booked i k e l) ∙ booked-are k
 
 -- ---- the walk
 

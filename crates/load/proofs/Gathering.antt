@@ -3,6 +3,7 @@ use Prim.Native.Nat.{ℕ, zero, suc, _+_, _*_, _<_, _≤_}
 use mathlib.Core.Path.{_≡_, refl, ap, ap₂, sym, _∙_}
 use mathlib.Core.Bool.{Bool, true, false}
 use mathlib.Core.List.{List, [], _∷_, _++_, append-nil}
+use mathlib.Core.Option.{none}
 use native.Mathlib.Omega.{arith}
 use native.Mathlib.Decide.{decLt}
 use lib.Dec.{eqb}
@@ -22,8 +23,9 @@ use Rattle.model.specs.Sheet.{sheet}
 use Rattle.model.specs.Schedule.{assignmentAt, assignmentsBelow, assignments}
 use Rattle.model.specs.inner.Records.{assignmentOf}
 use Rattle.model.proofs.RowLaws.{assignment-row, assignment-none}
-use Rattle.model.proofs.Accepting.{at-most}
-use Rattle.sheet.specs.inner.Accepted.{Accepted}
+use Rattle.model.proofs.Accepting.{accepted, at-most}
+use Rattle.sheet.specs.Refusals.{refusalOf}
+use Rattle.owners.specs.inner.Owners.{Linked}
 use Rattle.load.specs.Load.{usage, bookingOf, bookingsOn}
 use Rattle.load.specs.inner.Gathering.{bookingOn, Gathering, Behind}
 use Rattle.load.specs.inner.Lent.{lentAt, lent, Fit, Gathered}
@@ -107,19 +109,21 @@ module _ (rows : List ℤ) (x : ℕ) where
   pub gather-other : {k m : ℕ} {b : List ℕ} {r : Bool} → is rows k 0 23 ≡ true → r ≡ is rows k 3 x → r ≡ false → Gathering rows x k b m → Gathering rows x (suc k) b m
   gather-other {k} {r = r} h e f g = passed (at-row k r h e ∙ ap (λ o. given o (bookingOf (sheet rows) (assignmentOf rows k))) f) g
 
-  pub gather-more : {k m s t u n : ℕ} {b b′ : List ℕ} {r : Bool} → Accepted rows → is rows k 0 23 ≡ true → r ≡ is rows k 3 x → r ≡ true → s ≡ num rows k 4 → t ≡ num rows k 5
-      → u ≡ usage (sheet rows) (assignmentOf rows k) → u ≤ 1000000 → k < n → n ≤ 800 → b′ ≡ setThree b m s t u → Gathering rows x k b m
+  pub gather-more : {k m s t u : ℕ} {b b′ ls : List ℕ} {r : Bool} → Linked rows ls → refusalOf rows ≡ none → is rows k 0 23 ≡ true → r ≡ is rows k 3 x → r ≡ true → s ≡ num rows k 4 → t ≡ num rows k 5
+      → u ≡ usage (sheet rows) (assignmentOf rows k) → u ≤ 1000000 → k < rowCount rows → b′ ≡ setThree b m s t u → Gathering rows x k b m
       → Gathering rows x (suc k) b′ (m + 1)
-  gather-more {k} {m} {s} {t} {u} {n} {b} {r = r} acc h e f p q w l i j c g =
+  gather-more {k} {m} {s} {t} {u} {b} {r = r} ln ref h e f p q w l i c g =
       let v : record { start = pos s; end = pos t; units = u } ∷ [] ≡ bookingOn rows x k =
       rw (p, q, w) (sym (at-row k r h e ∙ ap (λ o. given o (bookingOf (sheet rows) (assignmentOf rows k))) f)) in
+      let room : m < 800 = omega (arith, g .few, ln .short) in
+      let acc = accepted rows ref in
       rw c
       (record {
         size = three-length b m s t u ∙ g .size;
         few = omega (arith, g .few);
-        fit = fit-more b m s t u (g .size) (omega (arith, g .few)) (g .fit) (rw p (at-most rows acc k 23 4 h)) (rw q (at-most rows acc k 23 5 h)) l;
+        fit = fit-more b m s t u (g .size) room (g .fit) (rw p (at-most rows acc k 23 4 h)) (rw q (at-most rows acc k 23 5 h)) l;
         list =
-            one-more b m s t u (g .size) (omega (arith, g .few))
+            one-more b m s t u (g .size) room
             ∙ ap₂ _++_ (g .list) v
             ∙ sym (next-row k);
       })

@@ -5,10 +5,13 @@ use mathlib.Core.Bool.{Bool, true, false, cond}
 use mathlib.Core.List.{List, [], _∷_}
 use native.Mathlib.Omega.{arith}
 use lib.IntN.{pos}
+use mir.Syntax.{w64}
+use mir.Val.{Fits}
 use lib.Signed.{ltZ}
 use lib.ListN.{getD}
 use Rattle.loops.specs.Range.{fold, collect}
 use Rattle.loops.specs.Sums.{total, most}
+use Rattle.loops.proofs.RangeLaws.{fold-done}
 use Rattle.loops.proofs.SumLaws.{total-append, most-append}
 use Rattle.load.specs.Load.{Booking, holds, taken, loadOf, peakOf}
 use Rattle.load.specs.inner.Lent.{lentAt, lent, Fit}
@@ -48,8 +51,11 @@ taken-most before t x = go (holds before t x)
     go true = omega arith
     go false = omega arith
 
-pub held-light : (b : List ℕ) (n t j : ℕ) {r : ℕ} → Fit b n → j < n → r ≡ taken ltZ (pos t) (lentAt b j) → r ≤ 1000000
-held-light b n t j l h e = omega (arith, taken-most ltZ (pos t) (lentAt b j), l .units j h, e)
+pub held-sum : (b : List ℕ) (n t j : ℕ) {e r : ℕ} → Fit b n → j < n → r ≡ taken ltZ (pos t) (lentAt b j) → e ≤ j * 1000000 → e + r ≤ (j + 1) * 1000000
+held-sum b n t j l h q k = omega (arith, taken-most ltZ (pos t) (lentAt b j), l .units j h, q, k)
+
+pub held-fits : (b : List ℕ) (n t j : ℕ) {e r : ℕ} → Fit b n → n ≤ 800 → j < n → r ≡ taken ltZ (pos t) (lentAt b j) → e ≤ j * 1000000 → Fits w64 (e + r)
+held-fits b n t j l s h q k = omega (arith, held-sum b n t j l h q k)
 
 pub add-turn : (b : List ℕ) (t e k : ℕ) {r : ℕ} → r ≡ taken ltZ (pos t) (lentAt b k) → e + r ≡ addHeld b t e k
 unfolding addHeld
@@ -63,10 +69,10 @@ higher-turn b n e k s h q =
 
 -- ---- ends
 
-pub load-end : (b : List ℕ) (n t : ℕ) → fold (addHeld b t) 0 n ≡ loadOf ltZ (lent b n) (pos t)
+pub load-end : (b : List ℕ) (n t : ℕ) {j e : ℕ} → j ≤ n → n ≤ j → e ≡ fold (addHeld b t) 0 j → e ≡ loadOf ltZ (lent b n) (pos t)
 unfolding loadOf lent addHeld
-load-end b n t = total-fold (taken ltZ (pos t)) (lentAt b) n
+load-end b n t h k q = fold-done _ _ _ _ n h k refl q ∙ total-fold (taken ltZ (pos t)) (lentAt b) n
 
-pub peak-end : (b : List ℕ) (n : ℕ) → fold (higher b n) 0 n ≡ peakOf ltZ (lent b n)
+pub peak-end : (b : List ℕ) (n : ℕ) {j e : ℕ} → j ≤ n → n ≤ j → e ≡ fold (higher b n) 0 j → e ≡ peakOf ltZ (lent b n)
 unfolding peakOf higher
-peak-end b n = unfold lent in most-fold (λ x. loadOf ltZ (lent b n) (x .start)) (lentAt b) n
+peak-end b n h k q = fold-done _ _ _ _ n h k refl q ∙ unfold lent in most-fold (λ x. loadOf ltZ (lent b n) (x .start)) (lentAt b) n

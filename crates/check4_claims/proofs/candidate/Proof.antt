@@ -1,5 +1,3 @@
-use mathlib.Core.Path.{sym, ap, _∙_}
-use Rattle.sheet.specs.inner.Found.{foundOf}
 use Rattle.check4_claims.proofs.Taking.{candidate-yes, candidate-no, candidate-none}
 use borrow.Author.Needs.{needs}
 use Rattle.check4_claims.proofs.candidate.Statement.{statement}
@@ -15,16 +13,16 @@ enum-told : tie.Need-enum-told
 enum-told c = search needs
 
 returns : tie.Need-returns
-returns c = search (needs, candidate-none, sym (ap foundOf (c .enum-told .given .1)) ∙ (c .before .before .booked-resource .ensures))
+returns c = search (needs, candidate-none)
 
 is-candidate-requires : tie.Need-is-candidate-requires
 is-candidate-requires c κs = search needs
 
 returns-2 : tie.Need-returns-2
-returns-2 c = candidate-yes _ _ _ (sym (ap foundOf (c .before .before .before .r .given .1)) ∙ (c .before .before .before .before .before .booked-resource .ensures)) (c .before .is-candidate .ensures) (c .if1 .taken)
+returns-2 c = search (needs, candidate-yes)
 
 returns-3 : tie.Need-returns-3
-returns-3 c = candidate-no _ _ _ (sym (ap foundOf (c .before .before .before .r .given .1)) ∙ (c .before .before .before .before .before .booked-resource .ensures)) (c .before .is-candidate .ensures) (c .if1 .left)
+returns-3 c = search (needs, candidate-no)
 
 pub candidate-spec : {M : Type 1} → statement M
 candidate-spec =

@@ -2,7 +2,6 @@ use Rattle.loops.specs.inner.Chain.{Stands}
 use Rattle.rows.specs.Cells.{rowCount}
 use Rattle.owners.specs.inner.Owners.{ownedBy}
 use Prim.Native.Nat.{_-_}
-use native.Mathlib.Omega.{arith}
 use Rattle.check4_pieces.proofs.Along.{kind-here}
 use Rattle.findings.specs.inner.Sink.{sink}
 use Rattle.findings.proofs.SinkLaws.{kept}
@@ -27,10 +26,10 @@ first-owned-requires : tie.Need-first-owned-requires Inv-loop μ-loop
 first-owned-requires c κs = search needs
 
 loop-holds : tie.Need-loop-holds Inv-loop μ-loop
-loop-holds c = (search needs, filling-start _ _ _ _ _ (c .first-owned .ensures) (c .before .free-in .ensures))
+loop-holds c = search (needs, filling-start)
 
 fill-requires : tie.Need-fill-requires Inv-loop μ-loop
-fill-requires c κs = ((c .before .before .before .before .before .before .before .pre .0), (c .before .before .before .before .before .before .before .pre .1), (c .before .before .before .before .before .before .before .pre .2), omega (arith, (c .before .before .loop-test .taken), (c .before .before .before .before .before .before .row-count .ensures)), kind-here _ _ _ (c .before .before .loop-test .taken) (c .before .before .before .before .before .before .row-count .ensures) (c .before .before .before .loop .inv .0), (c .before .before .before .before .before .before .before .pre .4), (c .before .before .before .loop .inv .1 .size))
+fill-requires c κs = search (needs, kind-here)
 
 next-owned-requires : tie.Need-next-owned-requires Inv-loop μ-loop
 next-owned-requires c κs = search needs
@@ -39,13 +38,13 @@ loop-less : tie.Need-loop-less Inv-loop μ-loop
 loop-less c = search needs
 
 loop-again : tie.Need-loop-again Inv-loop μ-loop
-loop-again c = (search needs, filling-turn _ _ _ _ _ (c .next-owned .ensures) (c .before .before .before .before .before .loop-test .taken) (c .before .before .before .before .before .before .before .before .before .row-count .ensures) ((c .before .before .before .before .before .before .loop .inv .0)) ((c .before .before .before .before .before .before .loop .inv .1)) ((c .before .before .fill .ensures .0)) ((c .before .before .fill .ensures .1 .0)) ((c .before .before .fill .ensures .1 .1)))
+loop-again c = search (needs, filling-turn)
 
 same-length : tie.Need-same-length Inv-loop μ-loop
-same-length c = kept _ _ _ ((c .before .loop .inv .1 .wrote))
+same-length c = search (needs, kept)
 
 returns : tie.Need-returns Inv-loop μ-loop
-returns c = filling-end _ _ _ _ _ (c .loop-test .left) (c .before .before .before .before .row-count .ensures) ((c .before .loop .inv .0)) ((c .before .loop .inv .1))
+returns c = search (needs, filling-end)
 
 pub fill-all-spec : {M : Type 1} → statement M
 fill-all-spec = tie.close (tie.spec Inv-loop μ-loop row-count-requires free-in-requires first-owned-requires loop-holds fill-requires next-owned-requires loop-less loop-again same-length returns)

@@ -1,8 +1,8 @@
+use Rattle.check4_claims.proofs.Taking.{row-low}
 use Rattle.loops.specs.inner.Chain.{Stands}
 use Rattle.rows.specs.Cells.{rowCount}
 use Rattle.owners.specs.inner.Owners.{ownedBy}
 use Prim.Native.Nat.{_-_}
-use native.Mathlib.Omega.{arith}
 use Rattle.check4_claims.proofs.Claiming.{free-start, free-turn, free-end}
 use Rattle.check4_claims.specs.inner.Claims.{Free}
 use borrow.Author.Needs.{needs}
@@ -22,13 +22,13 @@ first-owned-requires : tie.Need-first-owned-requires Inv-loop μ-loop
 first-owned-requires c κs = search needs
 
 loop-holds : tie.Need-loop-holds Inv-loop μ-loop
-loop-holds c = (search needs, free-start _ _ _ (c .first-owned .ensures))
+loop-holds c = search (needs, free-start)
 
 is-free-requires : tie.Need-is-free-requires Inv-loop μ-loop
 is-free-requires c κs = search needs
 
 mark-requires : tie.Need-mark-requires Inv-loop μ-loop
-mark-requires c κs = omega (arith, (c .before .before .before .before .before .before .pre .0 .short), (c .before .before .before .before .before .row-count .ensures), (c .before .before .loop-test .taken))
+mark-requires c κs = search (needs, row-low)
 
 next-owned-requires : tie.Need-next-owned-requires Inv-loop μ-loop
 next-owned-requires c κs = search needs
@@ -37,10 +37,10 @@ loop-less : tie.Need-loop-less Inv-loop μ-loop
 loop-less c = search needs
 
 loop-again : tie.Need-loop-again Inv-loop μ-loop
-loop-again c = (search needs, free-turn _ _ _ (c .next-owned .ensures) (c .before .before .before .before .loop-test .taken) (c .before .before .before .before .before .before .before .row-count .ensures) ((c .before .before .before .before .before .before .before .before .pre .0 .short)) ((c .before .before .before .before .before .loop .inv .0)) ((c .before .before .before .before .before .loop .inv .1)) (c .before .before .is-free .ensures) (c .before .mark .ensures))
+loop-again c = search (needs, free-turn)
 
 returns : tie.Need-returns Inv-loop μ-loop
-returns c = free-end _ _ _ (c .loop-test .left) (c .before .before .before .row-count .ensures) ((c .before .loop .inv .0)) ((c .before .loop .inv .1))
+returns c = search (needs, free-end)
 
 pub free-in-spec : {M : Type 1} → statement M
 free-in-spec = tie.close (tie.spec Inv-loop μ-loop row-count-requires first-owned-requires loop-holds is-free-requires mark-requires next-owned-requires loop-less loop-again returns)

@@ -1,10 +1,9 @@
+use Rattle.check4_claims.proofs.Taking.{place-low, lacking-one}
 use Rattle.rows.specs.Cells.{rowCount}
-use Rattle.sheet.proofs.Lookups.{placed}
 use Rattle.owners.specs.inner.Owners.{ownedBy}
-use native.Mathlib.Omega.{arith}
 use Prim.Native.Nat.{_-_}
 use Rattle.findings.specs.inner.Sink.{sink}
-use Rattle.check4_pieces.proofs.Along.{Reporting, reporting-turn, reported}
+use Rattle.check4_pieces.proofs.Along.{Reporting, reported}
 use Rattle.check4_claims.specs.inner.Claims.{lackingFor}
 use borrow.Author.Needs.{needs}
 use Rattle.check4_claims.proofs.report_lacking.Statement.{statement}
@@ -20,7 +19,7 @@ row-count-requires : tie.Need-row-count-requires Inv-loop μ-loop
 row-count-requires c κs = search needs
 
 first-owned-requires : tie.Need-first-owned-requires Inv-loop μ-loop
-first-owned-requires c κs = ((c .before .pre .0), omega (arith, (c .before .pre .1)))
+first-owned-requires c κs = search needs
 
 loop-holds : tie.Need-loop-holds Inv-loop μ-loop
 loop-holds c = search reported
@@ -29,7 +28,7 @@ num-at-requires : tie.Need-num-at-requires Inv-loop μ-loop
 num-at-requires c κs = search needs
 
 has-skill-requires : tie.Need-has-skill-requires Inv-loop μ-loop
-has-skill-requires c κs = let h = placed _ 11 _ _ (c .before .before .before .before .before .pre .2) .within in ((c .before .before .before .before .before .pre .0), omega (arith, h))
+has-skill-requires c κs = search (needs, place-low)
 
 report-requires : tie.Need-report-requires Inv-loop μ-loop
 report-requires c κs = search needs
@@ -41,8 +40,7 @@ loop-less : tie.Need-loop-less Inv-loop μ-loop
 loop-less c = search needs
 
 loop-again : tie.Need-loop-again Inv-loop μ-loop
-unfolding lackingFor
-loop-again c = reporting-turn (c .next-owned .ensures) (c .before .before .before .before .before .before .loop-test .taken) (c .before .before .before .before .before .before .before .before .before .row-count .ensures) (c .before .before .before .before .before .before .before .loop .inv) (rw (c .before .before .before .before .before .before .before .before .before .before .pre .2) (rw ((c .before .before .before .before .has-skill .ensures), (c .before .before .before .before .before .num-at .ensures)) at (c .before .before .report .ensures)))
+loop-again c = search (reported, lacking-one)
 
 same-length : tie.Need-same-length Inv-loop μ-loop
 same-length c = search reported

@@ -1,10 +1,8 @@
+use Rattle.check4_requirements.proofs.Steps.{keys-turn}
 use Rattle.rows.specs.Cells.{rowCount}
-use mathlib.Core.Path.{refl}
 use Prim.Native.Nat.{_-_}
-use native.Mathlib.Omega.{arith}
 use Rattle.findings.specs.inner.Sink.{sink}
-use Rattle.check4_pieces.proofs.Along.{Reporting, reporting-turn, reported}
-use native.Mathlib.Numerals.{add-one}
+use Rattle.check4_pieces.proofs.Along.{Reporting, reported}
 use Rattle.check4_pieces.specs.inner.OfPiece.{keyBelow}
 use Rattle.check4_requirements.specs.inner.ByRow.{checkPiece}
 use borrow.Author.Needs.{needs}
@@ -30,13 +28,13 @@ add-next-key : tie.Need-add-next-key Inv-loop μ-loop
 add-next-key c = search needs
 
 next-key-requires-2 : tie.Need-next-key-requires-2 Inv-loop μ-loop
-next-key-requires-2 c κs = ((c .before .before .before .before .before .before .pre .1), (c .before .before .before .before .before .before .pre .2), omega (arith, (c .before .before .before .loop-test .taken)))
+next-key-requires-2 c κs = search needs
 
 loop-less : tie.Need-loop-less Inv-loop μ-loop
-loop-less c = omega (arith, (c .next-key2 .ensures .low), (c .before .before .before .before .loop-test .taken))
+loop-less c = search needs
 
 loop-again : tie.Need-loop-again Inv-loop μ-loop
-loop-again c = reporting-turn (rw add-one at (c .next-key2 .ensures)) (c .before .before .before .before .loop-test .taken) refl (c .before .before .before .before .before .loop .inv) (c .before .before .check-piece .ensures)
+loop-again c = search (needs, keys-turn)
 
 same-length : tie.Need-same-length Inv-loop μ-loop
 same-length c = search reported

@@ -1,6 +1,4 @@
-use mathlib.Core.Path.{_∙_}
-use Rattle.findings.proofs.SinkLaws.{kept, emit-then}
-use Rattle.check4_requirements.specs.inner.ByRow.{checkPiece}
+use Rattle.check4_requirements.proofs.Steps.{kept-thrice, piece-wrote}
 use borrow.Author.Needs.{needs}
 use Rattle.check4_requirements.proofs.check_piece.Statement.{statement}
 use Rattle.check4_requirements.proofs.check_piece.Tie as tie
@@ -21,11 +19,10 @@ fill-all-requires : tie.Need-fill-all-requires
 fill-all-requires c κs = search needs
 
 same-length : tie.Need-same-length
-same-length c = kept _ _ _ (c .before .fill-all .ensures) ∙ kept _ _ _ (c .before .before .before .before .report-unaccompanied .ensures) ∙ kept _ _ _ (c .before .before .before .before .before .before .before .report .ensures)
+same-length c = search (needs, kept-thrice)
 
 returns : tie.Need-returns
-unfolding checkPiece
-returns c = emit-then _ _ _ (emit-then _ _ _ (rw ((c .before .before .before .before .before .before .before .before .is-apart .ensures), (c .before .before .before .before .before .before .before .before .before .before .id-at .ensures .0)) at (c .before .before .before .before .before .before .before .report .ensures)) (rw ((c .before .before .before .before .before .before .before .before .before .before .id-at .ensures .0)) at (c .before .before .before .before .report-unaccompanied .ensures))) (rw ((c .before .before .before .before .before .before .before .before .before .before .id-at .ensures .0)) at (c .before .fill-all .ensures))
+returns c = piece-wrote _ _ _ _ _ _ (c .before .before .before .before .before .before .before .before .before .before .id-at .ensures .0) (c .before .before .before .before .before .before .before .before .is-apart .ensures) (c .before .fill-all .ensures) (c .before .before .before .before .report-unaccompanied .ensures) (c .before .before .before .before .before .before .before .report .ensures)
 
 pub check-piece-spec : {M : Type 1} → statement M
 check-piece-spec = tie.close (tie.spec id-at-requires is-apart-requires report-requires report-unaccompanied-requires fill-all-requires same-length returns)

@@ -1,8 +1,6 @@
 use Rattle.rows.specs.Cells.{rowCount}
-use mathlib.Core.Path.{ap, _∙_}
 use Prim.Native.Nat.{_-_}
-use native.Mathlib.Omega.{arith}
-use Rattle.findings.specs.inner.Sink.{sink, emit}
+use Rattle.findings.specs.inner.Sink.{sink}
 use Rattle.check4_pieces.proofs.Along.{Reporting, reported}
 use Rattle.check4_requirements.specs.inner.ByRow.{checkTask}
 use Rattle.sheet.specs.Places.{ofKind}
@@ -21,13 +19,13 @@ row-count-requires : tie.Need-row-count-requires Inv-loop μ-loop
 row-count-requires c κs = search needs
 
 first-of-requires : tie.Need-first-of-requires Inv-loop μ-loop
-first-of-requires c κs = ((c .before .pre .0 .by-kind), omega arith)
+first-of-requires c κs = search needs
 
 loop-holds : tie.Need-loop-holds Inv-loop μ-loop
 loop-holds c = search reported
 
 check-task-requires : tie.Need-check-task-requires Inv-loop μ-loop
-check-task-requires c κs = ((c .before .before .before .before .before .pre .0 .linked), (c .before .before .before .before .before .pre .0 .by-owner), (c .before .before .loop .inv .stands .high), (c .before .before .before .before .before .pre .1))
+check-task-requires c κs = search needs
 
 next-of-requires : tie.Need-next-of-requires Inv-loop μ-loop
 next-of-requires c κs = search needs
@@ -36,13 +34,13 @@ loop-less : tie.Need-loop-less Inv-loop μ-loop
 loop-less c = search needs
 
 loop-again : tie.Need-loop-again Inv-loop μ-loop
-loop-again c = search (reported, c .before .before .before .before .before .loop .inv)
+loop-again c = search reported
 
 same-length : tie.Need-same-length Inv-loop μ-loop
 same-length c = search reported
 
 returns : tie.Need-returns Inv-loop μ-loop
-returns c = search reported ∙ ap (emit _) (by-rows _ (c .before .before .before .before .pre .0))
+returns c = search (reported, by-rows)
 
 pub check-requirements-spec : {M : Type 1} → statement M
 check-requirements-spec = tie.close (tie.spec Inv-loop μ-loop row-count-requires first-of-requires loop-holds check-task-requires next-of-requires loop-less loop-again same-length returns)

@@ -24,7 +24,7 @@ loop-holds : tie.Need-loop-holds Inv-loop μ-loop
 loop-holds c = search reported
 
 check-activity-requires : tie.Need-check-activity-requires Inv-loop μ-loop
-check-activity-requires c κs = ((c .before .before .before .before .before .pre .0), (c .before .before .before .before .before .pre .1), (c .before .before .loop .inv .stands .high), (c .before .before .before .before .before .pre .3))
+check-activity-requires c κs = search needs
 
 next-owned-requires : tie.Need-next-owned-requires Inv-loop μ-loop
 next-owned-requires c κs = search needs
@@ -33,7 +33,7 @@ loop-less : tie.Need-loop-less Inv-loop μ-loop
 loop-less c = search needs
 
 loop-again : tie.Need-loop-again Inv-loop μ-loop
-loop-again c = search (reported, c .before .before .before .before .before .loop .inv)
+loop-again c = search reported
 
 same-length : tie.Need-same-length Inv-loop μ-loop
 same-length c = search reported

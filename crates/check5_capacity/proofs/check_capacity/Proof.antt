@@ -1,6 +1,6 @@
 use borrow.Author.Needs.{needs}
 use Prim.Native.Nat.{ℕ, _-_}
-use mathlib.Core.Path.{_≡_, ap, _∙_}
+use mathlib.Core.Path.{_≡_}
 use lib.ListN.{length, length-replicate}
 use Rattle.loops.specs.Range.{collect}
 use Rattle.loops.specs.inner.Chain.{Stands}
@@ -26,7 +26,7 @@ first-booked-requires : tie.Need-first-booked-requires Inv-loop μ-loop
 first-booked-requires c κs = search needs
 
 loop-holds : tie.Need-loop-holds Inv-loop μ-loop
-loop-holds c = (search needs, length-replicate {A = ℕ} 2400 0, emit-first _ _ (c .first-booked .ensures) (told-silent _))
+loop-holds c = (search needs, length-replicate {A = ℕ} 2400 0, search (needs, emit-first, told-silent))
 
 id-at-requires : tie.Need-id-at-requires Inv-loop μ-loop
 id-at-requires c κs = search needs
@@ -41,13 +41,13 @@ loop-less : tie.Need-loop-less Inv-loop μ-loop
 loop-less c = search needs
 
 loop-again : tie.Need-loop-again Inv-loop μ-loop
-loop-again c = (search needs, (c .before .before .check-resource .ensures .1 .size), emit-next _ _ (c .next-booked .ensures) (told-silent _) (c .before .before .before .before .before .before .before .loop .inv .2) (told-first _ _ (c .before .before .before .before .before .before .loop-test .taken) (c .before .before .before .before .before .before .before .before .before .row-count .ensures) (c .before .before .before .before .before .before .before .loop .inv .0) (c .before .before .before .before .before .id-at .ensures .0) (c .before .before .check-resource .ensures .0)))
+loop-again c = (search needs, search needs, search (needs, emit-next, told-silent, told-first))
 
 same-length : tie.Need-same-length Inv-loop μ-loop
-same-length c = kept _ _ _ (c .before .loop .inv .2)
+same-length c = search (needs, kept)
 
 returns : tie.Need-returns Inv-loop μ-loop
-returns c = emit-end _ _ _ _ _ (c .loop-test .left) (c .before .before .before .row-count .ensures) (c .before .loop .inv .0) (c .before .loop .inv .2) ∙ ap (emit _) (told-all (c .before .before .before .before .args .rows .now))
+returns c = search (needs, told-all, emit-end)
 
 pub check-capacity-spec : {M : Type 1} → statement M
 check-capacity-spec =

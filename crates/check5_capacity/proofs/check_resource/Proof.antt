@@ -1,5 +1,5 @@
-use borrow.Author.Needs.{needs, sfits-of}
-use Rattle.check5_capacity.proofs.Told.{peak-is, bookings-all, resource-told}
+use borrow.Author.Needs.{needs}
+use Rattle.check5_capacity.proofs.Told.{bookings-all, resource-told}
 use Rattle.check5_capacity.proofs.check_resource.Statement.{statement}
 use Rattle.check5_capacity.proofs.check_resource.Tie as tie
 
@@ -22,7 +22,7 @@ same-length : tie.Need-same-length
 same-length c = search needs
 
 returns : tie.Need-returns
-returns c = (resource-told (c .before .before .before .before .before .before .before .before .before .args .rows .now) (c .before .before .before .before .before .before .before .before .before .args .x) _ (sfits-of (c .before .before .before .before .cap-of .ok)) (c .before .before .before .exceeds .ensures) (c .before .before .before .before .cap-of .ensures) (peak-is _ _ (c .before .before .before .before .before .before .before .gather-bookings .ensures) (c .before .before .before .before .before .peak-of .ensures)) (c .before .report .ensures), bookings-all _ _ (c .before .before .before .before .before .before .before .gather-bookings .ensures))
+returns c = (search (needs, resource-told), search (needs, bookings-all))
 
 pub check-resource-spec : {M : Type 1} → statement M
 check-resource-spec =

@@ -3,7 +3,7 @@ use mathlib.Core.Path.{refl}
 use native.Mathlib.Omega.{arith}
 use Rattle.sheet.proofs.Lookups.{placed}
 use Rattle.model.proofs.Finds.{found-self}
-use Rattle.check6_calendars.proofs.Plain.{outside-here}
+use Rattle.check6_calendars.proofs.Plain.{activity-outside}
 use borrow.Author.Needs.{needs}
 use Rattle.check6_calendars.proofs.check_activity.Statement.{statement}
 use Rattle.check6_calendars.proofs.check_activity.Tie as tie
@@ -21,7 +21,7 @@ same-length : tie.Need-same-length
 same-length c = search needs
 
 returns : tie.Need-returns
-returns c = outside-here _ _ 16 _ 7 75 _ (c .before .before .before .before .fits-windows .ensures) ((c .before .before .id-at .ensures .0)) (c .before .tell .ensures)
+returns c = search (needs, activity-outside)
 
 pub check-activity-spec : {M : Type 1} → statement M
 check-activity-spec =

@@ -1,4 +1,3 @@
-use denote.Ref.{now}
 use Rattle.check6_calendars.proofs.Plain.{both-told}
 use borrow.Author.Needs.{needs}
 use Rattle.check6_calendars.proofs.check_plain.Statement.{statement}
@@ -14,7 +13,7 @@ same-length : tie.Need-same-length
 same-length c = search needs
 
 returns : tie.Need-returns
-returns c = both-told (now ((c .before .before .before .before .before .before .args .rows))) ((c .before .before .before .before .before .before .args .k)) ((c .before .before .before .before .before .before .args .a)) _ (c .before .before .before .before .check-resource .ensures) (c .before .check-activity .ensures)
+returns c = search (needs, both-told)
 
 pub check-plain-spec : {M : Type 1} → statement M
 check-plain-spec =

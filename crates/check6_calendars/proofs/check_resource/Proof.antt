@@ -3,7 +3,7 @@ use mathlib.Core.Path.{refl}
 use native.Mathlib.Omega.{arith}
 use Rattle.sheet.proofs.Lookups.{placed}
 use Rattle.model.proofs.Finds.{found-self}
-use Rattle.check6_calendars.proofs.Plain.{outside-told}
+use Rattle.check6_calendars.proofs.Plain.{resource-outside}
 use borrow.Author.Needs.{needs}
 use Rattle.check6_calendars.proofs.check_resource.Statement.{statement}
 use Rattle.check6_calendars.proofs.check_resource.Tie as tie
@@ -21,7 +21,7 @@ same-length : tie.Need-same-length
 same-length c = search needs
 
 returns : tie.Need-returns
-returns c = outside-told _ _ 15 _ _ 4 85 _ (placed _ 11 _ _ ((c .before .before .before .before .before .pre .1)) .id-is) (c .before .before .before .before .fits-windows .ensures) ((c .before .before .id-at .ensures .0)) (c .before .tell .ensures)
+returns c = search (needs, resource-outside)
 
 pub check-resource-spec : {M : Type 1} → statement M
 check-resource-spec =

@@ -1,4 +1,3 @@
-use mathlib.Core.Path.{refl}
 use Rattle.check6_calendars.proofs.Resumable.{resumable-told}
 use borrow.Author.Needs.{needs}
 use Rattle.check6_calendars.proofs.check_resumable.Statement.{statement}
@@ -17,7 +16,7 @@ same-length : tie.Need-same-length
 same-length c = search needs
 
 returns : tie.Need-returns
-returns c = resumable-told _ _ _ ((c .before .before .before .before .before .pre .0)) _ ((c .before .before .before .before .before .pre .1)) ((c .before .before .before .before .before .pre .2)) _ refl ((c .before .before .id-at .ensures .0)) ((c .before .tell .ensures))
+returns c = search (needs, resumable-told)
 
 pub check-resumable-spec : {M : Type 1} → statement M
 check-resumable-spec =

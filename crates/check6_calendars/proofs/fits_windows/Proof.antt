@@ -13,7 +13,7 @@ interval-fits-requires : tie.Need-interval-fits-requires
 interval-fits-requires c κs = search needs
 
 returns : tie.Need-returns
-returns c = fits-told _ _ _ (c .before .before .num-at .ensures) (c .before .num-at2 .ensures) (c .interval-fits .ensures)
+returns c = search (needs, fits-told)
 
 pub fits-windows-spec : {M : Type 1} → statement M
 fits-windows-spec =

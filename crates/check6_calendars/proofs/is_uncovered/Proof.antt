@@ -10,10 +10,10 @@ joint-available-ms-requires : tie.Need-joint-available-ms-requires
 joint-available-ms-requires c κs = search needs
 
 returns : tie.Need-returns
-returns c = worked _ (c .before .before .joint-working .ensures) (c .before .if1 .taken) (c .joint-available-ms .ensures)
+returns c = search (needs, worked)
 
 returns-2 : tie.Need-returns-2
-returns-2 c = unstarted _ (c .before .joint-working .ensures) (c .if1 .left)
+returns-2 c = search (needs, unstarted)
 
 pub is-uncovered-spec : {M : Type 1} → statement M
 is-uncovered-spec =

@@ -1,16 +1,12 @@
 use borrow.Author.Needs.{needs}
 use Prim.Native.Nat.{_-_, _≤_}
-use mathlib.Core.Bool.{cond}
-use mathlib.Core.Path.{ap}
-use native.Mathlib.Omega.{arith}
-use Rattle.loops.proofs.StoreLaws.{Filled, filled-start, filled-turn}
-use Rattle.check6_calendars.specs.inner.Lacking.{lacksTime}
-use Rattle.check6_calendars.proofs.Resumable.{lacking-end}
+use Rattle.loops.proofs.StoreLaws.{Filled, filled-start}
+use Rattle.check6_calendars.proofs.Resumable.{lackMark, row-few, lacking-turn, lacking-end}
 use Rattle.check6_calendars.proofs.lacking_of.Statement.{statement}
 use Rattle.check6_calendars.proofs.lacking_of.Tie as tie
 
 abbrev Inv-loop : tie.InvT-loop
-Inv-loop rows kinds links owned need n t₀ k₀ t k = (k ≤ n) × Filled (λ j. cond (lacksTime rows j) 1 0) k t
+Inv-loop rows kinds links owned need n t₀ k₀ t k = (k ≤ n) × Filled (lackMark rows) k t
 
 abbrev μ-loop : tie.MeasureT-loop
 μ-loop rows kinds links owned need n t₀ k₀ t k = n - k
@@ -22,10 +18,10 @@ loop-holds : tie.Need-loop-holds Inv-loop μ-loop
 loop-holds c = (search needs, filled-start _)
 
 lacks-at-requires : tie.Need-lacks-at-requires Inv-loop μ-loop
-lacks-at-requires c κs = (((c .before .before .before .before .pre .0)), ((c .before .before .before .before .pre .1)), omega (arith, (c .before .loop-test .taken), (c .before .before .before .row-count .ensures)))
+lacks-at-requires c κs = search needs
 
 mark-requires : tie.Need-mark-requires Inv-loop μ-loop
-mark-requires c κs = (omega (arith, (c .before .before .loop-test .taken), (c .before .before .before .before .row-count .ensures), (c .before .before .before .before .before .pre .1 .short)))
+mark-requires c κs = search (needs, row-few)
 
 add-k : tie.Need-add-k Inv-loop μ-loop
 add-k c = search needs
@@ -34,10 +30,10 @@ loop-less : tie.Need-loop-less Inv-loop μ-loop
 loop-less c = search needs
 
 loop-again : tie.Need-loop-again Inv-loop μ-loop
-loop-again c = (search needs, filled-turn _ _ _ _ _ (omega (arith, (c .before .before .before .loop-test .taken), (c .before .before .before .before .before .row-count .ensures), (c .before .before .before .before .before .before .pre .1 .short))) (ap (λ b. cond b 1 0) (c .before .lacks-at .ensures)) ((c .mark .ensures)) ((c .before .before .before .before .loop .inv .1)))
+loop-again c = (search needs, search (needs, lacking-turn))
 
 returns : tie.Need-returns Inv-loop μ-loop
-returns c = lacking-end _ _ _ _ ((c .loop-test .left)) ((c .before .loop .inv .0)) ((c .before .before .row-count .ensures)) ((c .before .before .before .pre .1 .short)) ((c .before .loop .inv .1))
+returns c = search (needs, lacking-end)
 
 pub lacking-of-spec : {M : Type 1} → statement M
 lacking-of-spec =

@@ -3,14 +3,13 @@ use lib.Seq.{length-take-le}
 use mathlib.Core.Path.{sym}
 use Prim.Native.Nat.{ℕ}
 use Rattle.model.proofs.Accepting.{accepted}
-use Rattle.check6_calendars.proofs.Resumable.{same-covered}
-use Rattle.check6_joint_calendars.proofs.Whole.{joint-laid}
+use Rattle.check6_calendars.proofs.Resumable.{laid-covered}
 use borrow.Author.Needs.{needs}
 use Rattle.check6_calendars.proofs.lacks_time.Statement.{statement}
 use Rattle.check6_calendars.proofs.lacks_time.Tie as tie
 
 lay-calendars-requires : tie.Need-lay-calendars-requires
-lay-calendars-requires c κs = ((c .before .before .pre .0), (c .before .before .pre .2), (c .before .before .pre .3), (c .before .before .pre .4), length-replicate {A = ℕ} 2400 0, length-replicate {A = ℕ} 1600 0)
+lay-calendars-requires c κs = (search needs, search needs, search needs, search needs, length-replicate {A = ℕ} 2400 0, length-replicate {A = ℕ} 1600 0)
 
 num-at-requires : tie.Need-num-at-requires
 num-at-requires c κs = search needs
@@ -19,7 +18,7 @@ num-at-requires-2 : tie.Need-num-at-requires-2
 num-at-requires-2 c κs = search needs
 
 needed-ms-requires : tie.Need-needed-ms-requires
-needed-ms-requires c κs = (accepted _ ((c .before .before .before .before .before .pre .0) .accepted), (c .before .before .before .before .before .pre .1), (c .before .before .before .before .before .pre .2), (c .before .before .before .before .before .pre .3))
+needed-ms-requires c κs = search (needs, accepted)
 
 mul-cs : tie.Need-mul-cs
 mul-cs c = search needs
@@ -37,7 +36,7 @@ is-uncovered-requires : tie.Need-is-uncovered-requires
 is-uncovered-requires c κs = search needs
 
 returns : tie.Need-returns
-returns c = same-covered _ _ (λ t. joint-laid _ (accepted _ ((c .before .before .before .before .before .before .before .before .before .pre .0 .accepted))) _ ((c .before .before .before .before .before .before .before .before .before .pre .2)) ((c .before .before .before .before .before .before .before .before .before .pre .3)) t _ _ (c .before .before .before .before .before .before .lay-calendars .ensures .list)) (c .before .before .before .before .before .num-at .ensures) (c .before .before .before .before .num-at2 .ensures) (c .before .before .before .needed-ms .ensures) (c .is-uncovered .ensures)
+returns c = search (needs, laid-covered)
 
 pub lacks-time-spec : {M : Type 1} → statement M
 lacks-time-spec =

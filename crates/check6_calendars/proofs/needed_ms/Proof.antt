@@ -1,8 +1,4 @@
-use Prim.Native.Nat.{_<_, _≤_}
-use native.Mathlib.Omega.{arith}
-use lib.ListN.{getD}
-use Rattle.rows.specs.Cells.{num}
-use Rattle.model.proofs.Accepting.{at-most}
+use Rattle.check6_calendars.proofs.Resumable.{needed-fits}
 use borrow.Author.Needs.{needs}
 use Rattle.check6_calendars.proofs.needed_ms.Statement.{statement}
 use Rattle.check6_calendars.proofs.needed_ms.Tie as tie
@@ -17,7 +13,7 @@ element-copy-out-result : tie.Need-element-copy-out-result
 element-copy-out-result c = search needs
 
 add-result : tie.Need-add-result
-add-result c = let t : num ((c .before .before .args .rows) .now) ((c .before .before .args .k)) 6 ≤ 4000000000000 = at-most _ ((c .before .before .pre .0)) _ 23 6 ((c .before .before .pre .3)) in let d : getD ((c .before .before .args .need) .now) (c .before .before .args .k) 0 < 9007199254740992 = (c .before .before .pre .1) .small _ ((c .before .before .pre .2)) in record { fits = omega (arith, t, d, (c .before .num-at .ensures)) }
+add-result c = search (needs, needed-fits)
 
 returns : tie.Need-returns
 returns c = search needs

@@ -1,5 +1,4 @@
 use borrow.Author.Needs.{needs}
-use mathlib.Core.Path.{refl}
 use Rattle.check6_joint_calendars.proofs.Gathering.{added}
 use Rattle.check6_joint_calendars.proofs.add_calendar.Statement.{statement}
 use Rattle.check6_joint_calendars.proofs.add_calendar.Tie as tie
@@ -32,7 +31,7 @@ add-t10 : tie.Need-add-t10
 add-t10 c = search needs
 
 returns : tie.Need-returns
-returns c = added _ _ _ _ _ _ ((c .before .before .before .before .before .pre .3)) ((c .before .before .before .before .before .pre .5)) ((c .before .before .before .gather-windows .ensures .0)) _ ((c .before .before .before .gather-windows .ensures .1)) refl
+returns c = search (needs, added)
 
 pub add-calendar-spec : {M : Type 1} → statement M
 add-calendar-spec =

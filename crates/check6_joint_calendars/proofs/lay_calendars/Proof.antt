@@ -1,22 +1,21 @@
-use Rattle.sheet.proofs.Lookups.{placed}
-use native.Mathlib.Omega.{arith}
-use Rattle.check6_joint_calendars.proofs.Marking.{on-resources}
-use Rattle.check6_joint_calendars.proofs.Gathering.{last-room}
+use borrow.Author.Needs.{needs}
+use Rattle.check6_joint_calendars.proofs.Marking.{on-resources, place-low}
+use Rattle.check6_joint_calendars.proofs.Gathering.{last-windows, last-calendars}
 use Rattle.check6_joint_calendars.proofs.Whole.{activity-holder, whole}
 use Rattle.check6_joint_calendars.proofs.lay_calendars.Statement.{statement}
 use Rattle.check6_joint_calendars.proofs.lay_calendars.Tie as tie
 
 mark-resources-requires : tie.Need-mark-resources-requires
-mark-resources-requires c κs = ((c .pre .0 .linked), (c .pre .0 .by-owner), (c .pre .2), (c .pre .3))
+mark-resources-requires c κs = search needs
 
 gather-resources-requires : tie.Need-gather-resources-requires
-gather-resources-requires c κs = ((c .before .before .before .before .pre .0 .by-kind), (c .before .before .before .before .pre .0 .by-owner), on-resources _ _ (c .before .before .before .mark-resources .ensures), (c .before .before .before .before .pre .4), (c .before .before .before .before .pre .5))
+gather-resources-requires c κs = search (needs, on-resources)
 
 add-calendar-requires : tie.Need-add-calendar-requires
-add-calendar-requires c κs = let h = last-room _ _ (c .before .before .before .before .before .before .before .args .a) _ ((c .before .before .before .before .before .before .before .pre .0 .by-owner .short)) ((c .before .before .before .before .before .before .before .pre .1)) ((c .before .before .before .before .before .before .before .pre .2)) (c .before .before .gather-resources .ensures) in ((c .before .before .before .before .before .before .before .pre .0 .by-owner), (let p = placed _ _ _ _ ((c .before .before .before .before .before .before .before .pre .3)) in omega (arith, p .within)), activity-holder _ _ ((c .before .before .before .before .before .before .before .pre .3)), (c .before .before .gather-resources .ensures .tidy), h .0, h .1)
+add-calendar-requires c κs = search (needs, last-windows, last-calendars, place-low, activity-holder)
 
 returns : tie.Need-returns
-returns c = let h = last-room _ _ (c .before .before .before .before .before .before .before .before .args .a) _ ((c .before .before .before .before .before .before .before .before .pre .0 .by-owner .short)) ((c .before .before .before .before .before .before .before .before .pre .1)) ((c .before .before .before .before .before .before .before .before .pre .2)) (c .before .before .before .gather-resources .ensures) in whole _ _ _ (c .before .before .before .before .before .before .before .mark-resources .ensures) (c .before .before .before .gather-resources .ensures) (h .1) (c .add-calendar .ensures)
+returns c = search (needs, whole, last-calendars)
 
 pub lay-calendars-spec : {M : Type 1} → statement M
 lay-calendars-spec =

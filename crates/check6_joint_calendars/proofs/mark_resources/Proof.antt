@@ -1,12 +1,10 @@
 use borrow.Author.Needs.{needs}
 use Prim.Native.Nat.{_-_}
-use native.Mathlib.Omega.{arith}
 use Rattle.loops.specs.inner.Chain.{Stands}
 use Rattle.rows.specs.Cells.{rowCount}
-use Rattle.sheet.proofs.Lookups.{placed}
 use Rattle.owners.specs.inner.Owners.{ownedBy}
 use Rattle.check6_joint_calendars.specs.inner.Taken.{Marked}
-use Rattle.check6_joint_calendars.proofs.Marking.{mark-first, mark-next, mark-end}
+use Rattle.check6_joint_calendars.proofs.Marking.{place-low, mark-first, mark-next, mark-end}
 use Rattle.check6_joint_calendars.proofs.mark_resources.Statement.{statement}
 use Rattle.check6_joint_calendars.proofs.mark_resources.Tie as tie
 
@@ -20,25 +18,25 @@ row-count-requires : tie.Need-row-count-requires Inv-loop μ-loop
 row-count-requires c κs = search needs
 
 first-owned-requires : tie.Need-first-owned-requires Inv-loop μ-loop
-first-owned-requires c κs = let w = placed _ _ _ _ ((c .before .pre .3)) in ((c .before .pre .1), omega (arith, w .within))
+first-owned-requires c κs = search (needs, place-low)
 
 loop-holds : tie.Need-loop-holds Inv-loop μ-loop
-loop-holds c = (search needs, mark-first _ _ _ ((c .before .before .pre .2)) ((c .before .before .pre .3)) (c .first-owned .ensures) ((c .before .before .pre .0 .short)))
+loop-holds c = (search needs, search (needs, mark-first))
 
 mark-resource-requires : tie.Need-mark-resource-requires Inv-loop μ-loop
-mark-resource-requires c κs = ((c .before .before .before .before .before .pre .0), omega (arith, (c .before .loop-test .taken), (c .before .before .before .before .row-count .ensures)), (c .before .before .loop .inv .1))
+mark-resource-requires c κs = search needs
 
 next-owned-requires : tie.Need-next-owned-requires Inv-loop μ-loop
-next-owned-requires c κs = ((c .before .before .before .before .before .before .pre .1), (c .before .before .before .loop .inv .0), omega (arith, (c .before .before .loop-test .taken), (c .before .before .before .before .before .row-count .ensures)))
+next-owned-requires c κs = search needs
 
 loop-less : tie.Need-loop-less Inv-loop μ-loop
 loop-less c = search needs
 
 loop-again : tie.Need-loop-again Inv-loop μ-loop
-loop-again c = (search needs, mark-next _ _ _ ((c .before .before .before .before .before .before .before .pre .2)) ((c .before .before .before .before .before .before .before .pre .3)) (c .next-owned .ensures) (c .before .mark-resource .ensures))
+loop-again c = (search needs, search (needs, mark-next))
 
 returns : tie.Need-returns Inv-loop μ-loop
-returns c = mark-end _ _ (c .loop-test .left) (c .before .before .before .row-count .ensures) ((c .before .loop .inv .0)) ((c .before .loop .inv .1))
+returns c = search (needs, mark-end)
 
 pub mark-resources-spec : {M : Type 1} → statement M
 mark-resources-spec =

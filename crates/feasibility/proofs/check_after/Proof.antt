@@ -21,7 +21,7 @@ same-length c = search needs
 
 returns : tie.Need-returns
 unfolding afterCapacity
-returns c = in-turn _ _ _ _ _ (c .before .before .before .before .before .before .before .before .before .before .check-calendars .ensures) (c .before .before .before .before .before .before .before .check-precedence .ensures) (c .before .before .before .before .check-deadlines .ensures) (c .before .check-constraints .ensures)
+returns c = in-turn _ _ _ _ _ _ _ _ (c .before .check-constraints .ensures) (c .before .before .before .before .check-deadlines .ensures) (c .before .before .before .before .before .before .before .check-precedence .ensures) (c .before .before .before .before .before .before .before .before .before .before .check-calendars .ensures)
 
 pub check-after-spec : {M : Type 1} → statement M
 check-after-spec =

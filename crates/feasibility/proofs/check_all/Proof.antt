@@ -18,7 +18,7 @@ same-length c = search needs
 
 returns : tie.Need-returns
 unfolding findings checkSchedule
-returns c = in-turn-3 _ _ _ _ (c .before .before .before .before .before .before .before .check-before .ensures) (c .before .before .before .before .check-capacity .ensures) (c .before .check-after .ensures)
+returns c = search in-turn-3
 
 pub check-all-spec : {M : Type 1} → statement M
 check-all-spec =

@@ -21,7 +21,7 @@ same-length c = search needs
 
 returns : tie.Need-returns
 unfolding beforeCapacity
-returns c = in-turn _ _ _ _ _ (c .before .before .before .before .before .before .before .before .before .before .check-assignments .ensures) (c .before .before .before .before .before .before .before .check-time-only .ensures) (c .before .before .before .before .check-parts .ensures) (c .before .check-requirements .ensures)
+returns c = in-turn _ _ _ _ _ _ _ _ (c .before .check-requirements .ensures) (c .before .before .before .before .check-parts .ensures) (c .before .before .before .before .before .before .before .check-time-only .ensures) (c .before .before .before .before .before .before .before .before .before .before .check-assignments .ensures)
 
 pub check-before-spec : {M : Type 1} → statement M
 check-before-spec =

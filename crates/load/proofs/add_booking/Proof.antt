@@ -1,4 +1,3 @@
-use Rattle.model.proofs.Accepting.{accepted}
 use borrow.Author.Needs.{needs}
 use Rattle.load.proofs.Gathering.{gather-more, gather-other, behind-self, behind-more}
 use Rattle.load.proofs.add_booking.Statement.{statement}
@@ -23,10 +22,10 @@ add-result : tie.Need-add-result
 add-result c = search needs
 
 returns : tie.Need-returns
-returns c = (gather-more _ _ (accepted _ (c .before .before .before .before .before .before .before .pre .2)) (c .before .before .before .before .before .before .before .pre .4) (c .before .before .before .before .before .before .is-at .ensures) (c .before .before .before .before .before .if1 .taken) (c .before .before .before .before .num-at .ensures) (c .before .before .before .num-at2 .ensures) (c .before .before .usage-of .ensures .0) (c .before .before .usage-of .ensures .1) (c .before .before .before .before .before .before .before .pre .3) (c .before .before .before .before .before .before .before .pre .0 .short) (c .set-booking .ensures) (c .before .before .before .before .before .before .before .pre .5), behind-more _ _ _ _ _ (c .set-booking .ensures))
+returns c = (gather-more _ _ (c .before .before .before .before .before .before .before .pre .0) (c .before .before .before .before .before .before .before .pre .2) (c .before .before .before .before .before .before .before .pre .4) (c .before .before .before .before .before .before .is-at .ensures) (c .before .before .before .before .before .if1 .taken) (c .before .before .before .before .num-at .ensures) (c .before .before .before .num-at2 .ensures) (c .before .before .usage-of .ensures .0) (c .before .before .usage-of .ensures .1) (c .before .before .before .before .before .before .before .pre .3) (c .set-booking .ensures) (c .before .before .before .before .before .before .before .pre .5), search (needs, behind-more))
 
 returns-2 : tie.Need-returns-2
-returns-2 c = (gather-other _ _ (c .before .before .pre .4) (c .before .is-at .ensures) (c .if1 .left) (c .before .before .pre .5), behind-self _ _)
+returns-2 c = search (needs, gather-other, behind-self)
 
 pub add-booking-spec : {M : Type 1} → statement M
 add-booking-spec =

@@ -1,5 +1,5 @@
+use borrow.Author.Needs.{needs}
 use Rattle.load.proofs.Caps.{base-none, base-some}
-use mathlib.Core.Path.{_∙_}
 use mir.Facts.{toZ-ofZ}
 use borrow.Author.Needs.{needs, sfits-of}
 use Rattle.load.proofs.base_of.Statement.{statement}
@@ -15,7 +15,7 @@ enum-told : tie.Need-enum-told
 enum-told c = search needs
 
 returns : tie.Need-returns
-returns c = base-none _ _ (c .before .before .find-resource .ensures) (c .enum-told .given .1)
+returns c = search (needs, base-none)
 
 cell-at-requires : tie.Need-cell-at-requires
 cell-at-requires c κs = search needs
@@ -24,7 +24,7 @@ greater-of-requires : tie.Need-greater-of-requires
 greater-of-requires c κs = search needs
 
 returns-2 : tie.Need-returns-2
-returns-2 c = toZ-ofZ (sfits-of (c .greater-of .ok)) ∙ base-some _ _ (c .before .before .before .before .before .find-resource .ensures) (c .before .before .before .found .given .1) (sfits-of (c .before .cell-at .ok)) (c .before .cell-at .ensures) (c .greater-of .ensures)
+returns-2 c = search (needs, toZ-ofZ, sfits-of, base-some)
 
 pub base-of-spec : {M : Type 1} → statement M
 base-of-spec =

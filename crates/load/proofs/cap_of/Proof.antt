@@ -1,3 +1,4 @@
+use borrow.Author.Needs.{needs}
 use Rattle.load.proofs.Caps.{cap-base, cap-lowered}
 use mathlib.Core.Path.{_∙_}
 use mir.Facts.{toZ-ofZ}
@@ -18,7 +19,7 @@ enum-told : tie.Need-enum-told
 enum-told c = search needs
 
 returns : tie.Need-returns
-returns c = cap-base _ _ (sfits-of (c .before .before .before .base-of .ok)) (c .before .before .before .base-of .ensures) (c .before .before .cap-override .ensures) (c .enum-told .given .1)
+returns c = search (needs, cap-base, sfits-of)
 
 cell-at-requires : tie.Need-cell-at-requires
 cell-at-requires c κs = search needs
@@ -27,7 +28,7 @@ lesser-of-requires : tie.Need-lesser-of-requires
 lesser-of-requires c κs = search needs
 
 returns-2 : tie.Need-returns-2
-returns-2 c = toZ-ofZ (sfits-of (c .lesser-of .ok)) ∙ cap-lowered _ _ (sfits-of (c .before .before .before .before .before .before .base-of .ok)) (sfits-of (c .before .cell-at .ok)) (c .before .before .before .before .before .before .base-of .ensures) (c .before .before .before .before .before .cap-override .ensures) (c .before .before .before .lowered .given .1) (c .before .cell-at .ensures) (c .lesser-of .ensures)
+returns-2 c = search (needs, _∙_, toZ-ofZ, sfits-of, cap-lowered)
 
 pub cap-of-spec : {M : Type 1} → statement M
 cap-of-spec =

@@ -40,10 +40,10 @@ loop-less : tie.Need-loop-less Inv-loop μ-loop
 loop-less c = search needs
 
 loop-again : tie.Need-loop-again Inv-loop μ-loop
-loop-again c = (search needs, only-next _ _ _ (c .next-of .ensures) (c .before .before .before .loop-test .taken) (c .before .before .before .before .before .before .row-count .ensures) ((c .before .before .before .before .loop .inv .0)) ((c .before .before .before .before .loop .inv .1)) (later-turn _ _ _ _ (c .before .before .cap-at .ensures) (c .before .or-else .ensures)))
+loop-again c = search (needs, only-next, later-turn)
 
 returns : tie.Need-returns Inv-loop μ-loop
-returns c = override-is _ _ ((c .before .loop .f)) (fold-end _ _ _ _ _ (c .loop-test .left) (c .before .before .before .row-count .ensures) ((c .before .loop .inv .0)) ((c .before .loop .inv .1)))
+returns c = search (needs, override-is, fold-end)
 
 pub cap-override-spec : {M : Type 1} → statement M
 cap-override-spec =

@@ -11,7 +11,7 @@ first-from-requires : tie.Need-first-from-requires
 first-from-requires c κs = search needs
 
 returns : tie.Need-returns
-returns c = seeking-from _ _ _ _ _ _ (first-blind _) (c .before .first-of .ensures) (c .first-from .ensures)
+returns c = search (needs, seeking-from, first-blind)
 
 pub first-booked-spec : {M : Type 1} → statement M
 first-booked-spec = tie.close (tie.spec first-of-requires first-from-requires returns)

@@ -10,7 +10,7 @@ is-booked-requires : tie.Need-is-booked-requires
 is-booked-requires c κs = search needs
 
 returns : tie.Need-returns
-returns c = first-told _ _ (c .before .before .pre .2) (c .before .num-at .ensures) (c .is-booked .ensures)
+returns c = search (needs, first-told)
 
 pub is-first-spec : {M : Type 1} → statement M
 is-first-spec = tie.close (tie.spec num-at-requires is-booked-requires returns)

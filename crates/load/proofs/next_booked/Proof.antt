@@ -11,7 +11,7 @@ first-from-requires : tie.Need-first-from-requires
 first-from-requires c κs = search needs
 
 returns : tie.Need-returns
-returns c = seeking-from _ _ _ _ _ _ (first-blind _) (c .before .next-of .ensures) (c .first-from .ensures)
+returns c = search (needs, seeking-from, first-blind)
 
 pub next-booked-spec : {M : Type 1} → statement M
 next-booked-spec = tie.close (tie.spec next-of-requires first-from-requires returns)

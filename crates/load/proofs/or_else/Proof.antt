@@ -1,4 +1,5 @@
 use borrow.Author.Needs.{needs}
+use Rattle.load.proofs.Caps.{some-first}
 use Rattle.load.proofs.or_else.Statement.{statement}
 use Rattle.load.proofs.or_else.Tie as tie
 
@@ -12,7 +13,7 @@ returns : tie.Need-returns
 returns c = search needs
 
 returns-2 : tie.Need-returns-2
-returns-2 c = rw (c .before .a .given .1)
+returns-2 c = search (needs, some-first)
 
 pub or-else-spec : {M : Type 1} → statement M
 or-else-spec = tie.close (tie.spec enum-known-a enum-told returns returns-2)
