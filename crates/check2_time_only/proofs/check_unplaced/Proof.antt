@@ -24,10 +24,10 @@ same-length : tie.Need-same-length
 same-length c = search needs
 
 returns : tie.Need-returns
-returns c = free-told _ _ _ (c .before .before .before .before .before .before .before .is-free .ensures) (c .before .before .before .before .before .before .if1 .taken) (c .before .before .before .before .row-count .ensures) (c .before .before .before .is-seen .ensures) ((c .before .before .before .before .before .id-at .ensures .0)) (c .before .tell .ensures)
+returns c = search (needs, free-told)
 
 returns-2 : tie.Need-returns-2
-returns-2 c = held-told (c .before .before .args .rows .now) (c .before .before .args .a) _ (c .before .is-free .ensures) (c .if1 .left)
+returns-2 c = search (needs, held-told)
 
 pub check-unplaced-spec : {M : Type 1} → statement M
 check-unplaced-spec =

@@ -37,13 +37,13 @@ returns : tie.Need-returns Inv-loop μ-loop
 returns c = any-hit _ _ _ _ (c .before .before .loop-test .taken) refl (spanned-test _ _ (c .before .before .loop-test .taken) ((c .before .before .before .before .before .before .pre .3)) ((c .before .before .before .loop .inv .0)) (c .before .before .before .before .before .num-at .ensures) (c .before .is-at .ensures) (c .if1 .taken)) ∙ seen-are _ _ ((c .before .before .before .before .before .before .pre .1)) ((c .before .before .before .before .before .before .pre .2)) _
 
 next-owned-requires : tie.Need-next-owned-requires Inv-loop μ-loop
-next-owned-requires c κs = ((c .before .before .before .before .before .before .pre .0), (c .before .before .before .loop .inv .0), omega (arith, (c .before .before .loop-test .taken), (c .before .before .before .before .before .before .pre .3)))
+next-owned-requires c κs = search needs
 
 loop-less : tie.Need-loop-less Inv-loop μ-loop
 loop-less c = search needs
 
 loop-again : tie.Need-loop-again Inv-loop μ-loop
-loop-again c = (search needs, any-next _ (c .next-owned .ensures) (spanned-blind _ _) ((c .before .before .before .before .loop .inv .1)) (spanned-test _ _ (c .before .before .before .loop-test .taken) ((c .before .before .before .before .before .before .before .pre .3)) ((c .before .before .before .before .loop .inv .0)) (c .before .before .before .before .before .before .num-at .ensures) (c .before .before .is-at .ensures) (c .before .if1 .left)))
+loop-again c = search (needs, any-next, spanned-blind, spanned-test)
 
 returns-2 : tie.Need-returns-2 Inv-loop μ-loop
 returns-2 c = sym (any-less _ _ _ ((c .before .loop .inv .1)) (c .loop-test .left)) ∙ seen-are _ _ ((c .before .before .before .before .pre .1)) ((c .before .before .before .before .pre .2)) _

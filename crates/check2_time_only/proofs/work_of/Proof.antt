@@ -22,7 +22,7 @@ add-result-2 : tie.Need-add-result-2
 add-result-2 c = let h = work-most _ _ 0 ((c .before .before .before .pre .0)) ((c .before .before .before .pre .1)) (c .before .before .num-at .ensures) (c .before .num-at2 .ensures) (c .num-at3 .ensures) in omega (arith, h)
 
 returns : tie.Need-returns
-returns c = (ap₂ _+_ (ap₂ _+_ (c .before .before .num-at .ensures) (c .before .num-at2 .ensures)) (c .num-at3 .ensures), work-most _ _ 0 ((c .before .before .before .pre .0)) ((c .before .before .before .pre .1)) (c .before .before .num-at .ensures) (c .before .num-at2 .ensures) (c .num-at3 .ensures))
+returns c = search (needs, work-most)
 
 pub work-of-spec : {M : Type 1} → statement M
 work-of-spec =
