@@ -1,4 +1,4 @@
-use Rattle.check2_time_only.proofs.Told.{unknown-told, again-told, here-told, known-place, known-free}
+use Rattle.check2_time_only.proofs.Told.{unknown-told, again-told, here-told, known-place, known-self, known-free}
 use Rattle.model.proofs.Finds.{found-self}
 use native.Mathlib.Omega.{arith}
 use borrow.Author.Needs.{needs}
@@ -27,7 +27,7 @@ returns : tie.Need-returns
 returns c = search (needs, unknown-told)
 
 is-seen-requires : tie.Need-is-seen-requires
-is-seen-requires c κs = ((c .before .before .before .before .before .pre .1), found-self _ _ _ _ (known-place _ _ ((c .before .before .before .known .ensures)) ((c .before .activity .given .1))), known-free _ _ ((c .before .before .before .known .ensures)) ((c .before .activity .given .1)), omega (arith, (c .before .before .before .before .before .pre .3)))
+is-seen-requires c κs = (search needs, search (needs, known-self), search (needs, known-free), search needs)
 
 tell-requires-2 : tie.Need-tell-requires-2
 tell-requires-2 c κs = search needs

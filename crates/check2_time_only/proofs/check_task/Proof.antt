@@ -1,5 +1,5 @@
 use borrow.Author.Needs.{needs}
-use Rattle.check2_time_only.proofs.Told.{unplacedAt, unplaced-silent, unplaced-here, unplaced-whole, task-itself, activity-itself}
+use Rattle.check2_time_only.proofs.Told.{unplacedAt, unplaced-silent, unplaced-next, unplaced-told, task-itself, activity-itself}
 use Prim.Native.Nat.{_-_}
 use mathlib.Core.Path.{_≡_, refl, ap, _∙_}
 use native.Mathlib.Omega.{arith}
@@ -38,13 +38,13 @@ loop-less : tie.Need-loop-less Inv-loop μ-loop
 loop-less c = search needs
 
 loop-again : tie.Need-loop-again Inv-loop μ-loop
-loop-again c = (search needs, emit-next _ _ (c .next-owned .ensures) (unplaced-silent _ _ (task-itself _ _ ((c .before .before .before .before .before .before .before .before .pre .1)) ((c .before .before .before .before .before .before .before .before .pre .2)) ((c .before .before .before .before .before .before .before .before .pre .3)))) ((c .before .before .before .before .before .loop .inv .1)) ((c .before .before .check-unplaced .ensures) ∙ ap (emit _) (unplaced-here _ _ (task-itself _ _ ((c .before .before .before .before .before .before .before .before .pre .1)) ((c .before .before .before .before .before .before .before .before .pre .2)) ((c .before .before .before .before .before .before .before .before .pre .3))) (c .before .before .before .before .loop-test .taken) (c .before .before .before .before .before .before .before .row-count .ensures) ((c .before .before .before .before .before .loop .inv .0)))))
+loop-again c = (search needs, search (needs, unplaced-next, task-itself))
 
 same-length : tie.Need-same-length Inv-loop μ-loop
 same-length c = search (needs, kept)
 
 returns : tie.Need-returns Inv-loop μ-loop
-returns c = emit-end _ _ _ _ _ (c .loop-test .left) (c .before .before .before .row-count .ensures) ((c .before .loop .inv .0)) ((c .before .loop .inv .1)) ∙ ap (emit _) (unplaced-whole (c .before .before .before .before .args .rows .now) (c .before .before .before .before .args .t))
+returns c = search (needs, emit-end, unplaced-told)
 
 pub check-task-spec : {M : Type 1} → statement M
 check-task-spec =

@@ -1,5 +1,5 @@
 use borrow.Author.Needs.{needs}
-use Rattle.check2_time_only.proofs.Told.{taskUnplaced, tasks-silent, task-here, tasks-whole}
+use Rattle.check2_time_only.proofs.Told.{taskUnplaced, tasks-silent, tasks-next, tasks-told}
 use Prim.Native.Nat.{_-_}
 use mathlib.Core.Path.{_≡_, ap, _∙_}
 use native.Mathlib.Omega.{arith}
@@ -39,13 +39,13 @@ loop-less : tie.Need-loop-less Inv-loop μ-loop
 loop-less c = search needs
 
 loop-again : tie.Need-loop-again Inv-loop μ-loop
-loop-again c = (search needs, emit-next _ _ (c .next-of .ensures) (tasks-silent _) ((c .before .before .before .before .before .loop .inv .1)) ((c .before .before .check-task .ensures) ∙ ap (emit _) (task-here _ _ (stands-kind _ _ (c .before .before .before .before .loop-test .taken) (c .before .before .before .before .before .before .before .row-count .ensures) ((c .before .before .before .before .before .loop .inv .0))))))
+loop-again c = (search needs, search (needs, tasks-next))
 
 same-length : tie.Need-same-length Inv-loop μ-loop
 same-length c = search (needs, kept)
 
 returns : tie.Need-returns Inv-loop μ-loop
-returns c = emit-end _ _ _ _ _ (c .loop-test .left) (c .before .before .before .row-count .ensures) ((c .before .loop .inv .0)) ((c .before .loop .inv .1)) ∙ ap (emit _) (tasks-whole (c .before .before .before .before .args .rows .now))
+returns c = search (needs, emit-end, tasks-told)
 
 pub check-tasks-spec : {M : Type 1} → statement M
 check-tasks-spec =

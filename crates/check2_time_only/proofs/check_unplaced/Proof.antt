@@ -1,6 +1,6 @@
 use borrow.Author.Needs.{needs}
 use Rattle.check2_time_only.proofs.Told.{free-told, held-told}
-use mathlib.Core.Path.{sym, _∙_}
+use Rattle.sheet.proofs.Naming.{told}
 use native.Mathlib.Omega.{arith}
 use Rattle.check2_time_only.proofs.check_unplaced.Statement.{statement}
 use Rattle.check2_time_only.proofs.check_unplaced.Tie as tie
@@ -15,7 +15,7 @@ row-count-requires : tie.Need-row-count-requires
 row-count-requires c κs = search needs
 
 is-seen-requires : tie.Need-is-seen-requires
-is-seen-requires c κs = ((c .before .before .before .before .pre .0), (c .before .before .before .before .pre .1), sym (c .before .before .before .is-free .ensures) ∙ (c .before .before .if1 .taken), omega (arith, (c .row-count .ensures)))
+is-seen-requires c κs = (search needs, search needs, search (needs, told), search needs)
 
 tell-requires : tie.Need-tell-requires
 tell-requires c κs = search needs

@@ -1,5 +1,5 @@
 use borrow.Author.Needs.{needs}
-use Rattle.check2_time_only.proofs.Told.{short-resumed, short-plain}
+use Rattle.check2_time_only.proofs.Told.{end-fits, short-resumed, short-plain}
 use Rattle.model.proofs.Accepting.{accepted, at-most}
 use native.Mathlib.Omega.{arith}
 use Rattle.check2_time_only.proofs.is_short.Statement.{statement}
@@ -27,7 +27,7 @@ returns : tie.Need-returns
 returns c = search (needs, short-resumed)
 
 add-result : tie.Need-add-result
-add-result c = let h = at-most _ (accepted _ ((c .before .before .before .before .before .pre .0))) _ 24 3 ((c .before .before .before .before .before .pre .2)) in omega (arith, h, (c .before .before .before .num-at .ensures), (c .before .before .before .before .work-of .ensures .1))
+add-result c = search (needs, end-fits)
 
 returns-2 : tie.Need-returns-2
 returns-2 c = search (needs, short-plain)
