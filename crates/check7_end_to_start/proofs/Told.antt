@@ -16,12 +16,14 @@ use Rattle.loops.specs.Lists.{given, each, keep, option}
 use Rattle.loops.specs.Range.{collect}
 use Rattle.loops.specs.inner.Chain.{First, Silent, Stands}
 use Rattle.loops.proofs.ListLaws.{each-collect, keep-collect}
+use Rattle.loops.proofs.Walks.{collect-next}
 use Rattle.calendar.specs.Clock.{clock}
 use Rattle.rows.specs.Cells.{rowCount, cell, num, is}
 use Rattle.sheet.specs.Places.{ofKind, placeOf}
 use Rattle.owners.specs.inner.Owners.{ownerKind, ownedBy}
 use Rattle.findings.specs.declared.Violation.{Violation}
 use Rattle.findings.specs.inner.Sink.{Sink, emit}
+use Rattle.findings.proofs.SinkLaws.{emit-then}
 use Rattle.findings.proofs.Reports.{emit-next}
 use Rattle.model.specs.Sheet.{sheet, rowAt}
 use Rattle.model.specs.inner.Records.{numAt}
@@ -103,15 +105,18 @@ module _ (rows : List ℤ) (id : ℕ) where
     pub predecessor-silent : Silent (ownedBy rows o 8) predecessorAt
     predecessor-silent = record { still = λ k h. predecessor-is k ∙ ap (λ b. cond b (endToStart clock (sheet rows) (num rows k 2) id (pos 0)) []) (sym (of-activity rows 8 o id (unfold ownerKind in refl) q k) ∙ h) }
 
-  pub predecessor-next : (o : ℕ) (s₀ : Sink) {n k j : ℕ} {s s′ : Sink} {p a : ℕ} → First (ownedBy rows o 8) (suc k) n j → s′ ≡ emit s (endToStart clock (sheet rows) p a (pos 0))
-      → Stands (ownedBy rows o 8) n k → k < n → s ≡ emit s₀ (collect predecessorAt k) → p ≡ num rows k 2 → a ≡ id → placeOf rows 2 id ≡ some o
-      → s′ ≡ emit s₀ (collect predecessorAt j)
-  predecessor-next o s₀ {k = k} {s = s} x g st l r e f q =
-      emit-next predecessorAt s₀ x (predecessor-silent o q) r
-      (g
-      ∙ ap (emit s)
-      (ap₂ (λ x y. endToStart clock (sheet rows) x y (pos 0)) e f
-      ∙ sym (predecessor-is k ∙ ap (λ b. cond b (endToStart clock (sheet rows) (num rows k 2) id (pos 0)) []) (sym (of-activity rows 8 o id (unfold ownerKind in refl) q k) ∙ st .here l))))
+  pub predecessor-told : (s₀ : Sink) (k : ℕ) {s s′ : Sink} {p a : ℕ} → s′ ≡ emit s (endToStart clock (sheet rows) p a (pos 0)) → s ≡ emit s₀ (collect predecessorAt k)
+      → p ≡ num rows k 2 → a ≡ id → s′ ≡ emit s₀ (collect predecessorAt k ++ endToStart clock (sheet rows) (num rows k 2) id (pos 0))
+  predecessor-told s₀ k {s} g r e f = emit-then _ _ s₀ r (g ∙ ap (emit s) (ap₂ (λ x y. endToStart clock (sheet rows) x y (pos 0)) e f))
+
+  pub predecessor-next : (o : ℕ) (s₀ : Sink) {n k j : ℕ} {s′ : Sink} → First (ownedBy rows o 8) (suc k) n j → Stands (ownedBy rows o 8) n k → k < n → placeOf rows 2 id ≡ some o
+      → s′ ≡ emit s₀ (collect predecessorAt k ++ endToStart clock (sheet rows) (num rows k 2) id (pos 0)) → s′ ≡ emit s₀ (collect predecessorAt j)
+  predecessor-next o s₀ {k = k} x st l q g =
+      g
+      ∙ ap (emit s₀)
+      (ap (λ b. collect predecessorAt k ++ cond b (endToStart clock (sheet rows) (num rows k 2) id (pos 0)) []) (sym (sym (of-activity rows 8 o id (unfold ownerKind in refl) q k) ∙ st .here l))
+      ∙ ap (λ y. collect predecessorAt k ++ y) (sym (predecessor-is k))
+      ∙ sym (collect-next predecessorAt x (predecessor-silent o q)))
 
 -- ---- the activities of a task
 

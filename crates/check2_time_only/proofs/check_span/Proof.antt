@@ -1,6 +1,4 @@
 use Rattle.check2_time_only.proofs.Told.{unknown-told, again-told, here-told, known-place, known-self, known-free}
-use Rattle.model.proofs.Finds.{found-self}
-use native.Mathlib.Omega.{arith}
 use borrow.Author.Needs.{needs}
 use Rattle.check2_time_only.proofs.check_span.Statement.{statement}
 use Rattle.check2_time_only.proofs.check_span.Tie as tie

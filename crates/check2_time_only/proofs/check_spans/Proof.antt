@@ -2,7 +2,6 @@ use borrow.Author.Needs.{needs}
 use Rattle.check2_time_only.proofs.Told.{span-silent}
 use Prim.Native.Nat.{_-_}
 use mathlib.Core.Path.{_≡_}
-use native.Mathlib.Omega.{arith}
 use Rattle.loops.specs.Range.{collect}
 use Rattle.loops.specs.inner.Chain.{Stands}
 use Rattle.calendar.specs.Clock.{clock}

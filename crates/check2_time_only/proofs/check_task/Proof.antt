@@ -1,13 +1,12 @@
 use borrow.Author.Needs.{needs}
 use Rattle.check2_time_only.proofs.Told.{unplacedAt, unplaced-silent, unplaced-next, unplaced-told, task-itself, activity-itself}
 use Prim.Native.Nat.{_-_}
-use mathlib.Core.Path.{_≡_, refl, ap, _∙_}
-use native.Mathlib.Omega.{arith}
+use mathlib.Core.Path.{_≡_}
 use Rattle.loops.specs.Range.{collect}
 use Rattle.loops.specs.inner.Chain.{Stands}
 use Rattle.findings.specs.inner.Sink.{sink, emit}
 use Rattle.findings.proofs.SinkLaws.{kept}
-use Rattle.findings.proofs.Reports.{emit-first, emit-next, emit-end}
+use Rattle.findings.proofs.Reports.{emit-first, emit-end}
 use Rattle.rows.specs.Cells.{rowCount}
 use Rattle.owners.specs.inner.Owners.{ownedBy}
 use Rattle.check2_time_only.proofs.check_task.Statement.{statement}

@@ -1,5 +1,4 @@
 use borrow.Author.Needs.{needs}
-use mathlib.Core.Path.{_∙_}
 use Rattle.findings.proofs.SinkLaws.{kept, emit-then}
 use Rattle.definition.specs.CheckTimeOnly.{checkTimeOnly}
 use Rattle.check2_time_only.proofs.check_time_only.Statement.{statement}

@@ -1,7 +1,6 @@
 use borrow.Author.Needs.{needs}
 use Rattle.check2_time_only.proofs.Told.{free-told, held-told}
 use Rattle.sheet.proofs.Naming.{told}
-use native.Mathlib.Omega.{arith}
 use Rattle.check2_time_only.proofs.check_unplaced.Statement.{statement}
 use Rattle.check2_time_only.proofs.check_unplaced.Tie as tie
 

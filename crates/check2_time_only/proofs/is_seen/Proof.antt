@@ -1,16 +1,12 @@
 use borrow.Author.Needs.{needs}
 use Rattle.check2_time_only.proofs.Spans.{up-to, spanned, spanned-blind, spanned-test, seen-hit, seen-none}
 use Prim.Native.Nat.{_-_}
-use mathlib.Core.Path.{_≡_, refl, sym, _∙_}
+use mathlib.Core.Path.{_≡_}
 use mathlib.Core.Bool.{false}
-use native.Mathlib.Omega.{arith}
 use Rattle.loops.specs.Search.{anyBelow}
 use Rattle.loops.specs.inner.Chain.{Stands}
-use Rattle.loops.proofs.SearchLaws.{any-hit}
-use Rattle.loops.proofs.PlaceLaws.{any-less}
 use Rattle.loops.proofs.Walks.{any-first, any-next}
 use Rattle.rows.specs.Cells.{rowCount}
-use Rattle.sheet.proofs.Lookups.{placed}
 use Rattle.owners.specs.inner.Owners.{ownedBy}
 use Rattle.check2_time_only.proofs.is_seen.Statement.{statement}
 use Rattle.check2_time_only.proofs.is_seen.Tie as tie

@@ -1,7 +1,5 @@
 use borrow.Author.Needs.{needs}
 use Rattle.check2_time_only.proofs.Told.{end-fits, short-resumed, short-plain}
-use Rattle.model.proofs.Accepting.{accepted, at-most}
-use native.Mathlib.Omega.{arith}
 use Rattle.check2_time_only.proofs.is_short.Statement.{statement}
 use Rattle.check2_time_only.proofs.is_short.Tie as tie
 

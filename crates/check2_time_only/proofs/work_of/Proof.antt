@@ -1,8 +1,5 @@
 use borrow.Author.Needs.{needs}
 use Rattle.check2_time_only.proofs.Told.{part-fits, work-fits, work-most}
-use mathlib.Core.Path.{ap₂}
-use Prim.Native.Nat.{_+_}
-use native.Mathlib.Omega.{arith}
 use Rattle.check2_time_only.proofs.work_of.Statement.{statement}
 use Rattle.check2_time_only.proofs.work_of.Tie as tie
 

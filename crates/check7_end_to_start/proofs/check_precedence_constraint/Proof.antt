@@ -1,5 +1,4 @@
-use borrow.Author.Needs.{needs, sfits-of}
-use mir.Facts.{toZ-ofZ}
+use borrow.Author.Needs.{needs}
 use Rattle.findings.proofs.SinkLaws.{kept}
 use Rattle.check7_end_to_start.proofs.Told.{constraint-told}
 use Rattle.check7_end_to_start.proofs.Bounds.{delay-most}

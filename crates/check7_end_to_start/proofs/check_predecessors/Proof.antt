@@ -1,7 +1,6 @@
 use borrow.Author.Needs.{needs}
 use Prim.Native.Nat.{_-_}
-use mathlib.Core.Path.{_≡_, ap, _∙_}
-use native.Mathlib.Omega.{arith}
+use mathlib.Core.Path.{_≡_}
 use Rattle.loops.specs.inner.Chain.{Stands}
 use Rattle.loops.specs.Range.{collect}
 use Rattle.findings.specs.inner.Sink.{sink, emit}
@@ -9,7 +8,7 @@ use Rattle.findings.proofs.SinkLaws.{kept}
 use Rattle.findings.proofs.Reports.{emit-first, emit-end}
 use Rattle.rows.specs.Cells.{rowCount, num}
 use Rattle.owners.specs.inner.Owners.{ownedBy}
-use Rattle.check7_end_to_start.proofs.Told.{predecessorAt, predecessor-silent, predecessor-next, predecessors-told}
+use Rattle.check7_end_to_start.proofs.Told.{predecessorAt, predecessor-silent, predecessor-told, predecessor-next, predecessors-told}
 use Rattle.check7_end_to_start.proofs.check_predecessors.Statement.{statement}
 use Rattle.check7_end_to_start.proofs.check_predecessors.Tie as tie
 use Rattle.model.proofs.Accepting.{activity-at}
@@ -45,7 +44,7 @@ loop-less : tie.Need-loop-less Inv-loop μ-loop
 loop-less c = search needs
 
 loop-again : tie.Need-loop-again Inv-loop μ-loop
-loop-again c = (search needs, predecessor-next _ _ _ _ (c .next-owned .ensures) (c .before .before .end-to-start .ensures) (search needs) (search needs) (search needs) (search needs) (search needs) (search activity-at))
+loop-again c = (search needs, predecessor-next _ _ _ _ (c .next-owned .ensures) (search needs) (search needs) (search activity-at) (search predecessor-told))
 
 same-length : tie.Need-same-length Inv-loop μ-loop
 same-length c = search (needs, kept)

@@ -1,6 +1,3 @@
-use mir.Syntax.{w64}
-use mir.Val.{SFits}
-use mir.Facts.{toZ-ofZ}
 use Rattle.findings.proofs.SinkLaws.{kept}
 use Rattle.check7_end_to_start.proofs.Told.{early-told}
 use borrow.Author.Needs.{needs}

@@ -1,6 +1,3 @@
-use mir.Syntax.{w64}
-use mir.Val.{SFits}
-use mir.Facts.{toZ-ofZ}
 use Rattle.check7_end_to_start.proofs.Told.{no-first, no-second, both-run}
 use Rattle.check7_end_to_start.proofs.Bounds.{start-most, end-most}
 use borrow.Author.Needs.{needs}

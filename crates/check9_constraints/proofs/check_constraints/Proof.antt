@@ -7,7 +7,6 @@ use Rattle.findings.proofs.SinkLaws.{kept, loop-start, loop-turn, loop-end}
 use Rattle.findings.specs.inner.Sink.{sink, emit}
 use Rattle.loops.specs.Range.{collect}
 use lib.ListN.{length}
-use native.Mathlib.Omega.{arith}
 use Prim.Native.Nat.{_-_, _≤_}
 use mathlib.Core.Path.{_≡_}
 use borrow.Author.Needs.{needs}
