@@ -22,13 +22,13 @@ span-starts-before-requires : tie.Need-span-starts-before-requires
 span-starts-before-requires c κs = search needs
 
 returns : tie.Need-returns
-returns c = search (needs, none-booked)
+returns c = search none-booked fits 20000
 
 any-unreached-requires : tie.Need-any-unreached-requires
 any-unreached-requires c κs = search needs
 
 returns-2 : tie.Need-returns-2
-returns-2 c = search (needs, some-booked)
+returns-2 c = search some-booked fits 20000
 
 pub piece-is-early-spec : {M : Type 1} → statement M
 piece-is-early-spec =

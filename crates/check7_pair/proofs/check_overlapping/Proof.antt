@@ -29,7 +29,7 @@ same-length : tie.Need-same-length
 same-length c = search needs
 
 returns : tie.Need-returns
-returns c = search (needs, both-told)
+returns c = search both-told fits 20000
 
 pub check-overlapping-spec : {M : Type 1} → statement M
 check-overlapping-spec =
