@@ -9,9 +9,10 @@ use lib.IntN.{ℤ}
 use Rattle.loops.specs.Lists.{anyOf, countOf}
 use Rattle.loops.specs.Range.{collect}
 use Rattle.loops.specs.Search.{countBelow}
-use Rattle.loops.specs.inner.Chain.{Blind}
+use Rattle.loops.specs.inner.Chain.{First, Blind}
 use Rattle.loops.proofs.ListLaws.{count-append}
 use Rattle.loops.proofs.SearchLaws.{counted-le}
+use Rattle.loops.proofs.PlaceLaws.{count-next}
 use Rattle.rows.specs.Cells.{rowCount, num, is}
 use Rattle.sheet.specs.inner.Accepted.{Accepted}
 use Rattle.owners.specs.inner.Owners.{ownerKind, ownedBy}
@@ -24,6 +25,7 @@ use Rattle.definition.specs.Pieces.{indexOf, sameIndex, ofPiece, isHeld}
 use Rattle.definition.specs.CheckAssignments.{misplaced, uses}
 use Rattle.pieces.specs.inner.Bookings.{inPiece}
 use Rattle.pieces.specs.inner.Held.{heldAt}
+use Rattle.pieces.proofs.Chains.{piece-kind}
 use Rattle.pieces.proofs.Companions.{of-piece}
 use Rattle.check1_assignments.specs.inner.Bookings.{Booked, takesUnit}
 
@@ -50,20 +52,23 @@ module _ (rows : List ℤ) (a k : ℕ) where
       go true h = rw (assignment-row rows j h) (one-counted (taking (assignmentOf rows j)))
       go false h = rw (assignment-none rows j h)
 
-  pub uses-counted : uses (sheet rows) (activityOf rows a) (assignmentOf rows k) (assignmentsBelow (sheet rows) k) ≡ countBelow (takesUnit rows a k) k
+  uses-counted : uses (sheet rows) (activityOf rows a) (assignmentOf rows k) (assignmentsBelow (sheet rows) k) ≡ countBelow (takesUnit rows a k) k
   unfolding uses assignmentsBelow taking
   uses-counted = count-places taking (assignmentAt (sheet rows)) (takesUnit rows a k) taking-at k
 
-  pub uses-end : {j x : ℕ} → j ≤ k → k ≤ j → k ≤ 800 → x ≡ countBelow (takesUnit rows a k) j
-      → (x ≡ uses (sheet rows) (activityOf rows a) (assignmentOf rows k) (assignmentsBelow (sheet rows) k)) × (x ≤ 800)
-  uses-end {j} {x} h l m e =
-      let z : j ≡ k = omega arith in
-      let c = counted-le (takesUnit rows a k) j e in
-      (e ∙ ap (countBelow (takesUnit rows a k)) z ∙ sym uses-counted, omega arith)
+  module _ {j x : ℕ} (e : x ≡ countBelow (takesUnit rows a k) j) where
+    pub uses-told : j ≤ k → k ≤ j → x ≡ uses (sheet rows) (activityOf rows a) (assignmentOf rows k) (assignmentsBelow (sheet rows) k)
+    uses-told h l = let z : j ≡ k = omega arith in e ∙ ap (countBelow (takesUnit rows a k)) z ∙ sym uses-counted
+
+    pub uses-most : j ≤ k → Booked rows a k → rowCount rows ≤ 800 → x ≤ 800
+    uses-most h b s = let c = counted-le (takesUnit rows a k) j e in omega (arith, b .within)
+
+    pub uses-fit : j ≤ k → Booked rows a k → rowCount rows ≤ 800 → x < 18446744073709551615
+    uses-fit h b s = let c = uses-most h b s in omega arith
 
   module _ (acc : Accepted rows) (bk : Booked rows a k) where
     -- what the code asks of row j
-    pub takes-at : (j : ℕ) → j < rowCount rows
+    takes-at : (j : ℕ) → j < rowCount rows
         → takesUnit rows a k j ≡ (inPiece rows k j && (not (misplaced (sheet rows) (activityOf rows a) (assignmentOf rows j)) && not (heldAt rows j)))
     unfolding takesUnit heldAt anyOf
     takes-at j l = go (is rows j 0 23) refl
@@ -109,3 +114,10 @@ module _ (rows : List ℤ) (a k : ℕ) where
           (off (eqb (num rows j 1) (num rows k 1)) (sameIndex (indexOf (assignmentOf rows j .part)) (indexOf (assignmentOf rows k .part)))
           (not (misplaced (sheet rows) (activityOf rows a) (assignmentOf rows j)) && not (isHeld (sheet rows) (assignmentOf rows j))) (other j z))
       go j e false h = rw (assignment-none rows j h)
+
+  pub uses-next : {n i j x y : ℕ} {r : Bool} → First (ownedBy rows a 23) (suc i) n j → y ≡ x + cond r 1 0 → r ≡ takesUnit rows a k i → x ≡ countBelow (takesUnit rows a k) i → Booked rows a k
+      → y ≡ countBelow (takesUnit rows a k) j
+  uses-next {x = x} f e g h b = count-next _ f (takes-blind b) h (e ∙ ap (λ r. x + cond r 1 0) g)
+
+pub piece-booking : (rows : List ℤ) (k j : ℕ) {r : Bool} → r ≡ inPiece rows k j → r ≡ true → is rows j 0 23 ≡ true
+piece-booking rows k j e h = piece-kind rows k j (sym e ∙ h)

@@ -28,7 +28,7 @@ unfolding first anyBelow
 first-some f zero = refl
 first-some f (suc n) = some-either (first f n) (f n) ∙ ap (λ b. b || isSome (f n)) (first-some f n)
 
-module _ (rows : List ℤ) (a : ℕ) (q : placeOf rows 2 (num rows a 1) ≡ some a) where
+module _ (rows : List ℤ) (a : ℕ) where
   abbrev splitAt : ℕ → List Split
   splitAt k = given (eqb (numAt (sheet rows) k 1) (num rows a 1)) (record { maxParts = intAt (sheet rows) k 2; minPart = numAt (sheet rows) k 3; overhead = numAt (sheet rows) k 4 })
 
@@ -36,8 +36,8 @@ module _ (rows : List ℤ) (a : ℕ) (q : placeOf rows 2 (num rows a 1) ≡ some
   given-some true x = refl
   given-some false x = refl
 
-  split-here : (k : ℕ) → isSome (head (rowAt (sheet rows) 4 splitAt k)) ≡ ownedBy rows a 4 k
-  split-here k = go (is rows k 0 4) refl ∙ sym (of-activity rows 4 a (num rows a 1) (unfold ownerKind in refl) q k)
+  split-here : placeOf rows 2 (num rows a 1) ≡ some a → (k : ℕ) → isSome (head (rowAt (sheet rows) 4 splitAt k)) ≡ ownedBy rows a 4 k
+  split-here q k = go (is rows k 0 4) refl ∙ sym (of-activity rows 4 a (num rows a 1) (unfold ownerKind in refl) q k)
     where
       go : (b : Bool) → is rows k 0 4 ≡ b → isSome (head (rowAt (sheet rows) 4 splitAt k)) ≡ (is rows k 0 4 && is rows k 1 (num rows a 1))
       go true h =
@@ -46,9 +46,11 @@ module _ (rows : List ℤ) (a : ℕ) (q : placeOf rows 2 (num rows a 1) ≡ some
       go false h = rw (row-none rows k 4 splitAt h, h)
 
   -- an activity is split if a row of kind 4 belongs to it
-  pub split-is : isSome (split (sheet rows) (num rows a 1)) ≡ anyBelow (ownedBy rows a 4) (rowCount rows)
+  pub split-told : {r : Bool} → r ≡ anyBelow (ownedBy rows a 4) (rowCount rows) → placeOf rows 2 (num rows a 1) ≡ some a → r ≡ isSome (split (sheet rows) (num rows a 1))
   unfolding split
-  split-is =
-      ap isSome (head-collect (rowAt (sheet rows) 4 splitAt) (rowCount rows))
+  split-told e q =
+      e
+      ∙ sym
+      (ap isSome (head-collect (rowAt (sheet rows) 4 splitAt) (rowCount rows))
       ∙ first-some (λ k. head (rowAt (sheet rows) 4 splitAt k)) (rowCount rows)
-      ∙ any-same _ _ (rowCount rows) (λ k l. split-here k)
+      ∙ any-same _ _ (rowCount rows) (λ k l. split-here q k))

@@ -1,5 +1,5 @@
 -- The findings of a booking, put together from what the code asks. Assumes nothing.
-use Prim.Native.Nat.{ℕ, suc, _+_}
+use Prim.Native.Nat.{ℕ, suc, _+_, _<_}
 use mathlib.Core.Path.{_≡_, refl, ap, ap₂, sym, _∙_}
 use mathlib.Core.Bool.{Bool, true, false, cond, or-false}
 use mathlib.Core.List.{List, [], _∷_, _++_, append-nil}
@@ -10,6 +10,8 @@ use lib.Dec.{ltb}
 use lib.IntN.{ℤ, pos, negsuc, _-ℤ_}
 use lib.ListN.{getD}
 use lib.Signed.{ltZ}
+use mir.Syntax.{w64}
+use mir.Val.{Fits}
 use borrow.Author.Tests.{le-ltb}
 use Rattle.loops.specs.Lists.{given, each, option, isSome, anyOf}
 use Rattle.loops.specs.Numbers.{toNat}
@@ -19,6 +21,10 @@ use Rattle.loops.proofs.NumberLaws.{shorter}
 use Rattle.rows.specs.Cells.{rowCount, cell, num, is}
 use Rattle.rows.specs.Class.{t?-c}
 use Rattle.sheet.specs.Places.{ofKind, placeOf}
+use Rattle.sheet.specs.declared.Found.{Found}
+use Rattle.sheet.specs.declared.Found.the-variants.{At, Nothing}
+use Rattle.sheet.specs.inner.Found.{foundOf}
+use Rattle.sheet.specs.inner.Accepted.{Accepted}
 use Rattle.calendar.specs.Clock.{clock}
 use Rattle.findings.specs.declared.Violation.{Violation}
 use Rattle.findings.specs.inner.Sink.{Sink, emit}
@@ -29,6 +35,7 @@ use Rattle.model.specs.Task.{findTask}
 use Rattle.model.specs.Activity.{findActivity, neededMs}
 use Rattle.model.specs.Schedule.{Assignment, assignmentsBelow, unknownActivity, durationTooShort, earlyStart}
 use Rattle.model.proofs.RowLaws.{assignment-row, assignment-none}
+use Rattle.model.proofs.Accepting.{at-most}
 use Rattle.model.proofs.Finds.{find-task, find-activity}
 use Rattle.definition.specs.Pieces.{isHeld, runsOn}
 use Rattle.definition.specs.CheckAssignments.{misplaced, units, uses, earlyAssignment, checkKnown, checkAssignment, checkAssignmentAt, checkAssignments}
@@ -161,16 +168,16 @@ module _ (rows : List ℤ) where
         (λ x. option x (given (isSome (findTask (sheet rows) (num rows k 2))) (unknownActivity 1 (num rows k 1))) (checkKnown clock (sheet rows) (assignmentsBelow (sheet rows) k) (assignmentOf rows k)))
         (find-activity rows (num rows k 1) ∙ ap (λ x. option x none (λ j. some (activityOf rows j))) q)
 
-    pub known-told : (s : Sink) {s′ : Sink} (a : ℕ) → Booked rows a k → s′ ≡ emit s (known a k) → s′ ≡ emit s (checkAssignmentAt clock (sheet rows) k)
-    known-told s a b q = q ∙ ap (emit s) (sym (known-is a (b .place)))
+  pub known-told : (k : ℕ) (s : Sink) {s′ : Sink} (a : ℕ) → s′ ≡ emit s (known a k) → Booked rows a k → s′ ≡ emit s (checkAssignmentAt clock (sheet rows) k)
+  known-told k s a q b = q ∙ ap (emit s) (sym (known-is k (b .kind) a (b .place)))
 
-    pub unknown-told : {b : Bool} {id task : ℕ} (s : Sink) {s′ : Sink} → placeOf rows 2 (num rows k 1) ≡ none → task ≡ num rows k 2
-        → b ≡ isSome (findTask (sheet rows) task) → id ≡ num rows k 1
-        → s′ ≡ emit s (given b (unknownActivity 1 id)) → s′ ≡ emit s (checkAssignmentAt clock (sheet rows) k)
-    unknown-told s e t f i q =
-        q
-        ∙ ap (emit s)
-        (ap₂ (λ x y. given x (unknownActivity 1 y)) (f ∙ ap (λ x. isSome (findTask (sheet rows) x)) t) i ∙ sym (unknown-is e))
+  pub unknown-told : (k : ℕ) (s : Sink) {s′ : Sink} {b : Bool} {id task : ℕ} {g : Found} → s′ ≡ emit s (given b (unknownActivity 1 id)) → b ≡ isSome (findTask (sheet rows) task)
+      → task ≡ num rows k 2 → id ≡ num rows k 1 → g ≡ Nothing → foundOf g ≡ placeOf rows 2 (num rows k 1) → is rows k 0 23 ≡ true
+      → s′ ≡ emit s (checkAssignmentAt clock (sheet rows) k)
+  unknown-told k s q f t i z e h =
+      q
+      ∙ ap (emit s)
+      (ap₂ (λ x y. given x (unknownActivity 1 y)) (f ∙ ap (λ x. isSome (findTask (sheet rows) x)) t) i ∙ sym (unknown-is k h (sym e ∙ ap foundOf z)))
 
   pub assignment-silent : Silent (ofKind rows 23) (checkAssignmentAt clock (sheet rows))
   unfolding checkAssignmentAt each ofKind
@@ -186,5 +193,31 @@ module _ (rows : List ℤ) where
   some-place none = refl
   some-place (some k) = refl
 
-  pub task-known : (id : ℕ) {x : Option ℕ} → x ≡ placeOf rows 1 id → isSome x ≡ isSome (findTask (sheet rows) id)
+  task-known : (id : ℕ) {x : Option ℕ} → x ≡ placeOf rows 1 id → isSome x ≡ isSome (findTask (sheet rows) id)
   task-known id e = ap isSome e ∙ sym (ap isSome (find-task rows id) ∙ some-place (placeOf rows 1 id))
+
+  module _ (id : ℕ) {f : Found} where
+    pub task-found : {k : ℕ} → f ≡ At k → foundOf f ≡ placeOf rows 1 id → true ≡ isSome (findTask (sheet rows) id)
+    task-found z e = task-known id (rw z at e)
+
+    pub task-lacking : f ≡ Nothing → foundOf f ≡ placeOf rows 1 id → false ≡ isSome (findTask (sheet rows) id)
+    task-lacking z e = task-known id (rw z at e)
+
+-- ---- numbers compared
+
+pub less-told : {x y a b : ℕ} → x ≡ a → y ≡ b → ltb x y ≡ ltb a b
+less-told e f = ap₂ ltb e f
+
+module _ (rows : List ℤ) (need : List ℕ) (k setup : ℕ) where
+  pub need-fits : Needs rows need → k < rowCount rows → setup < 9223372036854775808 → Fits w64 (setup + getD need k 0)
+  need-fits nd l m = let d : getD need k 0 < 9007199254740992 = nd .small k l in record { fits = omega arith }
+
+  module _ {x : ℕ} (e : x ≡ num rows k 4) where
+    pub work-fits : Needs rows need → k < rowCount rows → setup < 9223372036854775808 → Accepted rows → is rows k 0 23 ≡ true → Fits w64 (x + (setup + getD need k 0))
+    work-fits nd l m acc h =
+        let d : getD need k 0 < 9007199254740992 = nd .small k l in
+        let s = at-most rows acc k 23 4 h in
+        record { fits = omega arith }
+
+    pub short-told : {y b : ℕ} → y ≡ b → ltb y (x + (setup + getD need k 0)) ≡ ltb b (num rows k 4 + (setup + getD need k 0))
+    short-told f = ap₂ (λ u v. ltb u (v + (setup + getD need k 0))) f e

@@ -1,5 +1,5 @@
 -- Where a booking belongs: its activity's row, whether it is misplaced, and that it stands in its activity's chain. Assumes nothing.
-use Prim.Native.Nat.{ℕ, _<_, _≤_}
+use Prim.Native.Nat.{ℕ, suc, _<_, _≤_}
 use mathlib.Core.Path.{_≡_, refl, ap, ap₂, sym, _∙_}
 use mathlib.Core.Bool.{Bool, true, false, not, _&&_, _||_, true≢false}
 use mathlib.Core.List.{List}
@@ -15,7 +15,10 @@ use Rattle.rows.specs.Cells.{rowCount, cell, num, is}
 use Rattle.rows.specs.Class.{n?-c}
 use Rattle.rows.specs.Ranges.{isNone, between, inRange, inClass}
 use Rattle.sheet.specs.inner.Accepted.{Accepted}
-use Rattle.sheet.specs.Places.{ofKind, placeOf}
+use Rattle.sheet.specs.Places.{placeOf}
+use Rattle.sheet.specs.declared.Found.{Found}
+use Rattle.sheet.specs.declared.Found.the-variants.{At}
+use Rattle.sheet.specs.inner.Found.{foundOf}
 use Rattle.sheet.specs.inner.Index.{orEnd}
 use Rattle.sheet.proofs.Lookups.{Named, placed, num-is}
 use Rattle.owners.specs.inner.Owners.{ownerKind, ownPlace, ownedBy}
@@ -73,15 +76,15 @@ module _ (rows : List ℤ) (acc : Accepted rows) (a k : ℕ) (l : k < rowCount r
   unfolding is
   same-task b e = e
 
-  pub in-part : {p : Bool} → is rows k 2 (num rows a 2) ≡ true → 0 < keyAt rows k → p ≡ isSome (split (sheet rows) (num rows a 1))
+  pub in-part : {p : Bool} {x : ℕ} → is rows k 2 (num rows a 2) ≡ true → 0 < x → x ≡ keyAt rows k → p ≡ isSome (split (sheet rows) (num rows a 1))
       → not p ≡ misplaced (sheet rows) (activityOf rows a) (assignmentOf rows k)
-  in-part {p} e m q =
+  in-part {p} e m i q =
       ap not q
-      ∙ sym (ap₂ (λ x y. not x || (y && not (isSome (split (sheet rows) (num rows a 1))))) (same-task true e) (part-some ∙ lt-ltb 0 (keyAt rows k) m))
+      ∙ sym (ap₂ (λ x y. not x || (y && not (isSome (split (sheet rows) (num rows a 1))))) (same-task true e) (part-some ∙ lt-ltb 0 (keyAt rows k) (omega arith)))
 
-  pub whole : is rows k 2 (num rows a 2) ≡ true → keyAt rows k ≤ 0 → false ≡ misplaced (sheet rows) (activityOf rows a) (assignmentOf rows k)
-  whole e m =
-      sym (ap₂ (λ x y. not x || (y && not (isSome (split (sheet rows) (num rows a 1))))) (same-task true e) (part-some ∙ le-ltb 0 (keyAt rows k) m))
+  pub whole : {x : ℕ} → is rows k 2 (num rows a 2) ≡ true → x ≤ 0 → x ≡ keyAt rows k → false ≡ misplaced (sheet rows) (activityOf rows a) (assignmentOf rows k)
+  whole e m i =
+      sym (ap₂ (λ x y. not x || (y && not (isSome (split (sheet rows) (num rows a 1))))) (same-task true e) (part-some ∙ le-ltb 0 (keyAt rows k) (omega arith)))
 
   pub other-task : is rows k 2 (num rows a 2) ≡ false → true ≡ misplaced (sheet rows) (activityOf rows a) (assignmentOf rows k)
   other-task e =
@@ -90,21 +93,27 @@ module _ (rows : List ℤ) (acc : Accepted rows) (a k : ℕ) (l : k < rowCount r
 -- ---- the activity's row
 
 module _ (rows : List ℤ) where
-  pub of-kind : (x k : ℕ) → ofKind rows x k ≡ true → is rows k 0 x ≡ true
-  unfolding ofKind
-  of-kind x k e = e
-
   pub task-test : (a k : ℕ) {v : ℕ} {r b : Bool} → v ≡ num rows a 2 → r ≡ is rows k 2 v → r ≡ b → is rows k 2 (num rows a 2) ≡ b
   task-test a k e f g = sym (f ∙ ap (is rows k 2) e) ∙ g
+
+  -- a booking, by the lookup of its activity
+  pub booked : (a k : ℕ) {f : Found} → f ≡ At a → foundOf f ≡ placeOf rows 2 (num rows k 1) → k < rowCount rows → is rows k 0 23 ≡ true → Booked rows a k
+  booked a k z e l h = record { within = l; kind = h; place = sym e ∙ ap foundOf z }
+
+  pub place-most : (x id k : ℕ) → placeOf rows x id ≡ some k → k ≤ rowCount rows
+  place-most x id k e = let w = placed rows x id k e in omega (arith, w .within)
 
   pub own-row : (a k : ℕ) → Booked rows a k → ownPlace rows k ≡ a
   own-row a k b = own-activity rows 23 k (unfold ownerKind in refl) (b .kind) ∙ rw (b .place) (unfold orEnd in refl)
 
-  pub activity-named : (a k : ℕ) → Booked rows a k → Named rows 2 (num rows k 1) a
+  activity-named : (a k : ℕ) → Booked rows a k → Named rows 2 (num rows k 1) a
   activity-named a k b = placed rows 2 (num rows k 1) a (b .place)
 
   pub activity-within : (a k : ℕ) → Booked rows a k → a < rowCount rows
   activity-within a k b = activity-named a k b .within
+
+  pub activity-most : (a k : ℕ) → Booked rows a k → a ≤ rowCount rows
+  activity-most a k b = omega (arith, activity-within a k b)
 
   pub activity-kind : (a k : ℕ) → Booked rows a k → is rows a 0 2 ≡ true
   activity-kind a k b = num-is rows a 0 2 (activity-named a k b .kind)
@@ -124,3 +133,6 @@ first-upto p i n j k f l e = go (decLt k j)
     go : Dec (k < j) → j ≤ k
     go (yes m) = absurd (true≢false (sym e ∙ f .none k l m))
     go (no m) = omega arith
+
+pub next-upto : (p : ℕ → Bool) (i n j k : ℕ) → First p (suc i) n j → i < k → p k ≡ true → j ≤ k
+next-upto p i n j k f l e = first-upto p (suc i) n j k f (omega arith) e

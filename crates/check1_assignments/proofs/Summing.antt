@@ -1,5 +1,5 @@
 -- Signed quantities summed as natural numbers, and what is more than their sum. Assumes nothing.
-use Prim.Native.Nat.{ℕ, zero, suc, _+_, _-_, _<_, _≤_}
+use Prim.Native.Nat.{ℕ, zero, suc, _+_, _-_, _*_, _^_, _<_, _≤_}
 use mathlib.Core.Path.{_≡_, refl, ap, sym, _∙_}
 use mathlib.Core.Bool.{Bool, true, false, cond, _&&_, and-true, and-false}
 use mathlib.Core.List.{List, map, foldl}
@@ -8,12 +8,16 @@ use native.Mathlib.Omega.{arith}
 use native.Mathlib.Decide.{decLt}
 use lib.Dec.{eqb, ltb}
 use lib.IntN.{ℤ, pos, negsuc, subℕ, _+ℤ_, _-ℤ_}
-use lib.Signed.{ltZ}
+use lib.Signed.{ltZ, mag}
+use mir.Syntax.{w64}
+use mir.Val.{Fits, toZ, ofZ, hbits}
+use mir.Facts.{toZ-ofZ}
+use borrow.Author.Needs.{sfits-of}
 use borrow.Author.Tests.{lt-ltb, le-ltb}
 use Rattle.loops.specs.Lists.{given}
 use Rattle.loops.specs.Numbers.{maxZ}
 use Rattle.loops.specs.Range.{fold}
-use Rattle.loops.specs.inner.Chain.{onlyAt}
+use Rattle.loops.specs.inner.Chain.{First, Stands, onlyAt}
 use Rattle.loops.proofs.ListLaws.{map-collect, foldl-collect}
 use Rattle.loops.proofs.RangeLaws.{fold-ext}
 use Rattle.rows.specs.Cells.{rowCount, cell, num, is}
@@ -30,6 +34,7 @@ use Rattle.model.proofs.Accepting.{in-class}
 use Rattle.definition.specs.CheckAssignments.{units}
 use Rattle.rows.proofs.Signed.{number-low}
 use Rattle.pieces.specs.inner.Bookings.{indexKey}
+use Rattle.pieces.proofs.Chains.{owned-kind}
 use Rattle.pieces.proofs.Indices.{key-neg, key-pos, key-most}
 use Rattle.check1_assignments.specs.declared.Units.{Units}
 use Rattle.check1_assignments.specs.inner.Bookings.{quantities}
@@ -73,40 +78,58 @@ pub raised-by : (x : ℤ) (r o : ℕ) → inClass n-c x ≡ true → pos (r + in
 raised-by x r o e = sub-is (r + indexKey x) (o + 1000001) ∙ raise x r o e ∙ ap (λ z. z +ℤ x) (sym (sub-is r o))
 
 module _ (rows : List ℤ) (acc : Accepted rows) where
-  pub quantity-class : (q : ℕ) → is rows q 0 5 ≡ true → inClass n-c (cell rows q 3) ≡ true
+  quantity-class : (q : ℕ) → is rows q 0 5 ≡ true → inClass n-c (cell rows q 3) ≡ true
   quantity-class q h = in-class rows acc q 5 3 h
 
-  pub quantity-key : (q : ℕ) → is rows q 0 5 ≡ true → indexKey (cell rows q 3) ≤ 2000001
+  quantity-key : (q : ℕ) → is rows q 0 5 ≡ true → indexKey (cell rows q 3) ≤ 2000001
   quantity-key q h = key-most (cell rows q 3) (quantity-class q h)
+
+-- ---- one quantity more
+
+key-read : {x : ℕ} {y z : ℤ} → x ≡ indexKey (toZ w64 (ofZ w64 z)) → mag z < 2 ^ hbits w64 → z ≡ y → x ≡ indexKey y
+key-read h m e = rw (toZ-ofZ (sfits-of m), e) at h
+
+module _ (rows : List ℤ) (q : ℕ) {x : ℕ} {z : ℤ} (e : x ≡ indexKey (toZ w64 (ofZ w64 z))) (m : mag z < 2 ^ hbits w64) (f : z ≡ cell rows q 3) where
+  pub raised-fits : (r : ℕ) → indexKey (cell rows q 3) ≤ 2000001 → r ≤ 2000001 * q → q < 800 → Fits w64 (r + x)
+  raised-fits r h l u = let k = key-read e m f in record { fits = omega arith }
+
+  pub raised-is : (r o : ℕ) → _≡_ {A = Units} (record { raised = r + x; offset = o }) (record { raised = r + indexKey (cell rows q 3); offset = o })
+  raised-is r o = ap (λ y. record { raised = r + y; offset = o }) (key-read e m f)
 
 -- ---- the sum along the activity's chain
 
 unfoldable pub addAt : List ℤ → ℤ → ℕ → ℤ
 addAt rows c k = c +ℤ cell rows k 3
 
-module _ (rows : List ℤ) (q : ℕ) (u : Units) {v : Units} (e : v ≡ record { raised = u .raised + indexKey (cell rows q 3); offset = u .offset + 1000001 }) where
-  pub raised-to : v .raised ≡ u .raised + indexKey (cell rows q 3)
-  raised-to = ap (λ x. x .raised) e
+-- the loop stands at a requirement
+module _ (rows : List ℤ) (a : ℕ) {n N q : ℕ} (s : Stands (ownedBy rows a 5) n q) (l : q < N) (z : N ≡ n) where
+  quantity-kind : is rows q 0 5 ≡ true
+  quantity-kind = owned-kind rows a 5 q (s .here (omega arith))
 
-  pub offset-to : v .offset ≡ u .offset + 1000001
-  offset-to = ap (λ x. x .offset) e
+  pub stands-key : Accepted rows → indexKey (cell rows q 3) ≤ 2000001
+  stands-key acc = quantity-key rows acc q quantity-kind
 
-pub sum-step : (rows : List ℤ) → Accepted rows → (q : ℕ) → is rows q 0 5 ≡ true → (u : Units) {v : Units}
-    → v ≡ record { raised = u .raised + indexKey (cell rows q 3); offset = u .offset + 1000001 }
-    → pos (v .raised) -ℤ pos (v .offset) ≡ addAt rows (pos (u .raised) -ℤ pos (u .offset)) q
-unfolding addAt
-sum-step rows acc q h u e =
-    ap (λ x. pos (x .raised) -ℤ pos (x .offset)) e ∙ raised-by (cell rows q 3) (u .raised) (u .offset) (quantity-class rows acc q h)
+  module _ (u : Units) {v : Units} (e : v ≡ record { raised = u .raised + indexKey (cell rows q 3); offset = u .offset + 1000001 }) (acc : Accepted rows) where
+    pub sum-step : pos (v .raised) -ℤ pos (v .offset) ≡ addAt rows (pos (u .raised) -ℤ pos (u .offset)) q
+    unfolding addAt
+    sum-step = ap (λ x. pos (x .raised) -ℤ pos (x .offset)) e ∙ raised-by (cell rows q 3) (u .raised) (u .offset) (quantity-class rows acc q quantity-kind)
 
-module _ (rows : List ℤ) (a : ℕ) (p : placeOf rows 2 (num rows a 1) ≡ some a) where
+    module _ {j : ℕ} (f : First (ownedBy rows a 5) (suc q) n j) where
+      pub raised-most : u .raised ≤ 2000001 * q → v .raised ≤ 2000001 * j
+      raised-most m = let b = stands-key acc in let r = ap (λ x. x .raised) e in omega (arith, f .low)
+
+      pub offset-most : u .offset ≤ 1000001 * q → v .offset ≤ 1000001 * j
+      offset-most m = let o = ap (λ x. x .offset) e in omega (arith, f .low)
+
+module _ (rows : List ℤ) (a : ℕ) where
   folded : (b : Bool) (x : ResourceRequirement) (c : ℤ) → foldl _+ℤ_ c (map (λ q. q .quantity) (given b x)) ≡ cond b (c +ℤ x .quantity) c
   folded true x c = refl
   folded false x c = refl
 
-  quantity-at : (c : ℤ) (k : ℕ)
+  quantity-at : placeOf rows 2 (num rows a 1) ≡ some a → (c : ℤ) (k : ℕ)
       → foldl _+ℤ_ c (map (λ q. q .quantity) (requirementAt (sheet rows) (num rows a 1) k)) ≡ onlyAt (ownedBy rows a 5) (addAt rows) c k
   unfolding onlyAt addAt requirementAt is
-  quantity-at c k = go (is rows k 0 5) refl ∙ ap (λ b. cond b (c +ℤ cell rows k 3) c) (sym (of-activity rows 5 a (num rows a 1) (unfold ownerKind in refl) p k))
+  quantity-at p c k = go (is rows k 0 5) refl ∙ ap (λ b. cond b (c +ℤ cell rows k 3) c) (sym (of-activity rows 5 a (num rows a 1) (unfold ownerKind in refl) p k))
     where
       go : (b : Bool) → is rows k 0 5 ≡ b
           → foldl _+ℤ_ c (map (λ q. q .quantity) (requirementAt (sheet rows) (num rows a 1) k))
@@ -114,12 +137,14 @@ module _ (rows : List ℤ) (a : ℕ) (p : placeOf rows 2 (num rows a 1) ≡ some
       go true h = rw (h, kind-is rows k 5 h) (folded (eqb (num rows k 1) (num rows a 1)) _ c)
       go false h = rw h
 
-  pub quantities-are : quantities rows a ≡ fold (onlyAt (ownedBy rows a 5) (addAt rows)) (pos 0) (rowCount rows)
+  pub sum-told : {x : ℤ} → placeOf rows 2 (num rows a 1) ≡ some a → x ≡ fold (onlyAt (ownedBy rows a 5) (addAt rows)) (pos 0) (rowCount rows) → x ≡ quantities rows a
   unfolding quantities requirements
-  quantities-are =
-      ap (foldl _+ℤ_ (pos 0)) (map-collect (λ q. q .quantity) (requirementAt (sheet rows) (num rows a 1)) (rowCount rows))
+  sum-told p e =
+      e
+      ∙ sym
+      (ap (foldl _+ℤ_ (pos 0)) (map-collect (λ q. q .quantity) (requirementAt (sheet rows) (num rows a 1)) (rowCount rows))
       ∙ foldl-collect _+ℤ_ (pos 0) (λ k. map (λ q. q .quantity) (requirementAt (sheet rows) (num rows a 1) k)) (rowCount rows)
-      ∙ fold-ext _ _ (pos 0) (rowCount rows) quantity-at
+      ∙ fold-ext _ _ (pos 0) (rowCount rows) (quantity-at p))
 
 pub units-are : (rows : List ℤ) (a : ℕ) → units (sheet rows) (num rows a 1) ≡ maxZ (quantities rows a) (pos 1)
 unfolding units quantities

@@ -1,6 +1,6 @@
 -- Known spans and the activities that they are of, by rows. Assumes nothing.
 use Prim.Native.Nat.{ℕ, _<_, _≤_}
-use mathlib.Core.Path.{_≡_, refl, ap, sym, _∙_}
+use mathlib.Core.Path.{_≡_, refl, ap, ap₂, sym, _∙_}
 use mathlib.Core.Bool.{Bool, true, false, cond, not, _&&_, _||_, or-false}
 use mathlib.Core.List.{List}
 use mathlib.Core.Logic.{inl}
@@ -15,10 +15,13 @@ use Rattle.loops.specs.Search.{anyBelow}
 use Rattle.loops.specs.inner.Chain.{Stands, Blind}
 use Rattle.loops.proofs.ListLaws.{any-collect}
 use Rattle.loops.proofs.RangeLaws.{collect-ext}
-use Rattle.loops.proofs.PlaceLaws.{any-same}
+use Rattle.loops.proofs.SearchLaws.{any-hit}
+use Rattle.loops.proofs.PlaceLaws.{any-same, any-less}
 use Rattle.loops.proofs.NumberLaws.{eqb-swap}
 use Rattle.rows.specs.Cells.{rowCount, num, is}
+use Rattle.sheet.specs.declared.Found.{Found}
 use Rattle.sheet.specs.declared.Found.the-variants.{At, Nothing}
+use Rattle.sheet.specs.inner.Found.{foundOf}
 use Rattle.sheet.specs.Places.{placeOf}
 use Rattle.sheet.proofs.Lookups.{placed, num-is}
 use Rattle.owners.specs.inner.Owners.{ownerKind, ownedBy}
@@ -65,15 +68,15 @@ module _ (rows : List ℤ) (k : ℕ) (h : is rows k 0 24 ≡ true) where
   no-row : (a : ℕ) → _≡_ {A = Option ℕ} none (some a) → ⊥
   no-row a e = let z : _≡_ {A = ℕ} 0 1 = cc in omega arith
 
-  pub unknown : none ≡ placeOf rows 2 (num rows k 1) → Known rows k Nothing
-  unknown q = record {
-    means = unfold known in rw (find-activity rows (num rows k 1), ← q);
+  pub unknown : {g : Found} → g ≡ Nothing → foundOf g ≡ placeOf rows 2 (num rows k 1) → Known rows k Nothing
+  unknown z q = record {
+    means = unfold known in rw (find-activity rows (num rows k 1), sym q ∙ ap foundOf z);
     place = λ j w. absurd (no-row j w);
     free = λ j w. absurd (no-row j w);
   }
 
-  pub linked-self : {a : ℕ} → some a ≡ placeOf rows 2 (num rows k 1) → placeOf rows 2 (num rows a 1) ≡ some a
-  linked-self {a} q = found-self rows 2 (num rows k 1) a (sym q)
+  pub linked-self : {a : ℕ} {g : Found} → g ≡ At a → foundOf g ≡ placeOf rows 2 (num rows k 1) → placeOf rows 2 (num rows a 1) ≡ some a
+  linked-self {a} z q = found-self rows 2 (num rows k 1) a (sym q ∙ ap foundOf z)
 
   module _ (a : ℕ) (q : placeOf rows 2 (num rows k 1) ≡ some a) where
     known-is : known (sheet rows) (spanOf rows k)
@@ -81,10 +84,10 @@ module _ (rows : List ℤ) (k : ℕ) (h : is rows k 0 24 ≡ true) where
     unfolding known
     known-is = rw (find-activity rows (num rows k 1), q)
 
-  pub known-here : {a t : ℕ} {f s : Bool} → some a ≡ placeOf rows 2 (num rows k 1) → t ≡ num rows k 2
-      → f ≡ isEmpty (requirements (sheet rows) (num rows a 1)) → s ≡ is rows a 2 t → f ≡ true → s ≡ true → Known rows k (At a)
-  known-here {a} {t} e g u v b c =
-      let q = sym e in
+  pub known-here : {a t : ℕ} {f s : Bool} {x : Found} → x ≡ At a → foundOf x ≡ placeOf rows 2 (num rows k 1) → f ≡ isEmpty (requirements (sheet rows) (num rows a 1)) → f ≡ true
+      → t ≡ num rows k 2 → s ≡ is rows a 2 t → s ≡ true → Known rows k (At a)
+  known-here {a} {t} z e u b g v c =
+      let q = sym e ∙ ap foundOf z in
       let w : isEmpty (requirements (sheet rows) (num rows a 1)) ≡ true = sym u ∙ b in
       let y : eqb (num rows a 2) (num rows k 2) ≡ true = unfold is in (rw g at (sym v ∙ c)) in
       record {
@@ -93,24 +96,24 @@ module _ (rows : List ℤ) (k : ℕ) (h : is rows k 0 24 ≡ true) where
         free = λ j i. let x : a ≡ j = cc in rw (← x) w;
       }
 
-  pub known-not : {a t : ℕ} {f s : Bool} → some a ≡ placeOf rows 2 (num rows k 1) → t ≡ num rows k 2
-      → f ≡ isEmpty (requirements (sheet rows) (num rows a 1)) → s ≡ is rows a 2 t → (f && s) ≡ false → Known rows k Nothing
-  known-not {a} {t} {f} {s} e g u v b =
-      let q = sym e in
+  pub known-not : {a t : ℕ} {f s : Bool} {x : Found} → x ≡ At a → foundOf x ≡ placeOf rows 2 (num rows k 1) → f ≡ isEmpty (requirements (sheet rows) (num rows a 1)) → f ≡ true
+      → t ≡ num rows k 2 → s ≡ is rows a 2 t → s ≡ false → Known rows k Nothing
+  known-not {a} {t} {f} {s} z e u b g v c =
+      let q = sym e ∙ ap foundOf z in
       let y : s ≡ eqb (num rows a 2) (num rows k 2) = unfold is in (rw g at v) in
-      let w : (isEmpty (requirements (sheet rows) (num rows a 1)) && eqb (num rows a 2) (num rows k 2)) ≡ false = rw (← u, ← y) b in
+      let w : (isEmpty (requirements (sheet rows) (num rows a 1)) && eqb (num rows a 2) (num rows k 2)) ≡ false = rw (← u, ← y) (ap₂ _&&_ b c) in
       record {
         means = sym (rw (known-is a q, w));
         place = λ j i. absurd (no-row j i);
         free = λ j i. absurd (no-row j i);
       }
 
-  pub known-held : {a : ℕ} {f : Bool} → some a ≡ placeOf rows 2 (num rows k 1)
+  pub known-held : {a : ℕ} {f : Bool} {x : Found} → x ≡ At a → foundOf x ≡ placeOf rows 2 (num rows k 1)
       → f ≡ isEmpty (requirements (sheet rows) (num rows a 1)) → f ≡ false → Known rows k Nothing
-  known-held {a} e u b =
+  known-held {a} z e u b =
       let w : isEmpty (requirements (sheet rows) (num rows a 1)) ≡ false = sym u ∙ b in
       record {
-        means = sym (rw (known-is a (sym e), w));
+        means = sym (rw (known-is a (sym e ∙ ap foundOf z), w));
         place = λ j i. absurd (no-row j i);
         free = λ j i. absurd (no-row j i);
       }
@@ -156,9 +159,19 @@ module _ (rows : List ℤ) (a : ℕ) where
         go true h = rw (h, span-row rows k h) (both (ℕ-discrete (num rows k 1) (num rows a 1)))
         go false h = rw (h, span-none rows k h)
 
-    pub seen-are : (k : ℕ) → anyBelow spanned k ≡ seen (sheet rows) (timeOnlyBelow (sheet rows) k) (num rows a 1)
+    seen-are : (k : ℕ) → anyBelow spanned k ≡ seen (sheet rows) (timeOnlyBelow (sheet rows) k) (num rows a 1)
     unfolding seen timeOnlyBelow
     seen-are k =
         sym
         (any-collect (λ x. eqb (x .activity) (num rows a 1) && isSome (known (sheet rows) x)) (spanAt (sheet rows)) k
         ∙ any-same _ _ k (λ j l. seen-at j))
+
+  -- the two answers of the search for a span above row k
+  module _ (k : ℕ) {i : ℕ} where
+    pub seen-hit : {n t : ℕ} {r : Bool} → i < k → k ≤ n → Stands (ownedBy rows a 24) n i → t ≡ num rows a 2 → r ≡ is rows i 2 t → r ≡ true
+        → placeOf rows 2 (num rows a 1) ≡ some a → isEmpty (requirements (sheet rows) (num rows a 1)) ≡ true → true ≡ seen (sheet rows) (timeOnlyBelow (sheet rows) k) (num rows a 1)
+    seen-hit l m s e g f q w = any-hit spanned i k k l refl (spanned-test l m s e g f) ∙ seen-are q w k
+
+    pub seen-none : anyBelow spanned i ≡ false → k ≤ i
+        → placeOf rows 2 (num rows a 1) ≡ some a → isEmpty (requirements (sheet rows) (num rows a 1)) ≡ true → false ≡ seen (sheet rows) (timeOnlyBelow (sheet rows) k) (num rows a 1)
+    seen-none e l q w = sym (any-less _ _ _ e l) ∙ seen-are q w k

@@ -1,5 +1,5 @@
 -- What is reported of a span, and of an activity without one. Assumes nothing.
-use Prim.Native.Nat.{ℕ, _+_, _<_, _≤_}
+use Prim.Native.Nat.{ℕ, suc, _+_, _<_, _≤_}
 use mathlib.Core.Path.{_≡_, refl, ap, ap₂, sym, _∙_}
 use mathlib.Core.Bool.{Bool, true, false, cond, not, _&&_, and-true}
 use mathlib.Core.List.{List, [], _∷_, append-nil}
@@ -8,9 +8,11 @@ use native.Mathlib.Omega.{arith}
 use lib.Dec.{eqb, ltb}
 use lib.IntN.{ℤ, pos}
 use lib.Signed.{ltZ}
+use mir.Syntax.{w64}
+use mir.Val.{Fits}
 use Rattle.loops.specs.Lists.{given, option, isEmpty, each, allOf}
 use Rattle.loops.specs.Range.{collect}
-use Rattle.loops.specs.inner.Chain.{Stands, Silent}
+use Rattle.loops.specs.inner.Chain.{First, Stands, Silent}
 use Rattle.loops.proofs.BoolLaws.{and-left}
 use Rattle.loops.proofs.ListLaws.{each-collect, each-keep}
 use Rattle.calendar.specs.Clock.{clock}
@@ -29,6 +31,7 @@ use Rattle.owners.specs.inner.Owners.{ownerKind, ownPlace, ownedBy}
 use Rattle.findings.specs.declared.Violation.{Violation}
 use Rattle.findings.specs.inner.Sink.{Sink, emit}
 use Rattle.findings.proofs.SinkLaws.{emit-none, emit-then}
+use Rattle.findings.proofs.Reports.{emit-next}
 use Rattle.resource_timing.specs.Durations.{totalMs}
 use Rattle.model.specs.Sheet.{sheet}
 use Rattle.model.specs.inner.Records.{taskOf, maybeAt, activityOf, spanOf}
@@ -39,7 +42,8 @@ use Rattle.model.specs.Schedule.{timeOnlyBelow, timeOnly, unknownActivity, dura
 use Rattle.model.proofs.RowLaws.{task-row, task-none, activity-row, activity-none, span-row, span-none}
 use Rattle.model.proofs.Accepting.{accepted, at-most, found-again}
 use Rattle.model.proofs.OwnedLaws.{of-task}
-use Rattle.model.proofs.Finds.{find-task}
+use Rattle.model.proofs.Standing.{stands-kind}
+use Rattle.model.proofs.Finds.{find-task, found-self}
 use Rattle.definition.specs.CheckTimeOnly.{known, seen, earlySpan, checkFirst, checkSpan, checkSpanAt, checkUnplaced}
 use Rattle.check2_time_only.specs.inner.Tests.{tooShort, outsideOwn}
 use Rattle.check2_time_only.specs.inner.Known.{Known}
@@ -53,6 +57,22 @@ one-calendar w to = refl
 joint-one : (l : Calendar ℤ) (t : ℤ) → jointWorking clock (l ∷ []) t ≡ isWorkingTime clock l t
 unfolding jointWorking allOf
 joint-one l t = and-true (isWorkingTime clock l t)
+
+-- ---- sums that fit
+
+module _ (rows : List ℤ) (a : ℕ) {s p : ℕ} where
+  pub part-fits : s ≡ num rows a 4 → p ≡ num rows a 5 → refusalOf rows ≡ none → is rows a 0 2 ≡ true → Fits w64 (s + p)
+  part-fits e f acc h = let x = at-most rows (accepted rows acc) a 2 4 h in let y = at-most rows (accepted rows acc) a 2 5 h in record { fits = omega arith }
+
+  pub work-fits : {t : ℕ} → t ≡ num rows a 6 → s ≡ num rows a 4 → p ≡ num rows a 5 → refusalOf rows ≡ none → is rows a 0 2 ≡ true → Fits w64 (s + p + t)
+  work-fits g e f acc h =
+      let x = at-most rows (accepted rows acc) a 2 4 h in
+      let y = at-most rows (accepted rows acc) a 2 5 h in
+      let z = at-most rows (accepted rows acc) a 2 6 h in
+      record { fits = omega arith }
+
+pub end-fits : (rows : List ℤ) (k : ℕ) {s w : ℕ} → s ≡ num rows k 3 → w ≤ 12000000000000 → refusalOf rows ≡ none → is rows k 0 24 ≡ true → Fits w64 (s + w)
+end-fits rows k e l acc h = let x = at-most rows (accepted rows acc) k 24 3 h in record { fits = omega arith }
 
 module _ (rows : List ℤ) (a k : ℕ) where
   -- what an activity needs
@@ -137,6 +157,9 @@ module _ (rows : List ℤ) (k : ℕ) where
   pub known-place : {f : Found} {a : ℕ} → Known rows k f → f ≡ At a → placeOf rows 2 (num rows k 1) ≡ some a
   known-place {f} {a} g e = g .place a (ap foundOf e)
 
+  pub known-self : {f : Found} {a : ℕ} → Known rows k f → f ≡ At a → placeOf rows 2 (num rows a 1) ≡ some a
+  known-self {a = a} g e = found-self rows 2 (num rows k 1) a (known-place g e)
+
   pub known-free : {f : Found} {a : ℕ} → Known rows k f → f ≡ At a → isEmpty (requirements (sheet rows) (num rows a 1)) ≡ true
   known-free {f} {a} g e = g .free a (ap foundOf e)
 
@@ -190,12 +213,14 @@ module _ (rows : List ℤ) (t : ℕ) where
   unfoldable pub unplacedAt : ℕ → List Violation
   unplacedAt k = each (λ (a : Activity ℤ). cond (eqb (a .task) (num rows t 1)) (checkUnplaced clock (sheet rows) a) []) (activityAt (sheet rows) k)
 
-  pub unplaced-whole : collect unplacedAt (rowCount rows) ≡ each (checkUnplaced clock (sheet rows)) (activitiesOf (sheet rows) (num rows t 1))
+  pub unplaced-told : (s : Sink) {s′ : Sink} → s′ ≡ emit s (collect unplacedAt (rowCount rows)) → s′ ≡ emit s (each (checkUnplaced clock (sheet rows)) (activitiesOf (sheet rows) (num rows t 1)))
   unfolding activitiesOf activities unplacedAt
-  unplaced-whole =
-      sym
+  unplaced-told s e =
+      e
+      ∙ ap (emit s)
+      (sym
       (each-keep (checkUnplaced clock (sheet rows)) (λ a. eqb (a .task) (num rows t 1)) (collect (activityAt (sheet rows)) (rowCount rows))
-      ∙ each-collect (λ (a : Activity ℤ). cond (eqb (a .task) (num rows t 1)) (checkUnplaced clock (sheet rows) a) []) (activityAt (sheet rows)) (rowCount rows))
+      ∙ each-collect (λ (a : Activity ℤ). cond (eqb (a .task) (num rows t 1)) (checkUnplaced clock (sheet rows) a) []) (activityAt (sheet rows)) (rowCount rows)))
 
   pub task-itself : refusalOf rows ≡ none → t < rowCount rows → is rows t 0 1 ≡ true → placeOf rows 1 (num rows t 1) ≡ some t
   task-itself acc l h = found-again rows (accepted rows acc) t 1 l refl h
@@ -215,8 +240,9 @@ module _ (rows : List ℤ) (t : ℕ) where
     pub unplaced-silent : Silent (ownedBy rows t 2) unplacedAt
     unplaced-silent = record { still = λ k h. at-row k false h }
 
-    pub unplaced-here : {n N a : ℕ} → a < N → N ≡ n → Stands (ownedBy rows t 2) n a → checkUnplaced clock (sheet rows) (activityOf rows a) ≡ unplacedAt a
-    unplaced-here {a = a} l z s = sym (at-row a true (s .here (omega arith)))
+  pub unplaced-next : (s₀ : Sink) {n N k j : ℕ} {s s′ : Sink} → s′ ≡ emit s (checkUnplaced clock (sheet rows) (activityOf rows k)) → First (ownedBy rows t 2) (suc k) n j
+      → k < N → N ≡ n → Stands (ownedBy rows t 2) n k → s ≡ emit s₀ (collect unplacedAt k) → placeOf rows 1 (num rows t 1) ≡ some t → s′ ≡ emit s₀ (collect unplacedAt j)
+  unplaced-next s₀ {k = k} {s = s} g x l z st r q = emit-next unplacedAt s₀ x (unplaced-silent q) r (g ∙ ap (emit s) (sym (at-row q k true (st .here (omega arith)))))
 
   pub activity-itself : {n N a : ℕ} → refusalOf rows ≡ none → a < N → N ≡ n → n ≡ rowCount rows → Stands (ownedBy rows t 2) n a → placeOf rows 2 (num rows a 1) ≡ some a
   unfolding ownedBy
@@ -232,9 +258,14 @@ module _ (rows : List ℤ) where
   unfolding taskUnplaced ofKind each
   tasks-silent = record { still = λ k h. rw (task-none rows k h) }
 
-  pub task-here : (k : ℕ) → is rows k 0 1 ≡ true → each (checkUnplaced clock (sheet rows)) (activitiesOf (sheet rows) (num rows k 1)) ≡ taskUnplaced k
+  task-here : (k : ℕ) → is rows k 0 1 ≡ true → each (checkUnplaced clock (sheet rows)) (activitiesOf (sheet rows) (num rows k 1)) ≡ taskUnplaced k
   task-here k h = sym (unfold taskUnplaced each in rw (task-row rows k h) (append-nil _))
 
-  pub tasks-whole : collect taskUnplaced (rowCount rows) ≡ each (λ t. each (checkUnplaced clock (sheet rows)) (activitiesOf (sheet rows) (t .id))) (tasks (sheet rows))
+  pub tasks-next : (s₀ : Sink) {n N k j : ℕ} {s s′ : Sink} → s′ ≡ emit s (each (checkUnplaced clock (sheet rows)) (activitiesOf (sheet rows) (num rows k 1))) → First (ofKind rows 1) (suc k) n j
+      → k < N → N ≡ n → Stands (ofKind rows 1) n k → s ≡ emit s₀ (collect taskUnplaced k) → s′ ≡ emit s₀ (collect taskUnplaced j)
+  tasks-next s₀ {k = k} {s = s} g x l z st r = emit-next taskUnplaced s₀ x tasks-silent r (g ∙ ap (emit s) (task-here k (stands-kind rows 1 l z st)))
+
+  pub tasks-told : (s : Sink) {s′ : Sink} → s′ ≡ emit s (collect taskUnplaced (rowCount rows))
+      → s′ ≡ emit s (each (λ t. each (checkUnplaced clock (sheet rows)) (activitiesOf (sheet rows) (t .id))) (tasks (sheet rows)))
   unfolding tasks taskUnplaced
-  tasks-whole = sym (each-collect (λ (t : Task ℤ). each (checkUnplaced clock (sheet rows)) (activitiesOf (sheet rows) (t .id))) (taskAt (sheet rows)) (rowCount rows))
+  tasks-told s e = e ∙ ap (emit s) (sym (each-collect (λ (t : Task ℤ). each (checkUnplaced clock (sheet rows)) (activitiesOf (sheet rows) (t .id))) (taskAt (sheet rows)) (rowCount rows)))

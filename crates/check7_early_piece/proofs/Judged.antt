@@ -1,5 +1,5 @@
 -- Some piece starts before the work reaches it: the test of the pieces is a test of the bookings. Assumes nothing.
-use Prim.Native.Nat.{ℕ, zero, suc, _+_, _<_}
+use Prim.Native.Nat.{ℕ, zero, suc, _+_, _<_, _≤_}
 use mathlib.Core.Path.{_≡_, refl, sym, ap, _∙_}
 use mathlib.Core.Bool.{Bool, true, false, cond, not, _&&_, true≢false, and-false, or-false}
 use mathlib.Core.List.{List, [], _∷_, foldl}
@@ -24,6 +24,12 @@ use Rattle.calendar.specs.Clock.{clock}
 use Rattle.rows.specs.Cells.{rowCount, num, is}
 use Rattle.sheet.specs.Places.{placeOf}
 use Rattle.sheet.specs.inner.Accepted.{Accepted}
+use Rattle.sheet.specs.declared.Found.{Found}
+use Rattle.sheet.specs.declared.Found.the-variants.{At, Nothing}
+use Rattle.sheet.specs.inner.Found.{foundOf}
+use Rattle.spans.specs.declared.ActivitySpan.{ActivitySpan}
+use Rattle.spans.specs.declared.ActivitySpan.the-variants.{Between}
+use Rattle.spans.specs.inner.Activities.{spanMeant}
 use Rattle.sheet.proofs.Lookups.{is-num}
 use Rattle.owners.specs.inner.Owners.{ownerKind, ownPlace, ownedBy}
 use Rattle.model.specs.Sheet.{sheet}
@@ -204,6 +210,20 @@ module _ (rows : List ℤ) (acc : Accepted rows) (o : ℕ) (l : o < rowCount row
         go none = unfold anyOf in refl
         go (some y) = sym (unfold anyOf in (or-false _ ∙ none-far (y .start)))
 
+-- ---- one booking, one span
+
+module _ (rows : List ℤ) (k j bound : ℕ) {r : Bool} (e : r ≡ inPiece rows k j) where
+  pub starts-in : {x : ℕ} → r ≡ true → x ≡ num rows j 4 → ltb x bound ≡ startsAt rows k bound j
+  unfolding startsAt
+  starts-in h f = rw (sym e ∙ h) (ap (λ z. ltb z bound) f)
+
+  pub starts-apart : r ≡ false → false ≡ startsAt rows k bound j
+  unfolding startsAt
+  starts-apart h = rw (sym e ∙ h)
+
+pub span-starts : {x : ActivitySpan} {a e : ℕ} (from : ℕ) → x ≡ Between a e → ltb a from ≡ option (spanMeant x) false (λ y. clock .before (y .start) (pos from))
+span-starts from z = rw z
+
 -- ---- along the chain of the bookings
 
 module _ (rows : List ℤ) where
@@ -233,15 +253,17 @@ module _ (rows : List ℤ) where
   pub stands-owned : (o : ℕ) {n N k : ℕ} → k < N → N ≡ n → Stands (ownedBy rows o 23) n k → ownedBy rows o 23 k ≡ true
   stands-owned o l z s = s .here (omega arith)
 
--- the two answers of `piece_is_early`, by the first booking
-module _ (rows : List ℤ) (acc : Accepted rows) (o : ℕ) (l : o < rowCount rows) (h : is rows o 0 2 ≡ true) (a from : ℕ) {b : Bool} where
-  pub some-booked : (k : ℕ) → some k ≡ firstPlace (ownedBy rows o 23) (rowCount rows) → b ≡ anyBelow (λ k. ownedBy rows o 23 k && unreachedAt rows a from k) (rowCount rows)
-      → b ≡ anyOf (tooEarly rows acc o l h a from) (piecesOf clock (sheet rows) (num rows o 1))
-  some-booked k q e = let f = found-at _ (rowCount rows) k (sym q) in booked-is rows acc o l h a from k (f .0) (f .1) e
+-- the two answers of `piece_is_early`, by the first booking; m and u only say which row and which instant are meant, since `early` shows them under a binder
+module _ (rows : List ℤ) (acc : Accepted rows) (o : ℕ) (l : o < rowCount rows) (h : is rows o 0 2 ≡ true) (before from : ℕ) (m : before < rowCount rows) (u : from ≤ 4000000000000)
+    (early : PlacedPiece ℤ → Bool) (t : early ≡ tooEarly rows acc o l h (num rows before 1) from) {f : Found} (q : foundOf f ≡ firstPlace (ownedBy rows o 23) (rowCount rows)) {b : Bool} where
+  pub some-booked : {k : ℕ} → f ≡ At k → b ≡ anyBelow (λ k. ownedBy rows o 23 k && unreachedAt rows (num rows before 1) from k) (rowCount rows)
+      → b ≡ anyOf early (piecesOf clock (sheet rows) (num rows o 1))
+  some-booked {k} z e = let g = found-at _ (rowCount rows) k (sym q ∙ ap foundOf z) in rw t (booked-is rows acc o l h (num rows before 1) from k (g .0) (g .1) e)
 
-  pub none-booked : none ≡ firstPlace (ownedBy rows o 23) (rowCount rows) → {x : Option (page.Span ℤ)} {id : ℕ} → b ≡ option x false (λ y. clock .before (y .start) (pos from))
+  pub none-booked : f ≡ Nothing → {x : Option (page.Span ℤ)} {id : ℕ} → b ≡ option x false (λ y. clock .before (y .start) (pos from))
       → x ≡ activitySpan clock (sheet rows) id → id ≡ num rows o 1
-      → b ≡ anyOf (tooEarly rows acc o l h a from) (piecesOf clock (sheet rows) (num rows o 1))
-  none-booked q e g i =
-      timed-is rows acc o l h a from (place-none _ (rowCount rows) (sym q))
-      (e ∙ ap (λ y. option y false (λ y. clock .before (y .start) (pos from))) (g ∙ ap (activitySpan clock (sheet rows)) i))
+      → b ≡ anyOf early (piecesOf clock (sheet rows) (num rows o 1))
+  none-booked z e g i =
+      rw t
+      (timed-is rows acc o l h (num rows before 1) from (place-none _ (rowCount rows) (sym q ∙ ap foundOf z))
+      (e ∙ ap (λ y. option y false (λ y. clock .before (y .start) (pos from))) (g ∙ ap (activitySpan clock (sheet rows)) i)))

@@ -1,12 +1,16 @@
 -- How large the instants of a span are. Assumes nothing.
-use Prim.Native.Nat.{ℕ, zero, suc, _≤_}
+use Prim.Native.Nat.{ℕ, zero, suc, _^_, _<_, _≤_}
 use mathlib.Core.Path.{_≡_, refl, sym}
 use mathlib.Core.Bool.{Bool, true, false, cond, _&&_}
 use mathlib.Core.List.{List}
 use mathlib.Core.Option.{Option, none, some}
 use lib.Dec.{leb}
 use lib.IntN.{ℤ, pos, natAbs}
-use lib.Signed.{leZ, ltZ}
+use lib.Signed.{leZ, ltZ, mag}
+use mir.Syntax.{w64}
+use mir.Val.{toZ, ofZ, hbits}
+use mir.Facts.{toZ-ofZ}
+use borrow.Author.Needs.{sfits-of}
 use native.Mathlib.Omega.{arith}
 use borrow.Author.Tests.{leb-true, le-leb, eq-eqb}
 use Rattle.loops.specs.Range.{fold}
@@ -85,9 +89,13 @@ module _ (rows : List ℤ) (acc : Accepted rows) where
           let h : is rows k 0 24 ≡ true = unfold is in eq-eqb (num rows k 0) 24 (placed rows 24 id k e .kind) in
           rw (← runs-timed rows id (sym e)) (pair-early _ _ (instant-early k 24 3 (at-most rows acc k 24 3 h)) (instant-early k 24 4 (at-most rows acc k 24 4 h)))
 
-  pub span-most : (id : ℕ) {x : ActivitySpan} {a e : ℕ} → spanMeant x ≡ activitySpan clock (sheet rows) id → x ≡ Between a e → (a ≤ 4000000000000) × (e ≤ 4000000000000)
-  span-most id {x} {a} {e} q z = pair-of a e (rw (← q, z) at (span-early id))
+  module _ (id : ℕ) {x : ActivitySpan} {a e : ℕ} (q : spanMeant x ≡ activitySpan clock (sheet rows) id) (z : x ≡ Between a e) where
+    pub start-most : a ≤ 4000000000000
+    start-most = pair-of a e (rw (← q, z) at (span-early id)) .0
+
+    pub end-most : e ≤ 4000000000000
+    end-most = pair-of a e (rw (← q, z) at (span-early id)) .1
 
   -- a delay in its class
-  pub delay-most : (k : ℕ) → is rows k 0 17 ≡ true → natAbs (cell rows k 3) ≤ 8000000000000
-  delay-most k h = omega (arith, signed-time (cell rows k 3) (in-class rows acc k 17 3 h))
+  pub delay-most : (k : ℕ) (d : ℤ) → is rows k 0 17 ≡ true → d ≡ cell rows k 3 → mag d < 2 ^ hbits w64 → natAbs (toZ w64 (ofZ w64 d)) ≤ 8000000000000
+  delay-most k d h e m = rw (toZ-ofZ (sfits-of m), e) (omega (arith, signed-time (cell rows k 3) (in-class rows acc k 17 3 h)))

@@ -64,6 +64,9 @@ fromStep rows b t k = max t (transportTo (sheet rows) (num rows k 3) b)
 abbrev pub toStep : List ℤ → List ℕ → ℕ → ℕ → ℕ
 toStep rows m t k = max t (transportBetween (sheet rows) m (num rows k 3 ∷ []))
 
+pub from-turn : (rows : List ℤ) (b t k : ℕ) {t′ x : ℕ} → t′ ≡ max t x → x ≡ transportTo (sheet rows) (num rows k 3) b → t′ ≡ fromStep rows b t k
+from-turn rows b t k e q = e ∙ ap (max t) q
+
 pub to-turn : (rows : List ℤ) (m : List ℕ) (t k : ℕ) {t′ x y : ℕ} → t′ ≡ max t x → x ≡ transportBetween (sheet rows) m (y ∷ []) → y ≡ num rows k 3 → t′ ≡ toStep rows m t k
 to-turn rows m t k e q r = e ∙ ap (max t) (q ∙ ap (λ z. transportBetween (sheet rows) m (z ∷ [])) r)
 

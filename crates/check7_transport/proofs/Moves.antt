@@ -4,6 +4,7 @@ use mathlib.Core.Path.{_≡_, refl, sym, ap, _∙_}
 use mathlib.Core.Bool.{Bool, true, false, _&&_}
 use mathlib.Core.List.{List}
 use mathlib.Core.Option.{Option, none, some}
+use native.Mathlib.Omega.{arith}
 use lib.Dec.{eqb}
 use lib.IntN.{ℤ}
 use Rattle.loops.specs.Lists.{given, head, option}
@@ -15,6 +16,10 @@ use Rattle.rows.specs.Cells.{rowCount, num, is}
 use Rattle.sheet.specs.Places.{placeOf}
 use Rattle.sheet.specs.Refusals.{lacks}
 use Rattle.sheet.specs.inner.Accepted.{Accepted}
+use Rattle.sheet.specs.declared.Found.{Found}
+use Rattle.sheet.specs.declared.Found.the-variants.{At, Nothing}
+use Rattle.sheet.specs.inner.Found.{foundOf}
+use Rattle.sheet.proofs.Lookups.{placed}
 use Rattle.owners.specs.inner.Owners.{ownerKind, ownedBy}
 use Rattle.model.specs.Sheet.{sheet, rowAt}
 use Rattle.model.specs.inner.Records.{numAt}
@@ -26,8 +31,11 @@ use Rattle.pieces.specs.inner.Bookings.{names}
 use Rattle.pieces.proofs.Chains.{own-resource, names-kind, names-blind, place-never, unnamed}
 
 module _ (rows : List ℤ) where
-  pub moves-blind : (o b : ℕ) {a a′ : ℕ} → a ≡ a′ → some o ≡ placeOf rows 11 a′ → Blind (ownedBy rows o 14) (names rows 14 a b)
-  moves-blind o b e p = rw e (names-blind rows 14 11 o _ b (λ i h. own-resource rows 14 i (unfold ownerKind in refl) h) p)
+  pub moves-blind : (o b : ℕ) {a a′ : ℕ} {f : Found} → a ≡ a′ → foundOf f ≡ placeOf rows 11 a′ → f ≡ At o → Blind (ownedBy rows o 14) (names rows 14 a b)
+  moves-blind o b e p q = rw e (names-blind rows 14 11 o _ b (λ i h. own-resource rows 14 i (unfold ownerKind in refl) h) (sym (ap foundOf q) ∙ p))
+
+  pub placed-most : (x id o : ℕ) {f : Found} → foundOf f ≡ placeOf rows x id → f ≡ At o → o ≤ rowCount rows
+  placed-most x id o p q = let w = placed rows x id o (sym p ∙ ap foundOf q) in omega (arith, w .within)
 
   module _ (a b : ℕ) where
     move : ℕ → List ℕ
@@ -57,15 +65,17 @@ module _ (rows : List ℤ) where
         go none = refl
         go (some k) = refl
 
-    pub move-is : (k : ℕ) {r v : ℕ} → a ≡ v → some k ≡ firstPlace (names rows 14 a b) (rowCount rows) → r ≡ num rows k 3 → r ≡ transportTo (sheet rows) v b
-    move-is k q e f = rw (← q) (f ∙ sym (moves ∙ ap (λ x. option x 0 (λ k. num rows k 3)) (sym e)))
+    module _ {f : Found} (e : foundOf f ≡ firstPlace (names rows 14 a b) (rowCount rows)) where
+      pub move-is : (k : ℕ) {r v : ℕ} → a ≡ v → f ≡ At k → r ≡ num rows k 3 → r ≡ transportTo (sheet rows) v b
+      move-is k q z g = rw (← q) (g ∙ sym (moves ∙ ap (λ x. option x 0 (λ k. num rows k 3)) (sym e ∙ ap foundOf z)))
 
-    pub no-move : {v : ℕ} → a ≡ v → none ≡ firstPlace (names rows 14 a b) (rowCount rows) → 0 ≡ transportTo (sheet rows) v b
-    no-move q e = rw (← q) (sym (moves ∙ ap (λ x. option x 0 (λ k. num rows k 3)) (sym e)))
+      pub no-move : {v : ℕ} → a ≡ v → f ≡ Nothing → 0 ≡ transportTo (sheet rows) v b
+      no-move q z = rw (← q) (sym (moves ∙ ap (λ x. option x 0 (λ k. num rows k 3)) (sym e ∙ ap foundOf z)))
 
-    pub move-most : Accepted rows → (k : ℕ) {r : ℕ} → some k ≡ firstPlace (names rows 14 a b) (rowCount rows) → r ≡ num rows k 3 → r ≤ 4000000000000
-    move-most acc k e f = rw f (at-most rows acc k 14 3 (names-kind rows 14 a b k (found-at _ (rowCount rows) k (sym e) .1)))
+      pub move-most : Accepted rows → (k : ℕ) {r : ℕ} → f ≡ At k → r ≡ num rows k 3 → r ≤ 4000000000000
+      move-most acc k z g = rw g (at-most rows acc k 14 3 (names-kind rows 14 a b k (found-at _ (rowCount rows) k (sym e ∙ ap foundOf z) .1)))
 
   -- a resource that is not in the sheet has none
-  pub unmoved : Accepted rows → (a b : ℕ) → none ≡ placeOf rows 11 a → 0 ≡ transportTo (sheet rows) a b
-  unmoved acc a b p = no-move a b refl (sym (place-never _ (rowCount rows) (unnamed rows acc 14 11 a b (λ i m g. unfold lacks in (has-owner rows acc i 14 1 m g)) p)))
+  pub unmoved : Accepted rows → (a b : ℕ) {f : Found} → foundOf f ≡ placeOf rows 11 a → f ≡ Nothing → 0 ≡ transportTo (sheet rows) a b
+  unmoved acc a b p q =
+      no-move a b (sym (place-never _ (rowCount rows) (unnamed rows acc 14 11 a b (λ i m g. unfold lacks in (has-owner rows acc i 14 1 m g)) (sym (ap foundOf q) ∙ p)))) refl refl

@@ -81,7 +81,7 @@ pub deadline-silent : (rows : List ℤ) → Silent (ofKind rows 1) (λ k. each (
 unfolding each ofKind
 deadline-silent rows = record { still = λ k h. rw (task-none rows k h) }
 
-pub deadlines-whole : (rows : List ℤ)
-    → collect (λ k. each (checkDeadline clock (sheet rows)) (taskAt (sheet rows) k)) (rowCount rows) ≡ checkDeadlines clock (sheet rows)
+pub deadlines-told : (rows : List ℤ) (s : Sink) {s′ : Sink} → s′ ≡ emit s (collect (λ k. each (checkDeadline clock (sheet rows)) (taskAt (sheet rows) k)) (rowCount rows))
+    → s′ ≡ emit s (checkDeadlines clock (sheet rows))
 unfolding checkDeadlines tasks
-deadlines-whole rows = sym (each-collect (checkDeadline clock (sheet rows)) (taskAt (sheet rows)) (rowCount rows))
+deadlines-told rows s e = e ∙ ap (emit s) (sym (each-collect (checkDeadline clock (sheet rows)) (taskAt (sheet rows)) (rowCount rows)))

@@ -13,7 +13,7 @@ use borrow.Author.Tests.{lt-ltb, le-ltb}
 use Rattle.loops.specs.Lists.{given, keep, head, each, option}
 use Rattle.loops.specs.Range.{collect}
 use Rattle.loops.specs.Search.{orElse, someIf, first, firstPlace}
-use Rattle.loops.specs.inner.Chain.{Silent, Blind, Stands}
+use Rattle.loops.specs.inner.Chain.{First, Silent, Blind, Stands}
 use Rattle.loops.proofs.PartLaws.{collect-nothing}
 use Rattle.loops.proofs.ListLaws.{each-collect, keep-collect, head-collect}
 use Rattle.loops.proofs.RangeLaws.{collect-ext, collect-front}
@@ -22,9 +22,15 @@ use Rattle.calendar.specs.Clock.{clock}
 use Rattle.rows.specs.Cells.{rowCount, num, is}
 use Rattle.sheet.specs.Places.{ofKind, named}
 use Rattle.sheet.specs.inner.Index.{orEnd, storedPlace}
+use Rattle.sheet.specs.declared.Found.{Found}
+use Rattle.sheet.specs.declared.Found.the-variants.{At, Nothing}
+use Rattle.sheet.specs.inner.Found.{foundOf}
 use Rattle.sheet.specs.inner.Kept.{IsRow, Kept}
 use Rattle.sheet.proofs.Keeping.{Keeping, keeping-turn, kept-at}
 use Rattle.findings.specs.declared.Violation.{Violation}
+use Rattle.findings.specs.inner.Sink.{Sink, emit}
+use Rattle.findings.proofs.SinkLaws.{emit-none}
+use Rattle.findings.proofs.Reports.{emit-next}
 use Rattle.model.specs.Sheet.{sheet, rowAt}
 use Rattle.model.specs.inner.Records.{numAt}
 use Rattle.model.specs.Resource.{listed}
@@ -246,10 +252,64 @@ module _ (rows : List ℤ) where
     unfolding pairsAt
     pairs-silent = record { still = λ k h. rw (off k h) }
 
-pub overlaps-found : (rows : List ℤ) (k p : ℕ) → is rows k 0 20 ≡ true → p ≡ length (collect (constraintAt (sheet rows)) k)
+overlaps-found : (rows : List ℤ) (k p : ℕ) → is rows k 0 20 ≡ true → p ≡ length (collect (constraintAt (sheet rows)) k)
     → checkConstraintAt clock (sheet rows) k ≡ collect (pairsAt rows p (num rows k 1)) (rowCount rows)
 unfolding checkConstraintAt checkConstraint each
 overlaps-found rows k p h e = rw (overlap-row rows k h, ← e) (append-nil _ ∙ sym (all-pairs rows p (num rows k 1)))
+
+pub overlaps-told : (rows : List ℤ) (k p : ℕ) (s : Sink) {s′ : Sink} {r : ℕ} → s′ ≡ emit s (collect (pairsAt rows p r) (rowCount rows)) → r ≡ num rows k 1
+    → is rows k 0 20 ≡ true → p ≡ length (collect (constraintAt (sheet rows)) k) → s′ ≡ emit s (checkConstraintAt clock (sheet rows) k)
+overlaps-told rows k p s q i h e = rw (overlaps-found rows k p h e, ← i) q
+
+-- ---- what is told of a member, of two bookings, of two members
+
+pub both-told : {b p q r : Bool} → b ≡ p → b ≡ true → r ≡ q → r ≡ (p && q)
+both-told e h f = rw (sym e ∙ h) f
+
+pub one-told : (q : Bool) {b p : Bool} → b ≡ p → b ≡ false → b ≡ (p && q)
+one-told q e h = rw (sym e ∙ h) h
+
+module _ (rows : List ℤ) (p r k : ℕ) {b : Bool} (e : b ≡ (is rows k 0 22 && is rows k 1 p)) where
+  pub member-told : {a : ℕ} {x : Option ℕ} → b ≡ true → a ≡ num rows k 2 → x ≡ firstPlace (bookedOn rows a r) (rowCount rows) → x ≡ memberBooking rows p r k
+  unfolding memberBooking
+  member-told h f g = rw (sym e ∙ h, ← f) g
+
+  pub no-member : b ≡ false → none ≡ memberBooking rows p r k
+  unfolding memberBooking
+  no-member h = rw (sym e ∙ h)
+
+module _ (rows : List ℤ) (a b : ℕ) {s e f t : ℕ} (w : s ≡ num rows a 4) (x : e ≡ num rows a 5) (y : f ≡ num rows b 4) (z : t ≡ num rows b 5) where
+  pub overlap-if : s < t → ltb f e ≡ overlapAt rows a b
+  unfolding overlapAt
+  overlap-if l = rw (← w, ← x, ← y, ← z, lt-ltb s t l)
+
+  pub overlap-not : t ≤ s → ltb s t ≡ overlapAt rows a b
+  unfolding overlapAt
+  overlap-not l = rw (← w, ← x, ← y, ← z, le-ltb s t l)
+
+module _ (rows : List ℤ) (p r : ℕ) {f : Found} where
+  pub pair-none : (a j k : ℕ) → j < k → foundOf f ≡ memberBooking rows p r k → f ≡ Nothing → false ≡ pairAt rows p r a j k
+  unfolding pairAt
+  pair-none a j k l e z = rw (lt-ltb j k l, sym e ∙ ap foundOf z)
+
+  pub pair-told : (a j k : ℕ) {b : ℕ} {t : Bool} → j < k → foundOf f ≡ memberBooking rows p r k → f ≡ At b → t ≡ overlapAt rows a b → t ≡ pairAt rows p r a j k
+  unfolding pairAt
+  pair-told a j k l e z q = rw (lt-ltb j k l, sym e ∙ ap foundOf z) q
+
+  pub pairs-none : (j : ℕ) (s : Sink) → foundOf f ≡ memberBooking rows p r j → f ≡ Nothing → s ≡ emit s (pairsAt rows p r j)
+  unfolding pairsAt
+  pairs-none j s e z = rw (sym e ∙ ap foundOf z) (sym (emit-none s))
+
+  pub pairs-told : (j : ℕ) (s : Sink) {s′ : Sink} {a : ℕ} → foundOf f ≡ memberBooking rows p r j → f ≡ At a
+      → s′ ≡ emit s (collect (λ k. given (pairAt rows p r a j k) (capacityExceeded 9 r)) (rowCount rows)) → s′ ≡ emit s (pairsAt rows p r j)
+  unfolding pairsAt
+  pairs-told j s e z q = rw (sym e ∙ ap foundOf z) q
+
+-- a turn of the loop over the members after that of row j
+pub pair-next : (rows : List ℤ) (p r a j : ℕ) (g : ℕ → List Violation) (s₀ : Sink) {s s′ : Sink} {b : Bool} {n i k : ℕ} → First (ofKind rows 22) (suc i) n k
+    → s′ ≡ emit s (given b (capacityExceeded 9 r)) → b ≡ pairAt rows p r a j i → g ≡ (λ k. given (pairAt rows p r a j k) (capacityExceeded 9 r)) → s ≡ emit s₀ (collect g i)
+    → s′ ≡ emit s₀ (collect g k)
+pair-next rows p r a j g s₀ {s} {b = b} {i = i} x q e h t = emit-next g s₀ x (rw h (pair-silent rows p r a j)) t (rw (h, ← e) q)
 
 -- ---- the search along the bookings
 

@@ -6,8 +6,8 @@ use mathlib.Core.List.{List, [], _∷_, _++_, foldl, append-nil}
 use mathlib.Core.Option.{Option, none, some}
 use native.Mathlib.Omega.{arith}
 use native.Mathlib.Decide.{ℕ-discrete}
-use lib.Dec.{eqb}
-use lib.IntN.{ℤ}
+use lib.Dec.{eqb, ltb}
+use lib.IntN.{ℤ, pos}
 use lib.ListN.{length}
 use borrow.Author.Tests.{eq-eqb, ne-eqb}
 use Rattle.loops.specs.Lists.{given, each, option}
@@ -28,7 +28,13 @@ use Rattle.model.proofs.ConstraintLaws.{synchronize-row}
 use Rattle.definition.specs.ActivitySpan.{Span, activitySpan}
 use Rattle.definition.specs.CheckRequirements.{sameTime}
 use Rattle.definition.specs.CheckConstraints as page
-use Rattle.check9_constraints.specs.inner.Seen.{Seen, missing, differing, alike, empty, withSpan, withMember, differs}
+use Rattle.findings.specs.inner.Sink.{Sink, emit}
+use Rattle.spans.specs.declared.ActivitySpan.{ActivitySpan}
+use Rattle.spans.specs.declared.ActivitySpan.the-variants.{Between, Nowhere}
+use Rattle.spans.specs.inner.Activities.{spanMeant}
+use Rattle.check9_constraints.specs.declared.Starts.{Starts}
+use Rattle.check9_constraints.specs.declared.Starts.the-variants.{Alike}
+use Rattle.check9_constraints.specs.inner.Seen.{Seen, missing, differing, alike, empty, seen, withStart, withSpan, withMember, differs}
 
 eqb-suc : (a b : ℕ) → eqb (suc a) (suc b) ≡ eqb a b
 eqb-suc a b = go (ℕ-discrete a b)
@@ -138,9 +144,37 @@ module _ (rows : List ℤ) (p : ℕ) where
   unfolding startsOf spanOf
   unsynchronized e = ap differs (e ∙ all-members) ∙ seen-all rows spanOf (members (sheet rows) p)
 
-pub synchronize-found : (rows : List ℤ) (k p : ℕ) {z : Seen} → is rows k 0 21 ≡ true → p ≡ length (collect (constraintAt (sheet rows)) k)
+synchronize-found : (rows : List ℤ) (k p : ℕ) {z : Seen} → is rows k 0 21 ≡ true → p ≡ length (collect (constraintAt (sheet rows)) k)
     → z ≡ fold (onlyAt (ofKind rows 22) (withMember rows p)) empty (rowCount rows)
     → page.checkConstraintAt clock (sheet rows) k ≡ given (differs z) (synchronizeViolation 9 p)
 unfolding page.checkConstraintAt page.checkConstraint each
 synchronize-found rows k p {z} h e q =
     rw (synchronize-row rows k h, ← e, ← unsynchronized rows p q) (append-nil (given (differs z) (synchronizeViolation 9 p)))
+
+pub synchronize-told : (rows : List ℤ) (k p : ℕ) (s : Sink) {s′ : Sink} {z : Seen} {b : Bool} → s′ ≡ emit s (given b (synchronizeViolation 9 p)) → b ≡ differs z
+    → z ≡ fold (onlyAt (ofKind rows 22) (withMember rows p)) empty (rowCount rows) → is rows k 0 21 ≡ true → p ≡ length (collect (constraintAt (sheet rows)) k)
+    → s′ ≡ emit s (page.checkConstraintAt clock (sheet rows) k)
+synchronize-told rows k p s g f q h e = rw (synchronize-found rows k p h e q, ← f) g
+
+-- ---- one start more, one member more
+
+module _ {s : Starts} {a : ℕ} (x : ℕ) {b : Bool} (z : s ≡ Alike a) (e : b ≡ (not (ltb x a) && not (ltb a x))) where
+  pub start-same : b ≡ true → alike (pos x) ≡ withStart (seen s) (pos x)
+  start-same h = rw (z, sym e ∙ h)
+
+  pub start-other : b ≡ false → differing ≡ withStart (seen s) (pos x)
+  start-other h = rw (z, sym e ∙ h)
+
+module _ (rows : List ℤ) (p k : ℕ) (s : Seen) {b : Bool} (e : b ≡ is rows k 1 p) where
+  pub member-other : b ≡ false → s ≡ withMember rows p s k
+  unfolding withMember
+  member-other h = rw (sym e ∙ h)
+
+  module _ (h : b ≡ true) {x : ActivitySpan} {id : ℕ} where
+    pub member-missing : x ≡ Nowhere → spanMeant x ≡ activitySpan clock (sheet rows) id → id ≡ num rows k 2 → missing ≡ withMember rows p s k
+    unfolding withMember
+    member-missing z q i = rw (sym e ∙ h, ← i, ← q, z)
+
+    pub member-seen : {a f : ℕ} {t : Seen} → x ≡ Between a f → spanMeant x ≡ activitySpan clock (sheet rows) id → id ≡ num rows k 2 → t ≡ withStart s (pos a) → t ≡ withMember rows p s k
+    unfolding withMember
+    member-seen z q i u = rw (sym e ∙ h, ← i, ← q, z) u

@@ -1,5 +1,4 @@
-use mathlib.Core.Path.{sym, ap, _∙_}
-use Rattle.sheet.specs.inner.Found.{foundOf}
+use Rattle.check1_assignments.proofs.Placing.{booked}
 use Rattle.owners.proofs.Links.{books}
 use Rattle.check1_assignments.proofs.Judging.{known-told, unknown-told}
 use borrow.Author.Needs.{needs}
@@ -31,16 +30,16 @@ same-length : tie.Need-same-length
 same-length c = search needs
 
 returns : tie.Need-returns
-returns c = unknown-told _ _ ((c .before .before .before .before .before .before .before .before .before .pre .7)) _ (sym (c .before .before .before .before .before .before .before .before .activity-of .ensures) ∙ ap foundOf ((c .before .before .before .before .before .before .enum-told .given .1))) (c .before .before .before .before .before .num-at .ensures) (c .before .before .before .before .is-task .ensures) ((c .before .before .id-at .ensures .0)) (c .before .tell .ensures)
+returns c = search (needs, unknown-told)
 
 check-known-requires : tie.Need-check-known-requires
-check-known-requires c κs = (((c .before .before .before .before .before .pre .0)), ((c .before .before .before .before .before .pre .1)), ((c .before .before .before .before .before .pre .2)), ((c .before .before .before .before .before .pre .3)), ((c .before .before .before .before .before .pre .4)), record { within = ((c .before .before .before .before .before .pre .6)); kind = ((c .before .before .before .before .before .pre .7)); place = (sym (c .before .before .before .before .activity-of .ensures) ∙ ap foundOf ((c .before .before .a .given .1))) })
+check-known-requires c κs = (search needs, search needs, search needs, search needs, search needs, search (needs, booked))
 
 same-length-2 : tie.Need-same-length-2
 same-length-2 c = search needs
 
 returns-2 : tie.Need-returns-2
-returns-2 c = known-told _ _ ((c .before .before .before .before .before .before .before .pre .7)) _ _ (record { within = ((c .before .before .before .before .before .before .before .pre .6)); kind = ((c .before .before .before .before .before .before .before .pre .7)); place = (sym (c .before .before .before .before .before .before .activity-of .ensures) ∙ ap foundOf ((c .before .before .before .before .a .given .1))) }) (c .before .check-known .ensures)
+returns-2 c = search (needs, known-told, booked)
 
 pub check-assignment-spec : {M : Type 1} → statement M
 check-assignment-spec =

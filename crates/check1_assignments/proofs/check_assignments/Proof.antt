@@ -1,6 +1,5 @@
-use Prim.Native.Nat.{_-_, _<_}
+use Prim.Native.Nat.{_-_}
 use mathlib.Core.Path.{_≡_}
-use native.Mathlib.Omega.{arith}
 use Rattle.loops.specs.Range.{collect}
 use Rattle.loops.specs.inner.Chain.{Stands}
 use Rattle.rows.specs.Cells.{rowCount}
@@ -12,7 +11,7 @@ use Rattle.findings.proofs.Reports.{emit-first, emit-next, emit-end}
 use Rattle.model.specs.Sheet.{sheet}
 use Rattle.model.proofs.Accepting.{accepted}
 use Rattle.definition.specs.CheckAssignments.{checkAssignmentAt}
-use Rattle.check1_assignments.proofs.Placing.{of-kind}
+use Rattle.model.proofs.Standing.{stands-kind}
 use Rattle.check1_assignments.proofs.Judging.{assignment-silent, assignments-told}
 use borrow.Author.Needs.{needs}
 use Rattle.check1_assignments.proofs.check_assignments.Statement.{statement}
@@ -28,28 +27,28 @@ row-count-requires : tie.Need-row-count-requires Inv-loop μ-loop
 row-count-requires c κs = search needs
 
 first-of-requires : tie.Need-first-of-requires Inv-loop μ-loop
-first-of-requires c κs = ((c .before .pre .0) .by-kind, omega arith)
+first-of-requires c κs = search needs
 
 loop-holds : tie.Need-loop-holds Inv-loop μ-loop
 loop-holds c = (search needs, emit-first _ _ (c .first-of .ensures) (assignment-silent _))
 
 check-assignment-requires : tie.Need-check-assignment-requires Inv-loop μ-loop
-check-assignment-requires c κs = let l : (c .before .before .loop .k) < rowCount (c .before .before .before .before .before .args .rows .now) = omega (arith, (c .before .loop-test .taken), (c .before .before .before .before .row-count .ensures)) in (accepted _ ((c .before .before .before .before .before .pre .0) .accepted), (c .before .before .before .before .before .pre .0) .linked, (c .before .before .before .before .before .pre .0) .by-owner, (c .before .before .before .before .before .pre .1), (c .before .before .before .before .before .pre .2), (c .before .before .before .before .before .pre .0) .by-kind, l, of-kind _ _ _ ((c .before .before .loop .inv .0) .here l))
+check-assignment-requires c κs = (search (needs, accepted), search needs, search needs, search needs, search needs, search needs, search needs, search (needs, stands-kind))
 
 next-of-requires : tie.Need-next-of-requires Inv-loop μ-loop
-next-of-requires c κs = ((c .before .before .before .before .before .before .before .pre .0) .by-kind, (c .before .before .before .before .loop .inv .0), omega (arith, (c .before .before .before .loop-test .taken), (c .before .before .before .before .before .before .row-count .ensures)))
+next-of-requires c κs = search needs
 
 loop-less : tie.Need-loop-less Inv-loop μ-loop
 loop-less c = search needs
 
 loop-again : tie.Need-loop-again Inv-loop μ-loop
-loop-again c = (search needs, emit-next _ _ (c .next-of .ensures) (assignment-silent _) ((c .before .before .before .before .before .loop .inv .1)) (c .before .before .check-assignment .ensures))
+loop-again c = (search needs, search (needs, emit-next, assignment-silent))
 
 same-length : tie.Need-same-length Inv-loop μ-loop
-same-length c = kept _ _ _ ((c .before .loop .inv .1))
+same-length c = search (needs, kept)
 
 returns : tie.Need-returns Inv-loop μ-loop
-returns c = assignments-told (c .before .before .before .before .args .rows .now) _ (emit-end _ _ _ _ _ (c .loop-test .left) (c .before .before .before .row-count .ensures) ((c .before .loop .inv .0)) ((c .before .loop .inv .1)))
+returns c = search (needs, assignments-told, emit-end)
 
 pub check-assignments-spec : {M : Type 1} → statement M
 check-assignments-spec =

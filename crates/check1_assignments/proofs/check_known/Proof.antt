@@ -1,4 +1,4 @@
-use mathlib.Core.Path.{sym, _∙_}
+use Rattle.sheet.proofs.Naming.{told}
 use Rattle.check1_assignments.proofs.Placing.{activity-place}
 use Rattle.check1_assignments.proofs.Judging.{misplaced-told, held-told, is-held}
 use borrow.Author.Needs.{needs}
@@ -21,16 +21,16 @@ same-length : tie.Need-same-length
 same-length c = search needs
 
 returns : tie.Need-returns
-returns c = misplaced-told _ _ _ _ (c .before .before .before .before .before .is-misplaced .ensures) (c .before .before .before .before .if1 .taken) ((c .before .before .id-at .ensures .0)) (c .before .tell .ensures)
+returns c = search (needs, misplaced-told)
 
 is-marked-requires : tie.Need-is-marked-requires
 is-marked-requires c κs = search needs
 
 returns-2 : tie.Need-returns-2
-returns-2 c = held-told _ _ _ _ ((c .before .before .before .before .before .pre .5) .kind) (c .before .before .before .is-misplaced .ensures) (c .before .before .if1 .left) (c .before .is-marked .ensures) (c .if2 .taken)
+returns-2 c = search (needs, held-told)
 
 check-judged-requires : tie.Need-check-judged-requires
-check-judged-requires c κs = ((c .before .before .before .before .before .before .pre .0), (c .before .before .before .before .before .before .pre .1), (c .before .before .before .before .before .before .pre .2), (c .before .before .before .before .before .before .pre .3), (c .before .before .before .before .before .before .pre .4), (c .before .before .before .before .before .before .pre .5), (c .before .before .before .before .before .is-split .ensures), sym (c .before .before .before .before .is-misplaced .ensures) ∙ (c .before .before .before .if1 .left), is-held _ (c .before .before .before .before .before .before .args .a) _ ((c .before .before .before .before .before .before .pre .5) .kind) (c .before .before .is-marked .ensures) (c .before .if2 .left))
+check-judged-requires c κs = (search needs, search needs, search needs, search needs, search needs, search needs, search needs, search (needs, told), search (needs, is-held))
 
 same-length-2 : tie.Need-same-length-2
 same-length-2 c = search needs

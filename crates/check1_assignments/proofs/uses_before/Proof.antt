@@ -1,16 +1,13 @@
-use Prim.Native.Nat.{_+_, _-_, _≤_}
-use mathlib.Core.Path.{_≡_, ap, _∙_}
-use native.Mathlib.Omega.{arith}
-use mathlib.Core.Bool.{cond}
+use Prim.Native.Nat.{_-_, _≤_}
+use mathlib.Core.Path.{_≡_}
 use Rattle.loops.specs.Search.{countBelow}
 use Rattle.loops.specs.inner.Chain.{Stands}
-use Rattle.loops.proofs.SearchLaws.{counted-le}
-use Rattle.loops.proofs.PlaceLaws.{count-first, count-next}
+use Rattle.loops.proofs.PlaceLaws.{count-first}
 use Rattle.rows.specs.Cells.{rowCount}
 use Rattle.owners.specs.inner.Owners.{ownedBy}
 use Rattle.check1_assignments.specs.inner.Bookings.{takesUnit}
-use Rattle.check1_assignments.proofs.Placing.{activity-named, owned-booking, first-upto}
-use Rattle.check1_assignments.proofs.Counting.{takes-blind, uses-end}
+use Rattle.check1_assignments.proofs.Placing.{activity-most, owned-booking, first-upto, next-upto}
+use Rattle.check1_assignments.proofs.Counting.{takes-blind, uses-told, uses-most, uses-fit, uses-next}
 use borrow.Author.Needs.{needs}
 use Rattle.check1_assignments.proofs.uses_before.Statement.{statement}
 use Rattle.check1_assignments.proofs.uses_before.Tie as tie
@@ -22,28 +19,28 @@ abbrev μ-loop : tie.MeasureT-loop
 μ-loop rows owned held a parts k used₀ j₀ used j = k - j
 
 first-owned-requires : tie.Need-first-owned-requires Inv-loop μ-loop
-first-owned-requires c κs = let w = activity-named _ _ _ ((c .pre .3)) in ((c .pre .1), omega (arith, w .within))
+first-owned-requires c κs = (search needs, search (needs, activity-most))
 
 loop-holds : tie.Need-loop-holds Inv-loop μ-loop
-loop-holds c = (search needs, first-upto _ _ _ _ _ (c .first-owned .ensures) (omega arith) (owned-booking _ _ _ ((c .before .pre .3))), count-first _ (c .first-owned .ensures) (takes-blind _ _ _ ((c .before .pre .3))))
+loop-holds c = (search needs, search (needs, first-upto, owned-booking), search (needs, count-first, takes-blind))
 
 takes-unit-requires : tie.Need-takes-unit-requires Inv-loop μ-loop
-takes-unit-requires c κs = ((c .before .before .before .pre .0), (c .before .before .before .pre .2), (c .before .before .before .pre .3), omega (arith, (c .loop-test .taken), (c .before .before .before .pre .3) .within), (c .before .before .before .pre .4))
+takes-unit-requires c κs = search needs
 
 more-requires : tie.Need-more-requires Inv-loop μ-loop
-more-requires c κs = let h = counted-le _ _ ((c .before .before .loop .inv .2)) in omega (arith, h, (c .before .loop-test .taken), (c .before .before .before .before .pre .3) .within, (c .before .before .before .before .pre .1) .short)
+more-requires c κs = search (needs, uses-fit)
 
 next-owned-requires : tie.Need-next-owned-requires Inv-loop μ-loop
-next-owned-requires c κs = ((c .before .before .before .before .before .pre .1), (c .before .before .before .loop .inv .0), omega (arith, (c .before .before .loop-test .taken), (c .before .before .before .before .before .pre .3) .within))
+next-owned-requires c κs = search needs
 
 loop-less : tie.Need-loop-less Inv-loop μ-loop
-loop-less c = omega (arith, (c .before .before .before .loop-test .taken), (c .next-owned .ensures) .low)
+loop-less c = search needs
 
 loop-again : tie.Need-loop-again Inv-loop μ-loop
-loop-again c = (search needs, first-upto _ _ _ _ _ (c .next-owned .ensures) (omega (arith, (c .before .before .before .loop-test .taken))) (owned-booking _ _ _ ((c .before .before .before .before .before .before .pre .3))), count-next _ (c .next-owned .ensures) (takes-blind _ _ _ ((c .before .before .before .before .before .before .pre .3))) ((c .before .before .before .before .loop .inv .2)) ((c .before .more .ensures) ∙ ap (λ b. (c .before .before .before .before .loop .used) + cond b 1 0) (c .before .before .takes-unit .ensures)))
+loop-again c = (search needs, search (needs, next-upto, owned-booking), search (needs, uses-next))
 
 returns : tie.Need-returns Inv-loop μ-loop
-returns c = uses-end _ _ _ ((c .before .loop .inv .1)) (c .loop-test .left) (omega (arith, (c .before .before .before .pre .3) .within, (c .before .before .before .pre .1) .short)) ((c .before .loop .inv .2))
+returns c = (search (needs, uses-told), search (needs, uses-most))
 
 pub uses-before-spec : {M : Type 1} → statement M
 uses-before-spec =

@@ -1,6 +1,4 @@
-use Rattle.check2_time_only.proofs.Told.{unknown-told, again-told, here-told, known-place, known-free}
-use Rattle.model.proofs.Finds.{found-self}
-use native.Mathlib.Omega.{arith}
+use Rattle.check2_time_only.proofs.Told.{unknown-told, again-told, here-told, known-place, known-self, known-free}
 use borrow.Author.Needs.{needs}
 use Rattle.check2_time_only.proofs.check_span.Statement.{statement}
 use Rattle.check2_time_only.proofs.check_span.Tie as tie
@@ -24,10 +22,10 @@ same-length : tie.Need-same-length
 same-length c = search needs
 
 returns : tie.Need-returns
-returns c = unknown-told _ _ _ ((c .before .before .before .before .before .before .before .pre .4)) ((c .before .before .before .before .before .known .ensures)) ((c .before .before .before .enum-told .given .1)) ((c .before .before .before .before .before .before .id-at .ensures .0)) ((c .before .tell .ensures))
+returns c = search (needs, unknown-told)
 
 is-seen-requires : tie.Need-is-seen-requires
-is-seen-requires c κs = ((c .before .before .before .before .before .pre .1), found-self _ _ _ _ (known-place _ _ ((c .before .before .before .known .ensures)) ((c .before .activity .given .1))), known-free _ _ ((c .before .before .before .known .ensures)) ((c .before .activity .given .1)), omega (arith, (c .before .before .before .before .before .pre .3)))
+is-seen-requires c κs = (search needs, search (needs, known-self), search (needs, known-free), search needs)
 
 tell-requires-2 : tie.Need-tell-requires-2
 tell-requires-2 c κs = search needs
@@ -36,16 +34,16 @@ same-length-2 : tie.Need-same-length-2
 same-length-2 c = search needs
 
 returns-2 : tie.Need-returns-2
-returns-2 c = again-told _ _ _ ((c .before .before .before .before .before .before .before .before .before .before .pre .4)) ((c .before .before .before .before .before .before .before .before .known .ensures)) ((c .before .before .before .before .before .before .activity .given .1)) ((c .before .before .before .before .before .before .before .before .before .id-at .ensures .0)) ((c .before .before .before .before .is-seen .ensures)) ((c .if1 .taken)) ((c .before .before .tell2 .ensures))
+returns-2 c = search (needs, again-told)
 
 check-first-requires : tie.Need-check-first-requires
-check-first-requires c κs = ((c .before .before .before .before .before .before .before .before .before .before .before .pre .0), (c .before .before .before .before .before .before .before .before .before .before .before .pre .1), (c .before .before .before .before .before .before .before .before .before .before .before .pre .2), (c .before .before .before .before .before .before .before .before .before .before .before .pre .4), known-place _ _ ((c .before .before .before .before .before .before .before .before .before .known .ensures)) ((c .before .before .before .before .before .before .before .activity .given .1)))
+check-first-requires c κs = search (needs, known-place)
 
 same-length-3 : tie.Need-same-length-3
 same-length-3 c = search needs
 
 returns-3 : tie.Need-returns-3
-returns-3 c = here-told _ _ _ ((c .before .before .before .before .before .before .before .before .before .before .before .before .before .pre .4)) ((c .before .before .before .before .before .before .before .before .before .before .before .known .ensures)) ((c .before .before .before .before .before .before .before .before .before .activity .given .1)) ((c .before .before .before .before .before .before .before .before .before .before .before .before .id-at .ensures .0)) ((c .before .before .before .before .before .before .before .is-seen .ensures)) ((c .before .before .before .if1 .left)) ((c .before .before .before .before .before .tell2 .ensures)) ((c .before .check-first .ensures))
+returns-3 c = search (needs, here-told)
 
 pub check-span-spec : {M : Type 1} → statement M
 check-span-spec =

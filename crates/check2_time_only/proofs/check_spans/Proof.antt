@@ -2,7 +2,6 @@ use borrow.Author.Needs.{needs}
 use Rattle.check2_time_only.proofs.Told.{span-silent}
 use Prim.Native.Nat.{_-_}
 use mathlib.Core.Path.{_≡_}
-use native.Mathlib.Omega.{arith}
 use Rattle.loops.specs.Range.{collect}
 use Rattle.loops.specs.inner.Chain.{Stands}
 use Rattle.calendar.specs.Clock.{clock}
@@ -27,28 +26,28 @@ row-count-requires : tie.Need-row-count-requires Inv-loop μ-loop
 row-count-requires c κs = search needs
 
 first-of-requires : tie.Need-first-of-requires Inv-loop μ-loop
-first-of-requires c κs = ((c .before .pre .by-kind), omega arith)
+first-of-requires c κs = search needs
 
 loop-holds : tie.Need-loop-holds Inv-loop μ-loop
 loop-holds c = (search needs, emit-first _ _ (c .first-of .ensures) (span-silent _))
 
 check-span-requires : tie.Need-check-span-requires Inv-loop μ-loop
-check-span-requires c κs = ((c .before .before .before .before .before .pre .linked), (c .before .before .before .before .before .pre .by-owner), (c .before .before .before .before .before .pre .accepted), omega (arith, (c .before .loop-test .taken), (c .before .before .before .before .row-count .ensures)), stands-kind _ _ (c .before .loop-test .taken) (c .before .before .before .before .row-count .ensures) ((c .before .before .loop .inv .0)))
+check-span-requires c κs = search (needs, stands-kind)
 
 next-of-requires : tie.Need-next-of-requires Inv-loop μ-loop
-next-of-requires c κs = ((c .before .before .before .before .before .before .before .pre .by-kind), (c .before .before .before .before .loop .inv .0), omega (arith, (c .before .before .before .loop-test .taken), (c .before .before .before .before .before .before .row-count .ensures)))
+next-of-requires c κs = search needs
 
 loop-less : tie.Need-loop-less Inv-loop μ-loop
 loop-less c = search needs
 
 loop-again : tie.Need-loop-again Inv-loop μ-loop
-loop-again c = (search needs, emit-next _ _ (c .next-of .ensures) (span-silent _) ((c .before .before .before .before .before .loop .inv .1)) (c .before .before .check-span .ensures))
+loop-again c = search (needs, emit-next, span-silent)
 
 same-length : tie.Need-same-length Inv-loop μ-loop
-same-length c = kept _ _ _ ((c .before .loop .inv .1))
+same-length c = search (needs, kept)
 
 returns : tie.Need-returns Inv-loop μ-loop
-returns c = emit-end _ _ _ _ _ (c .loop-test .left) (c .before .before .before .row-count .ensures) ((c .before .loop .inv .0)) ((c .before .loop .inv .1))
+returns c = search (needs, emit-end)
 
 pub check-spans-spec : {M : Type 1} → statement M
 check-spans-spec =

@@ -1,13 +1,12 @@
 use borrow.Author.Needs.{needs}
-use Rattle.check2_time_only.proofs.Told.{unplacedAt, unplaced-silent, unplaced-here, unplaced-whole, task-itself, activity-itself}
+use Rattle.check2_time_only.proofs.Told.{unplacedAt, unplaced-silent, unplaced-next, unplaced-told, task-itself, activity-itself}
 use Prim.Native.Nat.{_-_}
-use mathlib.Core.Path.{_≡_, refl, ap, _∙_}
-use native.Mathlib.Omega.{arith}
+use mathlib.Core.Path.{_≡_}
 use Rattle.loops.specs.Range.{collect}
 use Rattle.loops.specs.inner.Chain.{Stands}
 use Rattle.findings.specs.inner.Sink.{sink, emit}
 use Rattle.findings.proofs.SinkLaws.{kept}
-use Rattle.findings.proofs.Reports.{emit-first, emit-next, emit-end}
+use Rattle.findings.proofs.Reports.{emit-first, emit-end}
 use Rattle.rows.specs.Cells.{rowCount}
 use Rattle.owners.specs.inner.Owners.{ownedBy}
 use Rattle.check2_time_only.proofs.check_task.Statement.{statement}
@@ -23,28 +22,28 @@ row-count-requires : tie.Need-row-count-requires Inv-loop μ-loop
 row-count-requires c κs = search needs
 
 first-owned-requires : tie.Need-first-owned-requires Inv-loop μ-loop
-first-owned-requires c κs = ((c .before .pre .0), omega (arith, (c .before .pre .2)))
+first-owned-requires c κs = search needs
 
 loop-holds : tie.Need-loop-holds Inv-loop μ-loop
-loop-holds c = (search needs, emit-first _ _ (c .first-owned .ensures) (unplaced-silent _ _ (task-itself _ _ ((c .before .before .pre .1)) ((c .before .before .pre .2)) ((c .before .before .pre .3)))))
+loop-holds c = search (needs, emit-first, unplaced-silent, task-itself)
 
 check-unplaced-requires : tie.Need-check-unplaced-requires Inv-loop μ-loop
-check-unplaced-requires c κs = ((c .before .before .before .before .before .pre .0), activity-itself _ _ ((c .before .before .before .before .before .pre .1)) (c .before .loop-test .taken) (c .before .before .before .before .row-count .ensures) refl ((c .before .before .loop .inv .0)))
+check-unplaced-requires c κs = search (needs, activity-itself)
 
 next-owned-requires : tie.Need-next-owned-requires Inv-loop μ-loop
-next-owned-requires c κs = ((c .before .before .before .before .before .before .before .pre .0), (c .before .before .before .before .loop .inv .0), omega (arith, (c .before .before .before .loop-test .taken), (c .before .before .before .before .before .before .row-count .ensures)))
+next-owned-requires c κs = search needs
 
 loop-less : tie.Need-loop-less Inv-loop μ-loop
 loop-less c = search needs
 
 loop-again : tie.Need-loop-again Inv-loop μ-loop
-loop-again c = (search needs, emit-next _ _ (c .next-owned .ensures) (unplaced-silent _ _ (task-itself _ _ ((c .before .before .before .before .before .before .before .before .pre .1)) ((c .before .before .before .before .before .before .before .before .pre .2)) ((c .before .before .before .before .before .before .before .before .pre .3)))) ((c .before .before .before .before .before .loop .inv .1)) ((c .before .before .check-unplaced .ensures) ∙ ap (emit _) (unplaced-here _ _ (task-itself _ _ ((c .before .before .before .before .before .before .before .before .pre .1)) ((c .before .before .before .before .before .before .before .before .pre .2)) ((c .before .before .before .before .before .before .before .before .pre .3))) (c .before .before .before .before .loop-test .taken) (c .before .before .before .before .before .before .before .row-count .ensures) ((c .before .before .before .before .before .loop .inv .0)))))
+loop-again c = (search needs, search (needs, unplaced-next, task-itself))
 
 same-length : tie.Need-same-length Inv-loop μ-loop
-same-length c = kept _ _ _ ((c .before .loop .inv .1))
+same-length c = search (needs, kept)
 
 returns : tie.Need-returns Inv-loop μ-loop
-returns c = emit-end _ _ _ _ _ (c .loop-test .left) (c .before .before .before .row-count .ensures) ((c .before .loop .inv .0)) ((c .before .loop .inv .1)) ∙ ap (emit _) (unplaced-whole (c .before .before .before .before .args .rows .now) (c .before .before .before .before .args .t))
+returns c = search (needs, emit-end, unplaced-told)
 
 pub check-task-spec : {M : Type 1} → statement M
 check-task-spec =

@@ -1,13 +1,12 @@
 use borrow.Author.Needs.{needs}
-use Rattle.check2_time_only.proofs.Told.{taskUnplaced, tasks-silent, task-here, tasks-whole}
+use Rattle.check2_time_only.proofs.Told.{taskUnplaced, tasks-silent, tasks-next, tasks-told}
 use Prim.Native.Nat.{_-_}
-use mathlib.Core.Path.{_≡_, ap, _∙_}
-use native.Mathlib.Omega.{arith}
+use mathlib.Core.Path.{_≡_}
 use Rattle.loops.specs.Range.{collect}
 use Rattle.loops.specs.inner.Chain.{Stands}
 use Rattle.findings.specs.inner.Sink.{sink, emit}
 use Rattle.findings.proofs.SinkLaws.{kept}
-use Rattle.findings.proofs.Reports.{emit-first, emit-next, emit-end}
+use Rattle.findings.proofs.Reports.{emit-first, emit-end}
 use Rattle.rows.specs.Cells.{rowCount}
 use Rattle.sheet.specs.Places.{ofKind}
 use Rattle.model.proofs.Standing.{stands-kind}
@@ -24,28 +23,28 @@ row-count-requires : tie.Need-row-count-requires Inv-loop μ-loop
 row-count-requires c κs = search needs
 
 first-of-requires : tie.Need-first-of-requires Inv-loop μ-loop
-first-of-requires c κs = ((c .before .pre .by-kind), omega arith)
+first-of-requires c κs = search needs
 
 loop-holds : tie.Need-loop-holds Inv-loop μ-loop
 loop-holds c = (search needs, emit-first _ _ (c .first-of .ensures) (tasks-silent _))
 
 check-task-requires : tie.Need-check-task-requires Inv-loop μ-loop
-check-task-requires c κs = ((c .before .before .before .before .before .pre .by-owner), (c .before .before .before .before .before .pre .accepted), omega (arith, (c .before .loop-test .taken), (c .before .before .before .before .row-count .ensures)), stands-kind _ _ (c .before .loop-test .taken) (c .before .before .before .before .row-count .ensures) ((c .before .before .loop .inv .0)))
+check-task-requires c κs = search (needs, stands-kind)
 
 next-of-requires : tie.Need-next-of-requires Inv-loop μ-loop
-next-of-requires c κs = ((c .before .before .before .before .before .before .before .pre .by-kind), (c .before .before .before .before .loop .inv .0), omega (arith, (c .before .before .before .loop-test .taken), (c .before .before .before .before .before .before .row-count .ensures)))
+next-of-requires c κs = search needs
 
 loop-less : tie.Need-loop-less Inv-loop μ-loop
 loop-less c = search needs
 
 loop-again : tie.Need-loop-again Inv-loop μ-loop
-loop-again c = (search needs, emit-next _ _ (c .next-of .ensures) (tasks-silent _) ((c .before .before .before .before .before .loop .inv .1)) ((c .before .before .check-task .ensures) ∙ ap (emit _) (task-here _ _ (stands-kind _ _ (c .before .before .before .before .loop-test .taken) (c .before .before .before .before .before .before .before .row-count .ensures) ((c .before .before .before .before .before .loop .inv .0))))))
+loop-again c = (search needs, search (needs, tasks-next))
 
 same-length : tie.Need-same-length Inv-loop μ-loop
-same-length c = kept _ _ _ ((c .before .loop .inv .1))
+same-length c = search (needs, kept)
 
 returns : tie.Need-returns Inv-loop μ-loop
-returns c = emit-end _ _ _ _ _ (c .loop-test .left) (c .before .before .before .row-count .ensures) ((c .before .loop .inv .0)) ((c .before .loop .inv .1)) ∙ ap (emit _) (tasks-whole (c .before .before .before .before .args .rows .now))
+returns c = search (needs, emit-end, tasks-told)
 
 pub check-tasks-spec : {M : Type 1} → statement M
 check-tasks-spec =

@@ -1,5 +1,4 @@
 use borrow.Author.Needs.{needs}
-use mathlib.Core.Path.{_∙_}
 use Rattle.findings.proofs.SinkLaws.{kept, emit-then}
 use Rattle.definition.specs.CheckTimeOnly.{checkTimeOnly}
 use Rattle.check2_time_only.proofs.check_time_only.Statement.{statement}
@@ -12,11 +11,11 @@ check-tasks-requires : tie.Need-check-tasks-requires
 check-tasks-requires c κs = search needs
 
 same-length : tie.Need-same-length
-same-length c = kept _ _ _ (c .before .check-tasks .ensures) ∙ kept _ _ _ (c .before .before .before .before .check-spans .ensures)
+same-length c = search (needs, kept)
 
 returns : tie.Need-returns
 unfolding checkTimeOnly
-returns c = emit-then _ _ _ (c .before .before .before .before .check-spans .ensures) (c .before .check-tasks .ensures)
+returns c = search (needs, emit-then)
 
 pub check-time-only-spec : {M : Type 1} → statement M
 check-time-only-spec =

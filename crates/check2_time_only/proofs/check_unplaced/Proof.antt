@@ -1,7 +1,6 @@
 use borrow.Author.Needs.{needs}
 use Rattle.check2_time_only.proofs.Told.{free-told, held-told}
-use mathlib.Core.Path.{sym, _∙_}
-use native.Mathlib.Omega.{arith}
+use Rattle.sheet.proofs.Naming.{told}
 use Rattle.check2_time_only.proofs.check_unplaced.Statement.{statement}
 use Rattle.check2_time_only.proofs.check_unplaced.Tie as tie
 
@@ -15,7 +14,7 @@ row-count-requires : tie.Need-row-count-requires
 row-count-requires c κs = search needs
 
 is-seen-requires : tie.Need-is-seen-requires
-is-seen-requires c κs = ((c .before .before .before .before .pre .0), (c .before .before .before .before .pre .1), sym (c .before .before .before .is-free .ensures) ∙ (c .before .before .if1 .taken), omega (arith, (c .row-count .ensures)))
+is-seen-requires c κs = (search needs, search needs, search (needs, told), search needs)
 
 tell-requires : tie.Need-tell-requires
 tell-requires c κs = search needs
@@ -24,10 +23,10 @@ same-length : tie.Need-same-length
 same-length c = search needs
 
 returns : tie.Need-returns
-returns c = free-told _ _ _ (c .before .before .before .before .before .before .before .is-free .ensures) (c .before .before .before .before .before .before .if1 .taken) (c .before .before .before .before .row-count .ensures) (c .before .before .before .is-seen .ensures) ((c .before .before .before .before .before .id-at .ensures .0)) (c .before .tell .ensures)
+returns c = search (needs, free-told)
 
 returns-2 : tie.Need-returns-2
-returns-2 c = held-told (c .before .before .args .rows .now) (c .before .before .args .a) _ (c .before .is-free .ensures) (c .if1 .left)
+returns-2 c = search (needs, held-told)
 
 pub check-unplaced-spec : {M : Type 1} → statement M
 check-unplaced-spec =

@@ -15,7 +15,7 @@ returns : tie.Need-returns
 returns c = search needs
 
 returns-2 : tie.Need-returns-2
-returns-2 c = rw ((c .before .release .given .1), ← (c .before .before .before .num-at .ensures))
+returns-2 c = cc
 
 pub is-early-spec : {M : Type 1} → statement M
 is-early-spec = tie.close (tie.spec num-at-requires enum-known-release enum-told returns returns-2)

@@ -16,13 +16,13 @@ is-working-time-requires : tie.Need-is-working-time-requires
 is-working-time-requires c κs = search needs
 
 returns : tie.Need-returns
-returns c = outside-resumed _ _ _ _ _ ((c .before .before .before .before .before .before .pre .1)) (c .before .before .before .is-at .ensures) (c .before .before .if1 .taken) (c .before .before .before .before .before .num-at .ensures) (c .is-working-time .ensures)
+returns c = search (needs, outside-resumed)
 
 interval-fits-requires : tie.Need-interval-fits-requires
 interval-fits-requires c κs = search needs
 
 returns-2 : tie.Need-returns-2
-returns-2 c = outside-plain _ _ _ _ _ ((c .before .before .before .before .before .before .pre .1)) (c .before .before .before .is-at .ensures) (c .before .before .if1 .left) (c .before .before .before .before .before .num-at .ensures) (c .before .before .before .before .num-at2 .ensures) (c .interval-fits .ensures)
+returns-2 c = search (needs, outside-plain)
 
 pub is-outside-spec : {M : Type 1} → statement M
 is-outside-spec =

@@ -1,16 +1,12 @@
 use borrow.Author.Needs.{needs}
-use Rattle.check2_time_only.proofs.Spans.{spanned, spanned-blind, spanned-test, seen-are}
+use Rattle.check2_time_only.proofs.Spans.{up-to, spanned, spanned-blind, spanned-test, seen-hit, seen-none}
 use Prim.Native.Nat.{_-_}
-use mathlib.Core.Path.{_≡_, refl, sym, _∙_}
+use mathlib.Core.Path.{_≡_}
 use mathlib.Core.Bool.{false}
-use native.Mathlib.Omega.{arith}
 use Rattle.loops.specs.Search.{anyBelow}
 use Rattle.loops.specs.inner.Chain.{Stands}
-use Rattle.loops.proofs.SearchLaws.{any-hit}
-use Rattle.loops.proofs.PlaceLaws.{any-less}
 use Rattle.loops.proofs.Walks.{any-first, any-next}
 use Rattle.rows.specs.Cells.{rowCount}
-use Rattle.sheet.proofs.Lookups.{placed}
 use Rattle.owners.specs.inner.Owners.{ownedBy}
 use Rattle.check2_time_only.proofs.is_seen.Statement.{statement}
 use Rattle.check2_time_only.proofs.is_seen.Tie as tie
@@ -25,7 +21,7 @@ num-at-requires : tie.Need-num-at-requires Inv-loop μ-loop
 num-at-requires c κs = search needs
 
 first-owned-requires : tie.Need-first-owned-requires Inv-loop μ-loop
-first-owned-requires c κs = let h = placed _ _ _ _ ((c .before .pre .1)) .within in ((c .before .pre .0), omega (arith, h))
+first-owned-requires c κs = (search needs, search (needs, up-to))
 
 loop-holds : tie.Need-loop-holds Inv-loop μ-loop
 loop-holds c = (search needs, any-first _ (c .first-owned .ensures) (spanned-blind _ _))
@@ -34,19 +30,19 @@ is-at-requires : tie.Need-is-at-requires Inv-loop μ-loop
 is-at-requires c κs = search needs
 
 returns : tie.Need-returns Inv-loop μ-loop
-returns c = any-hit _ _ _ _ (c .before .before .loop-test .taken) refl (spanned-test _ _ (c .before .before .loop-test .taken) ((c .before .before .before .before .before .before .pre .3)) ((c .before .before .before .loop .inv .0)) (c .before .before .before .before .before .num-at .ensures) (c .before .is-at .ensures) (c .if1 .taken)) ∙ seen-are _ _ ((c .before .before .before .before .before .before .pre .1)) ((c .before .before .before .before .before .before .pre .2)) _
+returns c = search (needs, seen-hit)
 
 next-owned-requires : tie.Need-next-owned-requires Inv-loop μ-loop
-next-owned-requires c κs = ((c .before .before .before .before .before .before .pre .0), (c .before .before .before .loop .inv .0), omega (arith, (c .before .before .loop-test .taken), (c .before .before .before .before .before .before .pre .3)))
+next-owned-requires c κs = search needs
 
 loop-less : tie.Need-loop-less Inv-loop μ-loop
 loop-less c = search needs
 
 loop-again : tie.Need-loop-again Inv-loop μ-loop
-loop-again c = (search needs, any-next _ (c .next-owned .ensures) (spanned-blind _ _) ((c .before .before .before .before .loop .inv .1)) (spanned-test _ _ (c .before .before .before .loop-test .taken) ((c .before .before .before .before .before .before .before .pre .3)) ((c .before .before .before .before .loop .inv .0)) (c .before .before .before .before .before .before .num-at .ensures) (c .before .before .is-at .ensures) (c .before .if1 .left)))
+loop-again c = search (needs, any-next, spanned-blind, spanned-test)
 
 returns-2 : tie.Need-returns-2 Inv-loop μ-loop
-returns-2 c = sym (any-less _ _ _ ((c .before .loop .inv .1)) (c .loop-test .left)) ∙ seen-are _ _ ((c .before .before .before .before .pre .1)) ((c .before .before .before .before .pre .2)) _
+returns-2 c = search (needs, seen-none)
 
 pub is-seen-spec : {M : Type 1} → statement M
 is-seen-spec =

@@ -1,7 +1,5 @@
 use borrow.Author.Needs.{needs}
-use Rattle.check2_time_only.proofs.Told.{short-resumed, short-plain}
-use Rattle.model.proofs.Accepting.{accepted, at-most}
-use native.Mathlib.Omega.{arith}
+use Rattle.check2_time_only.proofs.Told.{end-fits, short-resumed, short-plain}
 use Rattle.check2_time_only.proofs.is_short.Statement.{statement}
 use Rattle.check2_time_only.proofs.is_short.Tie as tie
 
@@ -24,13 +22,13 @@ joint-available-ms-requires : tie.Need-joint-available-ms-requires
 joint-available-ms-requires c κs = search needs
 
 returns : tie.Need-returns
-returns c = short-resumed _ _ _ _ _ ((c .before .before .before .before .before .before .before .before .pre .4)) (c .before .before .before .before .is-at .ensures) (c .before .before .before .if1 .taken) ((c .before .before .before .before .before .before .before .work-of .ensures .0)) (c .before .before .before .before .before .before .num-at .ensures) (c .before .before .before .before .before .num-at2 .ensures) (c .joint-available-ms .ensures)
+returns c = search (needs, short-resumed)
 
 add-result : tie.Need-add-result
-add-result c = let h = at-most _ (accepted _ ((c .before .before .before .before .before .pre .0))) _ 24 3 ((c .before .before .before .before .before .pre .2)) in omega (arith, h, (c .before .before .before .num-at .ensures), (c .before .before .before .before .work-of .ensures .1))
+add-result c = search (needs, end-fits)
 
 returns-2 : tie.Need-returns-2
-returns-2 c = short-plain _ _ _ _ _ ((c .before .before .before .before .before .pre .4)) (c .before .is-at .ensures) (c .if1 .left) ((c .before .before .before .before .work-of .ensures .0)) (c .before .before .before .num-at .ensures) (c .before .before .num-at2 .ensures)
+returns-2 c = search (needs, short-plain)
 
 pub is-short-spec : {M : Type 1} → statement M
 is-short-spec =

@@ -1,6 +1,3 @@
-use mathlib.Core.Path.{sym, ap, ap₂, _∙_}
-use mathlib.Core.Bool.{_&&_}
-use Rattle.sheet.specs.inner.Found.{foundOf}
 use Rattle.owners.proofs.Links.{spans}
 use Rattle.check2_time_only.proofs.Spans.{unknown, linked-self, known-here, known-not, known-held}
 use borrow.Author.Needs.{needs}
@@ -17,25 +14,25 @@ enum-told : tie.Need-enum-told
 enum-told c = search needs
 
 returns : tie.Need-returns
-returns c = unknown _ _ ((c .before .before .before .pre .3)) (sym (ap foundOf ((c .enum-told .given .1))) ∙ (c .before .before .activity-of .ensures))
+returns c = search (needs, unknown)
 
 num-at-requires : tie.Need-num-at-requires
 num-at-requires c κs = search needs
 
 is-free-requires : tie.Need-is-free-requires
-is-free-requires c κs = (((c .before .before .before .before .before .pre .1)), linked-self _ _ ((c .before .before .before .before .before .pre .3)) (sym (ap foundOf ((c .before .before .a .given .1))) ∙ (c .before .before .before .before .activity-of .ensures)))
+is-free-requires c κs = (search needs, search (needs, linked-self))
 
 is-at-requires : tie.Need-is-at-requires
 is-at-requires c κs = search needs
 
 returns-2 : tie.Need-returns-2
-returns-2 c = known-here _ _ ((c .before .before .before .before .before .before .before .before .before .pre .3)) (sym (ap foundOf ((c .before .before .before .before .before .before .a .given .1))) ∙ (c .before .before .before .before .before .before .before .before .activity-of .ensures)) (c .before .before .before .before .num-at .ensures) (c .before .before .before .is-free .ensures) (c .before .is-at .ensures) (c .before .before .if1 .taken) (c .if2 .taken)
+returns-2 c = search (needs, known-here)
 
 returns-3 : tie.Need-returns-3
-returns-3 c = known-not _ _ ((c .before .before .before .before .before .before .before .before .before .pre .3)) (sym (ap foundOf ((c .before .before .before .before .before .before .a .given .1))) ∙ (c .before .before .before .before .before .before .before .before .activity-of .ensures)) (c .before .before .before .before .num-at .ensures) (c .before .before .before .is-free .ensures) (c .before .is-at .ensures) (ap₂ _&&_ (c .before .before .if1 .taken) (c .if2 .left))
+returns-3 c = search (needs, known-not)
 
 returns-4 : tie.Need-returns-4
-returns-4 c = known-held _ _ ((c .before .before .before .before .before .before .before .pre .3)) (sym (ap foundOf ((c .before .before .before .before .a .given .1))) ∙ (c .before .before .before .before .before .before .activity-of .ensures)) (c .before .is-free .ensures) (c .if1 .left)
+returns-4 c = search (needs, known-held)
 
 pub known-spec : {M : Type 1} → statement M
 known-spec =

@@ -1,8 +1,5 @@
 use borrow.Author.Needs.{needs}
-use Rattle.check2_time_only.proofs.Told.{work-most}
-use mathlib.Core.Path.{ap₂}
-use Prim.Native.Nat.{_+_}
-use native.Mathlib.Omega.{arith}
+use Rattle.check2_time_only.proofs.Told.{part-fits, work-fits, work-most}
 use Rattle.check2_time_only.proofs.work_of.Statement.{statement}
 use Rattle.check2_time_only.proofs.work_of.Tie as tie
 
@@ -16,13 +13,13 @@ num-at-requires-3 : tie.Need-num-at-requires-3
 num-at-requires-3 c κs = search needs
 
 add-result : tie.Need-add-result
-add-result c = let h = work-most _ _ 0 ((c .before .before .before .pre .0)) ((c .before .before .before .pre .1)) (c .before .before .num-at .ensures) (c .before .num-at2 .ensures) (c .num-at3 .ensures) in omega (arith, h)
+add-result c = search (needs, part-fits)
 
 add-result-2 : tie.Need-add-result-2
-add-result-2 c = let h = work-most _ _ 0 ((c .before .before .before .pre .0)) ((c .before .before .before .pre .1)) (c .before .before .num-at .ensures) (c .before .num-at2 .ensures) (c .num-at3 .ensures) in omega (arith, h)
+add-result-2 c = search (needs, work-fits)
 
 returns : tie.Need-returns
-returns c = (ap₂ _+_ (ap₂ _+_ (c .before .before .num-at .ensures) (c .before .num-at2 .ensures)) (c .num-at3 .ensures), work-most _ _ 0 ((c .before .before .before .pre .0)) ((c .before .before .before .pre .1)) (c .before .before .num-at .ensures) (c .before .num-at2 .ensures) (c .num-at3 .ensures))
+returns c = search (needs, work-most)
 
 pub work-of-spec : {M : Type 1} → statement M
 work-of-spec =

@@ -29,10 +29,10 @@ loop-holds : tie.Need-loop-holds Inv-loop μ-loop
 loop-holds c = (search needs, any-first _ (c .first-owned .ensures) (judged-blind _ _ _ _))
 
 unreached-at-requires : tie.Need-unreached-at-requires Inv-loop μ-loop
-unreached-at-requires c κs = ((c .before .before .before .before .pre .0), (c .before .before .before .before .pre .1), (c .before .before .before .before .pre .2), (c .before .before .before .before .pre .3), (c .before .before .before .before .pre .4), (c .before .before .before .before .pre .5), (c .before .before .before .before .pre .6), stands-owned _ _ (c .loop-test .taken) (c .before .before .before .row-count .ensures) ((c .before .loop .inv .0)))
+unreached-at-requires c κs = search (needs, stands-owned)
 
 returns : tie.Need-returns Inv-loop μ-loop
-returns c = any-hit _ _ _ _ (c .before .before .loop-test .taken) (c .before .before .before .before .before .row-count .ensures) (judged-here _ _ _ _ _ (c .before .unreached-at .ensures) (c .before .before .loop-test .taken) (c .before .before .before .before .before .row-count .ensures) ((c .before .before .before .loop .inv .0)) (c .if1 .taken))
+returns c = search (needs, any-hit, judged-here)
 
 next-owned-requires : tie.Need-next-owned-requires Inv-loop μ-loop
 next-owned-requires c κs = search needs
@@ -41,10 +41,10 @@ loop-less : tie.Need-loop-less Inv-loop μ-loop
 loop-less c = search needs
 
 loop-again : tie.Need-loop-again Inv-loop μ-loop
-loop-again c = (search needs, any-next _ (c .next-owned .ensures) (judged-blind _ _ _ _) ((c .before .before .before .before .loop .inv .1)) (judged-not _ _ _ _ _ (c .before .before .unreached-at .ensures) (c .before .if1 .left)))
+loop-again c = (search needs, any-next _ (c .next-owned .ensures) (judged-blind _ _ _ _) (search needs) (search (needs, judged-not)))
 
 returns-2 : tie.Need-returns-2 Inv-loop μ-loop
-returns-2 c = any-end _ _ _ _ (c .loop-test .left) (c .before .before .before .row-count .ensures) ((c .before .loop .inv .0)) ((c .before .loop .inv .1))
+returns-2 c = search (needs, any-end)
 
 pub any-unreached-spec : {M : Type 1} → statement M
 any-unreached-spec =

@@ -1,5 +1,3 @@
-use mathlib.Core.Path.{sym, ap, _∙_}
-use Rattle.sheet.specs.inner.Found.{foundOf}
 use Rattle.check7_early_piece.proofs.Judged.{some-booked, none-booked}
 use borrow.Author.Needs.{needs}
 use Rattle.check7_early_piece.proofs.piece_is_early.Statement.{statement}
@@ -24,13 +22,13 @@ span-starts-before-requires : tie.Need-span-starts-before-requires
 span-starts-before-requires c κs = search needs
 
 returns : tie.Need-returns
-returns c = none-booked _ ((c .before .before .before .before .before .before .pre .0)) _ ((c .before .before .before .before .before .before .pre .6)) ((c .before .before .before .before .before .before .pre .7)) _ _ (sym (ap foundOf ((c .before .before .before .enum-told2 .given .1))) ∙ (c .before .before .before .before .before .find-owned .ensures)) (c .span-starts-before .ensures) (c .before .activity-span .ensures) (c .before .before .num-at .ensures)
+returns c = search none-booked fits 20000
 
 any-unreached-requires : tie.Need-any-unreached-requires
 any-unreached-requires c κs = search needs
 
 returns-2 : tie.Need-returns-2
-returns-2 c = some-booked _ ((c .before .before .before .before .pre .0)) _ ((c .before .before .before .before .pre .6)) ((c .before .before .before .before .pre .7)) _ _ _ (sym (ap foundOf ((c .before .enum-told .given .1))) ∙ (c .before .before .before .find-owned .ensures)) (c .any-unreached .ensures)
+returns-2 c = search some-booked fits 20000
 
 pub piece-is-early-spec : {M : Type 1} → statement M
 piece-is-early-spec =

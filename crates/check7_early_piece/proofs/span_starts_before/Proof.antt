@@ -1,4 +1,4 @@
-use mathlib.Core.Path.{refl}
+use Rattle.check7_early_piece.proofs.Judged.{span-starts}
 use borrow.Author.Needs.{needs}
 use Rattle.check7_early_piece.proofs.span_starts_before.Statement.{statement}
 use Rattle.check7_early_piece.proofs.span_starts_before.Tie as tie
@@ -13,7 +13,7 @@ returns : tie.Need-returns
 returns c = search needs
 
 returns-2 : tie.Need-returns-2
-returns-2 c = rw ((c .before .x .given .1)) refl
+returns-2 c = search (needs, span-starts)
 
 pub span-starts-before-spec : {M : Type 1} → statement M
 span-starts-before-spec = tie.close (tie.spec enum-known-x enum-told returns returns-2)

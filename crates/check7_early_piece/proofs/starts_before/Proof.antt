@@ -1,11 +1,12 @@
 use borrow.Author.Needs.{needs}
-use mathlib.Core.Path.{_≡_, sym, _∙_}
+use mathlib.Core.Path.{_≡_}
 use mathlib.Core.Bool.{false}
 use Prim.Native.Nat.{_-_}
 use Rattle.loops.specs.Search.{anyBelow}
 use Rattle.loops.specs.inner.Chain.{Stands}
 use Rattle.loops.proofs.SearchLaws.{any-hit}
 use Rattle.loops.proofs.Walks.{any-first, any-next, any-end}
+use Rattle.sheet.proofs.Naming.{told}
 use Rattle.rows.specs.Cells.{rowCount}
 use Rattle.owners.specs.inner.Owners.{ownedBy}
 use Rattle.check7_early_piece.specs.inner.Reached.{startsAt}
@@ -26,13 +27,13 @@ first-owned-requires : tie.Need-first-owned-requires Inv-loop μ-loop
 first-owned-requires c κs = search needs
 
 loop-holds : tie.Need-loop-holds Inv-loop μ-loop
-loop-holds c = (search needs, any-first _ (c .first-owned .ensures) (starts-blind _ _ _ _ ((c .before .before .pre .2))))
+loop-holds c = (search needs, search (needs, any-first, starts-blind))
 
 starts-at-requires : tie.Need-starts-at-requires Inv-loop μ-loop
 starts-at-requires c κs = search needs
 
 returns : tie.Need-returns Inv-loop μ-loop
-returns c = any-hit _ _ _ _ (c .before .before .loop-test .taken) (c .before .before .before .before .before .row-count .ensures) (sym (c .before .starts-at .ensures) ∙ (c .if1 .taken))
+returns c = search (needs, told, any-hit)
 
 next-owned-requires : tie.Need-next-owned-requires Inv-loop μ-loop
 next-owned-requires c κs = search needs
@@ -41,10 +42,10 @@ loop-less : tie.Need-loop-less Inv-loop μ-loop
 loop-less c = search needs
 
 loop-again : tie.Need-loop-again Inv-loop μ-loop
-loop-again c = (search needs, any-next _ (c .next-owned .ensures) (starts-blind _ _ _ _ ((c .before .before .before .before .before .before .before .pre .2))) ((c .before .before .before .before .loop .inv .1)) (sym (c .before .before .starts-at .ensures) ∙ (c .before .if1 .left)))
+loop-again c = (search needs, search (needs, any-next, starts-blind, told))
 
 returns-2 : tie.Need-returns-2 Inv-loop μ-loop
-returns-2 c = any-end _ _ _ _ (c .loop-test .left) (c .before .before .before .row-count .ensures) ((c .before .loop .inv .0)) ((c .before .loop .inv .1))
+returns-2 c = search (needs, any-end)
 
 pub starts-before-spec : {M : Type 1} → statement M
 starts-before-spec =

@@ -16,7 +16,7 @@ starts-before-requires : tie.Need-starts-before-requires
 starts-before-requires c κs = search needs
 
 returns : tie.Need-returns
-returns c = unreached-told _ _ _ _ (c .starts-before .ensures) ((c .before .moved-to .ensures .0)) (c .before .before .num-at .ensures)
+returns c = search (needs, unreached-told)
 
 pub unreached-at-spec : {M : Type 1} → statement M
 unreached-at-spec =

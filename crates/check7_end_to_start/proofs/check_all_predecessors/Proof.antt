@@ -1,15 +1,14 @@
 use borrow.Author.Needs.{needs}
 use Prim.Native.Nat.{_-_}
-use mathlib.Core.Path.{_≡_, ap, _∙_}
-use native.Mathlib.Omega.{arith}
+use mathlib.Core.Path.{_≡_}
 use Rattle.loops.specs.inner.Chain.{Stands}
 use Rattle.loops.specs.Range.{collect}
 use Rattle.findings.specs.inner.Sink.{sink, emit}
 use Rattle.findings.proofs.SinkLaws.{kept}
-use Rattle.findings.proofs.Reports.{emit-first, emit-next, emit-end}
+use Rattle.findings.proofs.Reports.{emit-first, emit-end}
 use Rattle.rows.specs.Cells.{rowCount, num}
 use Rattle.owners.specs.inner.Owners.{ownedBy}
-use Rattle.check7_end_to_start.proofs.Told.{activityTold, activity-silent, activity-told, activities-all, stands-activity}
+use Rattle.check7_end_to_start.proofs.Told.{activityTold, activity-silent, activity-next, activities-told, stands-activity}
 use Rattle.check7_end_to_start.proofs.check_all_predecessors.Statement.{statement}
 use Rattle.check7_end_to_start.proofs.check_all_predecessors.Tie as tie
 use Rattle.model.proofs.Accepting.{task-at}
@@ -24,13 +23,13 @@ row-count-requires : tie.Need-row-count-requires Inv-loop μ-loop
 row-count-requires c κs = search needs
 
 first-owned-requires : tie.Need-first-owned-requires Inv-loop μ-loop
-first-owned-requires c κs = ((c .before .pre .2), omega (arith, (c .before .pre .3)))
+first-owned-requires c κs = search needs
 
 loop-holds : tie.Need-loop-holds Inv-loop μ-loop
-loop-holds c = (search needs, emit-first _ _ (c .first-owned .ensures) (activity-silent _ _ _ (task-at _ ((c .before .before .pre .0)) _ ((c .before .before .pre .3)) ((c .before .before .pre .4)))))
+loop-holds c = (search needs, search (needs, emit-first, activity-silent, task-at))
 
 check-predecessors-requires : tie.Need-check-predecessors-requires Inv-loop μ-loop
-check-predecessors-requires c κs = ((c .before .before .before .before .before .pre .0), (c .before .before .before .before .before .pre .1), (c .before .before .before .before .before .pre .2), omega (arith, (c .before .loop-test .taken), (c .before .before .before .before .row-count .ensures)), stands-activity _ _ (c .before .loop-test .taken) (c .before .before .before .before .row-count .ensures) ((c .before .before .loop .inv .0)))
+check-predecessors-requires c κs = search (needs, stands-activity)
 
 next-owned-requires : tie.Need-next-owned-requires Inv-loop μ-loop
 next-owned-requires c κs = search needs
@@ -39,13 +38,13 @@ loop-less : tie.Need-loop-less Inv-loop μ-loop
 loop-less c = search needs
 
 loop-again : tie.Need-loop-again Inv-loop μ-loop
-loop-again c = (search needs, emit-next _ _ (c .next-owned .ensures) (activity-silent _ _ _ (task-at _ ((c .before .before .before .before .before .before .before .before .pre .0)) _ ((c .before .before .before .before .before .before .before .before .pre .3)) ((c .before .before .before .before .before .before .before .before .pre .4)))) ((c .before .before .before .before .before .loop .inv .1)) (activity-told _ _ _ (task-at _ ((c .before .before .before .before .before .before .before .before .pre .0)) _ ((c .before .before .before .before .before .before .before .before .pre .3)) ((c .before .before .before .before .before .before .before .before .pre .4))) _ _ _ _ (c .before .before .before .before .loop-test .taken) (c .before .before .before .before .before .before .before .row-count .ensures) ((c .before .before .before .before .before .loop .inv .0)) (c .before .before .check-predecessors .ensures)))
+loop-again c = (search needs, search (needs, activity-next, task-at))
 
 same-length : tie.Need-same-length Inv-loop μ-loop
-same-length c = kept _ _ _ ((c .before .loop .inv .1))
+same-length c = search (needs, kept)
 
 returns : tie.Need-returns Inv-loop μ-loop
-returns c = emit-end _ _ _ _ _ (c .loop-test .left) (c .before .before .before .row-count .ensures) ((c .before .loop .inv .0)) ((c .before .loop .inv .1)) ∙ ap (emit _) (activities-all ((c .before .before .before .before .args .rows .now)) (num ((c .before .before .before .before .args .rows .now)) ((c .before .before .before .before .args .t)) 1))
+returns c = search (needs, emit-end, activities-told)
 
 pub check-all-predecessors-spec : {M : Type 1} → statement M
 check-all-predecessors-spec =

@@ -1,5 +1,4 @@
-use borrow.Author.Needs.{needs, sfits-of}
-use mir.Facts.{toZ-ofZ}
+use borrow.Author.Needs.{needs}
 use Rattle.findings.proofs.SinkLaws.{kept}
 use Rattle.check7_end_to_start.proofs.Told.{constraint-told}
 use Rattle.check7_end_to_start.proofs.Bounds.{delay-most}
@@ -16,13 +15,13 @@ cell-at-requires : tie.Need-cell-at-requires
 cell-at-requires c κs = search needs
 
 end-to-start-requires : tie.Need-end-to-start-requires
-end-to-start-requires c κs = ((c .before .before .before .before .pre .0), (c .before .before .before .before .pre .1), rw (toZ-ofZ (sfits-of (c .before .cell-at .ok)), (c .before .cell-at .ensures)) (delay-most _ ((c .before .before .before .before .pre .0)) _ ((c .before .before .before .before .pre .2))), (c .before .before .id-at .ensures .1))
+end-to-start-requires c κs = search (needs, delay-most)
 
 same-length : tie.Need-same-length
-same-length c = kept _ _ _ (c .before .end-to-start .ensures)
+same-length c = search (needs, kept)
 
 returns : tie.Need-returns
-returns c = constraint-told _ _ _ ((c .before .before .before .before .before .before .pre .2)) (c .before .before .before .before .before .num-at .ensures) ((c .before .before .before .before .id-at .ensures .0)) (c .before .before .before .cell-at .ensures) (rw (toZ-ofZ (sfits-of (c .before .before .before .cell-at .ok))) at (c .before .end-to-start .ensures))
+returns c = search (needs, constraint-told)
 
 pub check-precedence-constraint-spec : {M : Type 1} → statement M
 check-precedence-constraint-spec =

@@ -1,6 +1,6 @@
 use borrow.Author.Needs.{needs}
 use Prim.Native.Nat.{_-_}
-use mathlib.Core.Path.{_≡_, ap, _∙_}
+use mathlib.Core.Path.{_≡_}
 use Rattle.loops.specs.inner.Chain.{Stands}
 use Rattle.loops.specs.Range.{collect}
 use Rattle.findings.specs.inner.Sink.{sink, emit}
@@ -9,7 +9,7 @@ use Rattle.findings.proofs.Reports.{emit-first, emit-next, emit-end}
 use Rattle.rows.specs.Cells.{rowCount}
 use Rattle.sheet.specs.Places.{ofKind}
 use Rattle.model.proofs.Standing.{stands-kind}
-use Rattle.check7_end_to_start.proofs.Told.{constraintTold, constraint-silent, constraints-all}
+use Rattle.check7_end_to_start.proofs.Told.{constraintTold, constraint-silent, constraints-told}
 use Rattle.check7_end_to_start.proofs.check_precedence_constraints.Statement.{statement}
 use Rattle.check7_end_to_start.proofs.check_precedence_constraints.Tie as tie
 
@@ -29,7 +29,7 @@ loop-holds : tie.Need-loop-holds Inv-loop μ-loop
 loop-holds c = (search needs, emit-first _ _ (c .first-of .ensures) (constraint-silent _))
 
 check-precedence-constraint-requires : tie.Need-check-precedence-constraint-requires Inv-loop μ-loop
-check-precedence-constraint-requires c κs = ((c .before .before .before .before .before .pre .0), (c .before .before .before .before .before .pre .1), stands-kind _ _ (c .before .loop-test .taken) (c .before .before .before .before .row-count .ensures) ((c .before .before .loop .inv .0)))
+check-precedence-constraint-requires c κs = search (needs, stands-kind)
 
 next-of-requires : tie.Need-next-of-requires Inv-loop μ-loop
 next-of-requires c κs = search needs
@@ -38,13 +38,13 @@ loop-less : tie.Need-loop-less Inv-loop μ-loop
 loop-less c = search needs
 
 loop-again : tie.Need-loop-again Inv-loop μ-loop
-loop-again c = (search needs, emit-next _ _ (c .next-of .ensures) (constraint-silent _) ((c .before .before .before .before .before .loop .inv .1)) (c .before .before .check-precedence-constraint .ensures))
+loop-again c = search (needs, emit-next, constraint-silent)
 
 same-length : tie.Need-same-length Inv-loop μ-loop
-same-length c = kept _ _ _ ((c .before .loop .inv .1))
+same-length c = search (needs, kept)
 
 returns : tie.Need-returns Inv-loop μ-loop
-returns c = emit-end _ _ _ _ _ (c .loop-test .left) (c .before .before .before .row-count .ensures) ((c .before .loop .inv .0)) ((c .before .loop .inv .1)) ∙ ap (emit _) (constraints-all ((c .before .before .before .before .args .rows .now)))
+returns c = search (needs, emit-end, constraints-told)
 
 pub check-precedence-constraints-spec : {M : Type 1} → statement M
 check-precedence-constraints-spec =

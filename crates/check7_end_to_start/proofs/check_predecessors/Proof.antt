@@ -1,15 +1,14 @@
 use borrow.Author.Needs.{needs}
 use Prim.Native.Nat.{_-_}
-use mathlib.Core.Path.{_≡_, ap, _∙_}
-use native.Mathlib.Omega.{arith}
+use mathlib.Core.Path.{_≡_}
 use Rattle.loops.specs.inner.Chain.{Stands}
 use Rattle.loops.specs.Range.{collect}
 use Rattle.findings.specs.inner.Sink.{sink, emit}
 use Rattle.findings.proofs.SinkLaws.{kept}
-use Rattle.findings.proofs.Reports.{emit-first, emit-next, emit-end}
+use Rattle.findings.proofs.Reports.{emit-first, emit-end}
 use Rattle.rows.specs.Cells.{rowCount, num}
 use Rattle.owners.specs.inner.Owners.{ownedBy}
-use Rattle.check7_end_to_start.proofs.Told.{predecessorAt, predecessor-silent, predecessor-told, predecessors-all}
+use Rattle.check7_end_to_start.proofs.Told.{predecessorAt, predecessor-silent, predecessor-told, predecessor-next, predecessors-told}
 use Rattle.check7_end_to_start.proofs.check_predecessors.Statement.{statement}
 use Rattle.check7_end_to_start.proofs.check_predecessors.Tie as tie
 use Rattle.model.proofs.Accepting.{activity-at}
@@ -27,16 +26,16 @@ id-at-requires : tie.Need-id-at-requires Inv-loop μ-loop
 id-at-requires c κs = search needs
 
 first-owned-requires : tie.Need-first-owned-requires Inv-loop μ-loop
-first-owned-requires c κs = ((c .before .before .pre .2), omega (arith, (c .before .before .pre .3)))
+first-owned-requires c κs = search needs
 
 loop-holds : tie.Need-loop-holds Inv-loop μ-loop
-loop-holds c = (search needs, emit-first _ _ (c .first-owned .ensures) (predecessor-silent _ _ _ (activity-at _ ((c .before .before .before .pre .0)) _ ((c .before .before .before .pre .3)) ((c .before .before .before .pre .4)))))
+loop-holds c = (search needs, search (needs, emit-first, predecessor-silent, activity-at))
 
 num-at-requires : tie.Need-num-at-requires Inv-loop μ-loop
 num-at-requires c κs = search needs
 
 end-to-start-requires : tie.Need-end-to-start-requires Inv-loop μ-loop
-end-to-start-requires c κs = ((c .before .before .before .before .before .before .before .pre .0), (c .before .before .before .before .before .before .before .pre .1), search needs, (c .before .before .before .before .before .id-at .ensures .1))
+end-to-start-requires c κs = search needs
 
 next-owned-requires : tie.Need-next-owned-requires Inv-loop μ-loop
 next-owned-requires c κs = search needs
@@ -45,13 +44,13 @@ loop-less : tie.Need-loop-less Inv-loop μ-loop
 loop-less c = search needs
 
 loop-again : tie.Need-loop-again Inv-loop μ-loop
-loop-again c = (search needs, emit-next _ _ (c .next-owned .ensures) (predecessor-silent _ _ _ (activity-at _ ((c .before .before .before .before .before .before .before .before .before .before .pre .0)) _ ((c .before .before .before .before .before .before .before .before .before .before .pre .3)) ((c .before .before .before .before .before .before .before .before .before .before .pre .4)))) ((c .before .before .before .before .before .before .loop .inv .1)) (predecessor-told _ _ _ (activity-at _ ((c .before .before .before .before .before .before .before .before .before .before .pre .0)) _ ((c .before .before .before .before .before .before .before .before .before .before .pre .3)) ((c .before .before .before .before .before .before .before .before .before .before .pre .4))) _ _ _ _ (c .before .before .before .before .before .loop-test .taken) (c .before .before .before .before .before .before .before .before .before .row-count .ensures) ((c .before .before .before .before .before .before .loop .inv .0)) (c .before .before .before .before .num-at .ensures) ((c .before .before .before .before .before .before .before .before .id-at .ensures .0)) (c .before .before .end-to-start .ensures)))
+loop-again c = (search needs, predecessor-next _ _ _ _ (c .next-owned .ensures) (search needs) (search needs) (search activity-at) (search predecessor-told))
 
 same-length : tie.Need-same-length Inv-loop μ-loop
-same-length c = kept _ _ _ ((c .before .loop .inv .1))
+same-length c = search (needs, kept)
 
 returns : tie.Need-returns Inv-loop μ-loop
-returns c = emit-end _ _ _ _ _ (c .loop-test .left) (c .before .before .before .before .row-count .ensures) ((c .before .loop .inv .0)) ((c .before .loop .inv .1)) ∙ ap (emit _) (predecessors-all ((c .before .before .before .before .before .args .rows .now)) (num ((c .before .before .before .before .before .args .rows .now)) ((c .before .before .before .before .before .args .o)) 1))
+returns c = search (needs, emit-end, predecessors-told)
 
 pub check-predecessors-spec : {M : Type 1} → statement M
 check-predecessors-spec =

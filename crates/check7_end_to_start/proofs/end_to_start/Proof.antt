@@ -1,6 +1,3 @@
-use mir.Syntax.{w64}
-use mir.Val.{SFits}
-use mir.Facts.{toZ-ofZ}
 use Rattle.findings.proofs.SinkLaws.{kept}
 use Rattle.check7_end_to_start.proofs.Told.{early-told}
 use borrow.Author.Needs.{needs}
@@ -14,10 +11,10 @@ report-requires : tie.Need-report-requires
 report-requires c κs = search needs
 
 same-length : tie.Need-same-length
-same-length c = kept _ _ _ (c .before .report .ensures)
+same-length c = search (needs, kept)
 
 returns : tie.Need-returns
-returns c = let f : SFits w64 ((c .before .before .before .before .args .delay)) = search needs in early-told _ _ _ _ _ (rw (toZ-ofZ f) at (c .before .before .before .starts-early .ensures)) (c .before .report .ensures)
+returns c = search (needs, early-told)
 
 pub end-to-start-spec : {M : Type 1} → statement M
 end-to-start-spec = tie.close (tie.spec starts-early-requires report-requires same-length returns)

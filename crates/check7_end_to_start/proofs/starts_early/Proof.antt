@@ -1,8 +1,5 @@
-use mir.Syntax.{w64}
-use mir.Val.{SFits}
-use mir.Facts.{toZ-ofZ}
 use Rattle.check7_end_to_start.proofs.Told.{no-first, no-second, both-run}
-use Rattle.check7_end_to_start.proofs.Bounds.{span-most}
+use Rattle.check7_end_to_start.proofs.Bounds.{start-most, end-most}
 use borrow.Author.Needs.{needs}
 use Rattle.check7_end_to_start.proofs.starts_early.Statement.{statement}
 use Rattle.check7_end_to_start.proofs.starts_early.Tie as tie
@@ -17,7 +14,7 @@ enum-told : tie.Need-enum-told
 enum-told c = search needs
 
 returns : tie.Need-returns
-returns c = no-first _ _ _ _ (c .before .before .activity-span .ensures) ((c .enum-told .given .1))
+returns c = search (needs, no-first)
 
 activity-span-requires-2 : tie.Need-activity-span-requires-2
 activity-span-requires-2 c κs = search needs
@@ -29,13 +26,13 @@ enum-told-2 : tie.Need-enum-told-2
 enum-told-2 c = search needs
 
 returns-2 : tie.Need-returns-2
-returns-2 c = no-second _ _ _ _ (c .before .before .before .before .before .before .activity-span .ensures) ((c .before .before .before .before .first .given .1)) (c .before .before .activity-span2 .ensures) ((c .enum-told2 .given .1))
+returns-2 c = search (needs, no-second)
 
 is-before-requires : tie.Need-is-before-requires
-is-before-requires c κs = (span-most _ ((c .before .before .before .before .before .before .before .before .pre .0)) _ (c .before .before .before .activity-span2 .ensures) ((c .before .second .given .1)) .0, span-most _ ((c .before .before .before .before .before .before .before .before .pre .0)) _ (c .before .before .before .before .before .before .before .activity-span .ensures) ((c .before .before .before .before .before .first .given .1)) .1, search needs)
+is-before-requires c κs = search (needs, start-most, end-most)
 
 returns-3 : tie.Need-returns-3
-returns-3 c = let f : SFits w64 ((c .before .before .before .before .before .before .before .before .before .args .delay)) = search needs in both-run _ _ _ _ (c .before .before .before .before .before .before .before .before .activity-span .ensures) ((c .before .before .before .before .before .before .first .given .1)) (c .before .before .before .before .activity-span2 .ensures) ((c .before .before .second .given .1)) (rw (toZ-ofZ f) at (c .is-before .ensures))
+returns-3 c = search (needs, both-run)
 
 pub starts-early-spec : {M : Type 1} → statement M
 starts-early-spec =

@@ -1,7 +1,5 @@
-use mathlib.Core.Path.{sym, ap, _∙_}
-use Rattle.sheet.specs.inner.Found.{foundOf}
 use Rattle.model.proofs.Accepting.{accepted, activity-at}
-use Rattle.check7_end_to_start.proofs.Bounds.{span-most}
+use Rattle.check7_end_to_start.proofs.Bounds.{start-most, end-most}
 use Rattle.check7_pair.proofs.Overlapping.{overlap-row, no-overlap, first-kind}
 use Rattle.check7_pair.proofs.Told.{no-previous, in-order, overlapping}
 use borrow.Author.Needs.{needs}
@@ -21,7 +19,7 @@ enum-told : tie.Need-enum-told
 enum-told c = search needs
 
 returns : tie.Need-returns
-returns c = no-previous _ _ _ _ (c .before .before .activity-span .ensures) (c .before .before .before .num-at .ensures) ((c .enum-told .given .1))
+returns c = search (needs, no-previous)
 
 find-owned-requires : tie.Need-find-owned-requires
 find-owned-requires c κs = search needs
@@ -33,22 +31,22 @@ enum-told-2 : tie.Need-enum-told-2
 enum-told-2 c = search needs
 
 report-early-requires : tie.Need-report-early-requires
-report-early-requires c κs = ((accepted _ ((c .before .before .before .before .before .before .before .before .before .pre .0 .accepted))), (c .before .before .before .before .before .before .before .before .before .pre .0 .by-kind), (c .before .before .before .before .before .before .before .before .before .pre .0 .linked), (c .before .before .before .before .before .before .before .before .before .pre .0 .by-owner), ((c .before .before .before .before .before .before .before .before .before .pre .1)), ((c .before .before .before .before .before .before .before .before .before .pre .2)), ((c .before .before .before .before .before .before .before .before .before .pre .3)), ((c .before .before .before .before .before .before .before .before .before .pre .4)), span-most _ (accepted _ ((c .before .before .before .before .before .before .before .before .before .pre .0 .accepted))) _ (c .before .before .before .before .before .before .before .activity-span .ensures) ((c .before .before .before .before .before .previous .given .1)) .1)
+report-early-requires c κs = (search (needs, accepted), search needs, search needs, search needs, search needs, search needs, search needs, search needs, search (needs, end-most, accepted))
 
 same-length : tie.Need-same-length
 same-length c = search needs
 
 returns-2 : tie.Need-returns-2
-returns-2 c = in-order _ _ _ _ (c .before .before .before .before .before .before .before .before .before .activity-span .ensures) (c .before .before .before .before .before .before .before .before .before .before .num-at .ensures) ((c .before .before .before .before .before .before .before .previous .given .1)) (no-overlap _ _ _ (activity-at _ (accepted _ ((c .before .before .before .before .before .before .before .before .before .before .before .pre .0 .accepted))) _ ((c .before .before .before .before .before .before .before .before .before .before .before .pre .3)) ((c .before .before .before .before .before .before .before .before .before .before .before .pre .4))) (sym (ap foundOf ((c .before .before .before .enum-told2 .given .1))) ∙ (c .before .before .before .before .before .find-owned .ensures))) (c .before .report-early .ensures)
+returns-2 c = search (needs, in-order, no-overlap, activity-at, accepted)
 
 check-overlapping-requires : tie.Need-check-overlapping-requires
-check-overlapping-requires c κs = ((accepted _ ((c .before .before .before .before .before .before .before .before .before .before .pre .0 .accepted))), (c .before .before .before .before .before .before .before .before .before .before .pre .0 .by-kind), (c .before .before .before .before .before .before .before .before .before .before .pre .0 .linked), (c .before .before .before .before .before .before .before .before .before .before .pre .0 .by-owner), ((c .before .before .before .before .before .before .before .before .before .before .pre .1)), ((c .before .before .before .before .before .before .before .before .before .before .pre .2)), ((c .before .before .before .before .before .before .before .before .before .before .pre .3)), ((c .before .before .before .before .before .before .before .before .before .before .pre .4)), span-most _ (accepted _ ((c .before .before .before .before .before .before .before .before .before .before .pre .0 .accepted))) _ (c .before .before .before .before .before .before .before .before .activity-span .ensures) ((c .before .before .before .before .before .before .previous .given .1)) .0, span-most _ (accepted _ ((c .before .before .before .before .before .before .before .before .before .before .pre .0 .accepted))) _ (c .before .before .before .before .before .before .before .before .activity-span .ensures) ((c .before .before .before .before .before .before .previous .given .1)) .1, first-kind _ _ _ (activity-at _ (accepted _ ((c .before .before .before .before .before .before .before .before .before .before .pre .0 .accepted))) _ ((c .before .before .before .before .before .before .before .before .before .before .pre .3)) ((c .before .before .before .before .before .before .before .before .before .before .pre .4))) _ (sym (ap foundOf ((c .before .before .k .given .1))) ∙ (c .before .before .before .before .find-owned .ensures)))
+check-overlapping-requires c κs = (search (needs, accepted), search needs, search needs, search needs, search needs, search needs, search needs, search needs, search (needs, start-most, accepted), search (needs, end-most, accepted), search (needs, first-kind))
 
 same-length-2 : tie.Need-same-length-2
 same-length-2 c = search needs
 
 returns-3 : tie.Need-returns-3
-returns-3 c = overlapping _ _ _ _ (c .before .before .before .before .before .before .before .before .before .before .activity-span .ensures) (c .before .before .before .before .before .before .before .before .before .before .before .num-at .ensures) ((c .before .before .before .before .before .before .before .before .previous .given .1)) (overlap-row _ _ _ (activity-at _ (accepted _ ((c .before .before .before .before .before .before .before .before .before .before .before .before .pre .0 .accepted))) _ ((c .before .before .before .before .before .before .before .before .before .before .before .before .pre .3)) ((c .before .before .before .before .before .before .before .before .before .before .before .before .pre .4))) _ (sym (ap foundOf ((c .before .before .before .before .k .given .1))) ∙ (c .before .before .before .before .before .before .find-owned .ensures))) (c .before .check-overlapping .ensures)
+returns-3 c = search (needs, overlapping, overlap-row, activity-at, accepted)
 
 pub check-pair-spec : {M : Type 1} → statement M
 check-pair-spec =

@@ -1,7 +1,4 @@
-use mir.Syntax.{w64}
-use mir.Val.{SFits}
-use mir.Facts.{toZ-ofZ}
-use Rattle.check7_end_to_start.proofs.Bounds.{span-most}
+use Rattle.check7_end_to_start.proofs.Bounds.{end-most}
 use Rattle.check7_pair.proofs.Told.{no-end, end-is}
 use borrow.Author.Needs.{needs}
 use Rattle.check7_pair.proofs.ends_early.Statement.{statement}
@@ -20,16 +17,16 @@ enum-told : tie.Need-enum-told
 enum-told c = search needs
 
 returns : tie.Need-returns
-returns c = no-end _ _ _ _ (c .before .before .activity-span .ensures) (c .before .before .before .num-at .ensures) (c .enum-told .given .1)
+returns c = search (needs, no-end)
 
 moved-between-requires : tie.Need-moved-between-requires
 moved-between-requires c κs = search needs
 
 is-before-requires : tie.Need-is-before-requires
-is-before-requires c κs = (span-most _ (c .before .before .before .before .before .before .pre .0) _ (c .before .before .before .before .activity-span .ensures) (c .before .before .x .given .1) .1, search needs, search needs)
+is-before-requires c κs = (search (needs, end-most), search needs, search needs)
 
 returns-2 : tie.Need-returns-2
-returns-2 c = let f : SFits w64 (c .before .before .before .before .before .before .before .args .earliest) = search needs in end-is _ _ _ _ (c .before .before .before .before .before .activity-span .ensures) (c .before .before .before .before .before .before .num-at .ensures) (c .before .before .before .x .given .1) (c .before .moved-between .ensures .0) (rw (toZ-ofZ f) at (c .is-before .ensures))
+returns-2 c = search (needs, end-is)
 
 pub ends-early-spec : {M : Type 1} → statement M
 ends-early-spec =

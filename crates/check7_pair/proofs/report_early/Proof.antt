@@ -16,7 +16,7 @@ same-length : tie.Need-same-length
 same-length c = search needs
 
 returns : tie.Need-returns
-returns c = early-told _ _ _ _ _ (c .before .before .before .before .piece-is-early .ensures) (c .before .before .before .id-at .ensures .0) (c .before .report .ensures)
+returns c = search (needs, early-told)
 
 pub report-early-spec : {M : Type 1} → statement M
 report-early-spec =

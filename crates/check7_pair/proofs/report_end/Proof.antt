@@ -1,7 +1,4 @@
-use mir.Syntax.{w64}
-use mir.Val.{SFits}
-use mir.Facts.{toZ-ofZ}
-use Rattle.check7_pair.proofs.Told.{told}
+use Rattle.check7_pair.proofs.Told.{end-told}
 use borrow.Author.Needs.{needs}
 use Rattle.check7_pair.proofs.report_end.Statement.{statement}
 use Rattle.check7_pair.proofs.report_end.Tie as tie
@@ -19,7 +16,7 @@ same-length : tie.Need-same-length
 same-length c = search needs
 
 returns : tie.Need-returns
-returns c = let f : SFits w64 (c .before .before .before .before .before .args .earliest) = search needs in told _ (rw (toZ-ofZ f) at (c .before .before .before .before .ends-early .ensures)) (c .before .before .before .id-at .ensures .0) (c .before .report .ensures)
+returns c = search (needs, end-told)
 
 pub report-end-spec : {M : Type 1} → statement M
 report-end-spec =

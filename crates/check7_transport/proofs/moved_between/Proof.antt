@@ -24,7 +24,7 @@ row-count-requires : tie.Need-row-count-requires Inv-loop μ-loop
 row-count-requires c κs = search needs
 
 first-owned-requires : tie.Need-first-owned-requires Inv-loop μ-loop
-first-owned-requires c κs = ((c .before .pre .2), omega (arith, (c .before .pre .5)))
+first-owned-requires c κs = search needs
 
 loop-holds : tie.Need-loop-holds Inv-loop μ-loop
 loop-holds c = (search needs, fold-first _ _ (c .first-owned .ensures) (quiet-only _ _), omega arith)
@@ -45,10 +45,10 @@ loop-less : tie.Need-loop-less Inv-loop μ-loop
 loop-less c = search needs
 
 loop-again : tie.Need-loop-again Inv-loop μ-loop
-loop-again c = (search needs, only-next _ _ _ (c .next-owned .ensures) (c .before .before .before .before .loop-test .taken) (c .before .before .before .before .before .before .before .row-count .ensures) ((c .before .before .before .before .before .loop .inv .0)) ((c .before .before .before .before .before .loop .inv .1)) (to-turn _ _ _ _ (c .before .longer .ensures) ((c .before .before .moved-to .ensures .0)) (c .before .before .before .num-at .ensures)), omega (arith, (c .before .longer .ensures), (c .before .before .moved-to .ensures .1), (c .before .before .before .before .before .loop .inv .2)))
+loop-again c = (search needs, search (needs, only-next, to-turn), search needs)
 
 returns : tie.Need-returns Inv-loop μ-loop
-returns c = (to-is _ ((c .before .before .before .before .pre .0)) _ _ ((c .before .before .before .before .pre .5)) ((c .before .before .before .before .pre .6)) (fold-end _ _ _ _ _ (c .loop-test .left) (c .before .before .before .row-count .ensures) ((c .before .loop .inv .0)) ((c .before .loop .inv .1))), (c .before .loop .inv .2))
+returns c = search (needs, to-is, fold-end)
 
 pub moved-between-spec : {M : Type 1} → statement M
 moved-between-spec =

@@ -14,10 +14,10 @@ report-requires : tie.Need-report-requires
 report-requires c κs = search needs
 
 same-length : tie.Need-same-length
-same-length c = kept _ _ _ (c .before .report .ensures)
+same-length c = search (needs, kept)
 
 returns : tie.Need-returns
-returns c = deadline-told _ _ _ ((c .before .before .before .before .before .pre .1)) (c .before .before .before .before .is-late .ensures) ((c .before .before .before .id-at .ensures .0)) (c .before .report .ensures)
+returns c = search (needs, deadline-told)
 
 pub check-deadline-spec : {M : Type 1} → statement M
 check-deadline-spec =

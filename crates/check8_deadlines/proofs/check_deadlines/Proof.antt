@@ -1,7 +1,7 @@
 use borrow.Author.Needs.{needs}
-use Rattle.check8_deadlines.proofs.Lateness.{deadline-silent, deadlines-whole}
+use Rattle.check8_deadlines.proofs.Lateness.{deadline-silent, deadlines-told}
 use Prim.Native.Nat.{_-_}
-use mathlib.Core.Path.{_≡_, ap, _∙_}
+use mathlib.Core.Path.{_≡_}
 use Rattle.loops.specs.inner.Chain.{Stands}
 use Rattle.loops.specs.Lists.{each}
 use Rattle.loops.specs.Range.{collect}
@@ -34,7 +34,7 @@ loop-holds : tie.Need-loop-holds Inv-loop μ-loop
 loop-holds c = (search needs, emit-first _ _ (c .first-of .ensures) (deadline-silent _))
 
 check-deadline-requires : tie.Need-check-deadline-requires Inv-loop μ-loop
-check-deadline-requires c κs = ((c .before .before .before .before .before .pre), stands-kind _ _ (c .before .loop-test .taken) (c .before .before .before .before .row-count .ensures) ((c .before .before .loop .inv .0)))
+check-deadline-requires c κs = (search needs, search (needs, stands-kind))
 
 next-of-requires : tie.Need-next-of-requires Inv-loop μ-loop
 next-of-requires c κs = search needs
@@ -43,13 +43,13 @@ loop-less : tie.Need-loop-less Inv-loop μ-loop
 loop-less c = search needs
 
 loop-again : tie.Need-loop-again Inv-loop μ-loop
-loop-again c = (search needs, emit-next _ _ (c .next-of .ensures) (deadline-silent _) ((c .before .before .before .before .before .loop .inv .1)) (c .before .before .check-deadline .ensures))
+loop-again c = (search needs, search (needs, emit-next, deadline-silent))
 
 same-length : tie.Need-same-length Inv-loop μ-loop
-same-length c = kept _ _ _ ((c .before .loop .inv .1))
+same-length c = search (needs, kept)
 
 returns : tie.Need-returns Inv-loop μ-loop
-returns c = emit-end _ _ _ _ _ (c .loop-test .left) (c .before .before .before .row-count .ensures) ((c .before .loop .inv .0)) ((c .before .loop .inv .1)) ∙ ap (emit _) (deadlines-whole (c .before .before .before .before .args .rows .now))
+returns c = search (needs, emit-end, deadlines-told)
 
 pub check-deadlines-spec : {M : Type 1} → statement M
 check-deadlines-spec =

@@ -13,7 +13,7 @@ enum-told : tie.Need-enum-told
 enum-told c = search needs
 
 returns : tie.Need-returns
-returns c = never-late _ _ (c .before .before .instant-at .ensures) (c .enum-told .given .1)
+returns c = search (needs, never-late)
 
 num-at-requires : tie.Need-num-at-requires
 num-at-requires c κs = search needs
@@ -28,10 +28,10 @@ enum-told-2 : tie.Need-enum-told-2
 enum-told-2 c = search needs
 
 returns-2 : tie.Need-returns-2
-returns-2 c = unplanned _ _ (c .before .before .before .num-at .ensures) (c .before .before .task-completion-time .ensures) (c .enum-told2 .given .1)
+returns-2 c = search (needs, unplanned)
 
 returns-3 : tie.Need-returns-3
-returns-3 c = compared _ _ (c .before .before .before .before .before .before .before .before .instant-at .ensures) (c .before .before .before .before .before .before .deadline .given .1) (c .before .before .before .before .num-at .ensures) (c .before .before .before .task-completion-time .ensures) (c .before .completion .given .1)
+returns-3 c = search (needs, compared)
 
 pub is-late-spec : {M : Type 1} → statement M
 is-late-spec =

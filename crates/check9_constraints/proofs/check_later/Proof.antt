@@ -1,7 +1,7 @@
-use Rattle.check9_constraints.proofs.Pairs.{pair-silent}
+use Rattle.check9_constraints.proofs.Pairs.{pair-silent, pair-next}
 use Rattle.check9_constraints.specs.inner.Bookings.{pairAt}
 use Rattle.model.specs.Schedule.{capacityExceeded}
-use Rattle.findings.proofs.Reports.{emit-first, emit-next, emit-end}
+use Rattle.findings.proofs.Reports.{emit-first, emit-end}
 use Rattle.findings.proofs.SinkLaws.{kept}
 use Rattle.findings.specs.inner.Sink.{sink, emit}
 use Rattle.sheet.specs.Places.{ofKind}
@@ -43,13 +43,13 @@ loop-less : tie.Need-loop-less Inv-loop μ-loop
 loop-less c = search needs
 
 loop-again : tie.Need-loop-again Inv-loop μ-loop
-loop-again c = (search needs, emit-next _ _ (c .next-of .ensures) (pair-silent _ _ _ _ _) ((c .before .before .before .before .before .before .loop .inv .1)) (rw ((c .before .before .before .before .is-pair .ensures)) at (c .before .before .report .ensures)))
+loop-again c = (search needs, search (needs, pair-next))
 
 same-length : tie.Need-same-length Inv-loop μ-loop
-same-length c = kept _ _ _ ((c .before .loop .inv .1))
+same-length c = search (needs, kept)
 
 returns : tie.Need-returns Inv-loop μ-loop
-returns c = emit-end _ _ _ _ _ (c .loop-test .left) (c .before .before .before .row-count .ensures) ((c .before .loop .inv .0)) ((c .before .loop .inv .1))
+returns c = search (needs, emit-end)
 
 pub check-later-spec : {M : Type 1} → statement M
 check-later-spec =

@@ -1,7 +1,4 @@
-use mathlib.Core.Path.{sym, ap, _∙_}
-use Rattle.sheet.specs.inner.Found.{foundOf}
-use Rattle.findings.proofs.SinkLaws.{emit-none}
-use Rattle.check9_constraints.specs.inner.Bookings.{pairsAt}
+use Rattle.check9_constraints.proofs.Pairs.{pairs-none, pairs-told}
 use borrow.Author.Needs.{needs}
 use Rattle.check9_constraints.proofs.check_member.Statement.{statement}
 use Rattle.check9_constraints.proofs.check_member.Tie as tie
@@ -16,8 +13,7 @@ enum-told : tie.Need-enum-told
 enum-told c = search needs
 
 returns : tie.Need-returns
-unfolding pairsAt
-returns c = rw (← (sym (ap foundOf ((c .enum-told .given .1))) ∙ (c .before .before .booking-at .ensures))) (sym (emit-none _))
+returns c = search (needs, pairs-none)
 
 check-later-requires : tie.Need-check-later-requires
 check-later-requires c κs = search needs
@@ -26,8 +22,7 @@ same-length : tie.Need-same-length
 same-length c = search needs
 
 returns-2 : tie.Need-returns-2
-unfolding pairsAt
-returns-2 c = rw (← (sym (ap foundOf ((c .before .before .before .before .a .given .1))) ∙ (c .before .before .before .before .before .before .booking-at .ensures))) (c .before .check-later .ensures)
+returns-2 c = search (needs, pairs-told)
 
 pub check-member-spec : {M : Type 1} → statement M
 check-member-spec =

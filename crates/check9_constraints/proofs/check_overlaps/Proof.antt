@@ -1,4 +1,4 @@
-use Rattle.check9_constraints.proofs.Pairs.{overlaps-found}
+use Rattle.check9_constraints.proofs.Pairs.{overlaps-told}
 use borrow.Author.Needs.{needs}
 use Rattle.check9_constraints.proofs.check_overlaps.Statement.{statement}
 use Rattle.check9_constraints.proofs.check_overlaps.Tie as tie
@@ -16,7 +16,7 @@ same-length : tie.Need-same-length
 same-length c = search needs
 
 returns : tie.Need-returns
-returns c = rw (overlaps-found _ _ _ ((c .before .before .before .before .before .before .pre .1)) ((c .before .before .before .before .before .before .pre .2)), ← (c .before .before .before .before .before .id-at .ensures .0)) (c .before .check-pairs .ensures)
+returns c = search (needs, overlaps-told)
 
 pub check-overlaps-spec : {M : Type 1} → statement M
 check-overlaps-spec =

@@ -1,4 +1,4 @@
-use Rattle.check9_constraints.proofs.Together.{synchronize-found}
+use Rattle.check9_constraints.proofs.Together.{synchronize-told}
 use borrow.Author.Needs.{needs}
 use Rattle.check9_constraints.proofs.check_synchronize.Statement.{statement}
 use Rattle.check9_constraints.proofs.check_synchronize.Tie as tie
@@ -16,7 +16,7 @@ same-length : tie.Need-same-length
 same-length c = search needs
 
 returns : tie.Need-returns
-returns c = rw (synchronize-found _ _ _ ((c .before .before .before .before .before .pre .1)) ((c .before .before .before .before .before .pre .2)) (c .before .before .before .before .starts-of .ensures), ← (c .before .before .before .is-differing .ensures)) (c .before .report .ensures)
+returns c = search (needs, synchronize-told)
 
 pub check-synchronize-spec : {M : Type 1} → statement M
 check-synchronize-spec =

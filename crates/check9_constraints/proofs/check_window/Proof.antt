@@ -1,4 +1,4 @@
-use Rattle.check9_constraints.proofs.ConstraintRows.{window-found}
+use Rattle.check9_constraints.proofs.ConstraintRows.{window-told}
 use borrow.Author.Needs.{needs}
 use Rattle.check9_constraints.proofs.check_window.Statement.{statement}
 use Rattle.check9_constraints.proofs.check_window.Tie as tie
@@ -10,13 +10,13 @@ id-at-requires : tie.Need-id-at-requires
 id-at-requires c κs = search needs
 
 report-requires : tie.Need-report-requires
-report-requires c κs = (c .before .id-at .ensures .1)
+report-requires c κs = search needs
 
 same-length : tie.Need-same-length
 same-length c = search needs
 
 returns : tie.Need-returns
-returns c = rw (window-found _ _ ((c .before .before .before .before .before .pre .1)), ← (c .before .before .before .before .is-outside .ensures), ← (c .before .before .before .id-at .ensures .0)) (c .before .report .ensures)
+returns c = search (needs, window-told)
 
 pub check-window-spec : {M : Type 1} → statement M
 check-window-spec =

@@ -31,7 +31,7 @@ is-at-requires : tie.Need-is-at-requires Inv-loop μ-loop
 is-at-requires c κs = search needs
 
 returns : tie.Need-returns Inv-loop μ-loop
-returns c = seek-hit _ _ _ _ (c .before .before .loop-test .taken) (c .before .before .before .before .before .row-count .ensures) ((c .before .before .before .loop .inv .1)) (booked-test _ _ _ _ _ _ (c .before .before .loop-test .taken) (c .before .before .before .before .before .row-count .ensures) ((c .before .before .before .loop .inv .0)) (c .before .is-at .ensures) (c .if1 .taken))
+returns c = search (needs, seek-hit, booked-test)
 
 next-named-requires : tie.Need-next-named-requires Inv-loop μ-loop
 next-named-requires c κs = search needs
@@ -40,10 +40,10 @@ loop-less : tie.Need-loop-less Inv-loop μ-loop
 loop-less c = search needs
 
 loop-again : tie.Need-loop-again Inv-loop μ-loop
-loop-again c = (search needs, seek-next _ (c .next-named .ensures) (booked-blind _ _ _) ((c .before .before .before .before .loop .inv .1)) (booked-test _ _ _ _ _ _ (c .before .before .before .loop-test .taken) (c .before .before .before .before .before .before .row-count .ensures) ((c .before .before .before .before .loop .inv .0)) (c .before .before .is-at .ensures) (c .before .if1 .left)))
+loop-again c = (search needs, search (needs, seek-next, booked-blind, booked-test))
 
 returns-2 : tie.Need-returns-2 Inv-loop μ-loop
-returns-2 c = seek-end _ _ _ _ (c .loop-test .left) (c .before .before .before .row-count .ensures) ((c .before .loop .inv .0)) ((c .before .loop .inv .1))
+returns-2 c = search (needs, seek-end)
 
 pub first-on-spec : {M : Type 1} → statement M
 first-on-spec =

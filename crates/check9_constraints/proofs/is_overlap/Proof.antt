@@ -1,5 +1,4 @@
-use Rattle.check9_constraints.specs.inner.Bookings.{overlapAt}
-use borrow.Author.Tests.{lt-ltb, le-ltb}
+use Rattle.check9_constraints.proofs.Pairs.{overlap-if, overlap-not}
 use borrow.Author.Needs.{needs}
 use Rattle.check9_constraints.proofs.is_overlap.Statement.{statement}
 use Rattle.check9_constraints.proofs.is_overlap.Tie as tie
@@ -17,12 +16,10 @@ num-at-requires-4 : tie.Need-num-at-requires-4
 num-at-requires-4 c κs = search needs
 
 returns : tie.Need-returns
-unfolding overlapAt
-returns c = rw (← (c .before .before .before .before .num-at .ensures), ← (c .before .before .before .num-at2 .ensures), ← (c .before .before .num-at3 .ensures), ← (c .before .num-at4 .ensures), lt-ltb _ _ (c .if1 .taken))
+returns c = search (needs, overlap-if)
 
 returns-2 : tie.Need-returns-2
-unfolding overlapAt
-returns-2 c = rw (← (c .before .before .before .before .num-at .ensures), ← (c .before .before .before .num-at2 .ensures), ← (c .before .before .num-at3 .ensures), ← (c .before .num-at4 .ensures), le-ltb _ _ (c .if1 .left))
+returns-2 c = search (needs, overlap-not)
 
 pub is-overlap-spec : {M : Type 1} → statement M
 is-overlap-spec =

@@ -1,6 +1,5 @@
-use mathlib.Core.Path.{sym, ap, _∙_}
-use Rattle.sheet.specs.inner.Found.{foundOf}
-use borrow.Author.Tests.{lt-ltb, le-ltb}
+use borrow.Author.Tests.{le-ltb}
+use Rattle.check9_constraints.proofs.Pairs.{pair-none, pair-told}
 use Rattle.check9_constraints.specs.inner.Bookings.{pairAt}
 use borrow.Author.Needs.{needs}
 use Rattle.check9_constraints.proofs.is_pair.Statement.{statement}
@@ -16,15 +15,13 @@ enum-told : tie.Need-enum-told
 enum-told c = search needs
 
 returns : tie.Need-returns
-unfolding pairAt
-returns c = rw (lt-ltb _ _ (c .before .before .before .if1 .taken), ← (sym (ap foundOf ((c .enum-told .given .1))) ∙ (c .before .before .booking-at .ensures)))
+returns c = search (needs, pair-none)
 
 is-overlap-requires : tie.Need-is-overlap-requires
 is-overlap-requires c κs = search needs
 
 returns-2 : tie.Need-returns-2
-unfolding pairAt
-returns-2 c = rw (lt-ltb _ _ (c .before .before .before .before .before .if1 .taken), ← (sym (ap foundOf ((c .before .before .b .given .1))) ∙ (c .before .before .before .before .booking-at .ensures))) (c .is-overlap .ensures)
+returns-2 c = search (needs, pair-told)
 
 returns-3 : tie.Need-returns-3
 unfolding pairAt

@@ -1,5 +1,4 @@
-use mathlib.Core.Path.{sym, _∙_}
-use Rattle.check9_constraints.specs.inner.Bookings.{memberBooking}
+use Rattle.check9_constraints.proofs.Pairs.{member-told, no-member}
 use borrow.Author.Needs.{needs}
 use Rattle.check9_constraints.proofs.member_booking.Statement.{statement}
 use Rattle.check9_constraints.proofs.member_booking.Tie as tie
@@ -14,12 +13,10 @@ first-on-requires : tie.Need-first-on-requires
 first-on-requires c κs = search needs
 
 returns : tie.Need-returns
-unfolding memberBooking
-returns c = rw (sym (c .before .before .before .is-member .ensures) ∙ (c .before .before .if1 .taken), ← (c .before .num-at .ensures)) (c .first-on .ensures)
+returns c = search (needs, member-told)
 
 returns-2 : tie.Need-returns-2
-unfolding memberBooking
-returns-2 c = rw (sym (c .before .is-member .ensures) ∙ (c .if1 .left))
+returns-2 c = search (needs, no-member)
 
 pub member-booking-spec : {M : Type 1} → statement M
 member-booking-spec =

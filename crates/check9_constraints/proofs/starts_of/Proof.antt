@@ -35,10 +35,10 @@ loop-less : tie.Need-loop-less Inv-loop μ-loop
 loop-less c = search needs
 
 loop-again : tie.Need-loop-again Inv-loop μ-loop
-loop-again c = (search needs, only-next _ _ _ (c .next-of .ensures) (c .before .before .loop-test .taken) (c .before .before .before .before .before .row-count .ensures) ((c .before .before .before .loop .inv .0)) ((c .before .before .before .loop .inv .1)) (c .before .with-member .ensures))
+loop-again c = (search needs, search (needs, only-next))
 
 returns : tie.Need-returns Inv-loop μ-loop
-returns c = fold-end _ _ _ _ _ (c .loop-test .left) (c .before .before .before .row-count .ensures) ((c .before .loop .inv .0)) ((c .before .loop .inv .1))
+returns c = search (needs, fold-end)
 
 pub starts-of-spec : {M : Type 1} → statement M
 starts-of-spec =

@@ -1,5 +1,4 @@
-use Rattle.check9_constraints.specs.inner.Seen.{withMember}
-use mathlib.Core.Path.{sym, _∙_}
+use Rattle.check9_constraints.proofs.Together.{member-missing, member-seen, member-other}
 use borrow.Author.Needs.{needs}
 use Rattle.check9_constraints.proofs.with_member.Statement.{statement}
 use Rattle.check9_constraints.proofs.with_member.Tie as tie
@@ -20,19 +19,16 @@ enum-told : tie.Need-enum-told
 enum-told c = search needs
 
 returns : tie.Need-returns
-unfolding withMember
-returns c = rw (sym (c .before .before .before .before .before .is-at .ensures) ∙ (c .before .before .before .before .if1 .taken), ← (c .before .before .before .num-at .ensures), ← (c .before .before .activity-span .ensures), (c .enum-told .given .1))
+returns c = search (needs, member-missing)
 
 with-start-requires : tie.Need-with-start-requires
 with-start-requires c κs = search needs
 
 returns-2 : tie.Need-returns-2
-unfolding withMember
-returns-2 c = rw (sym (c .before .before .before .before .before .before .before .is-at .ensures) ∙ (c .before .before .before .before .before .before .if1 .taken), ← (c .before .before .before .before .before .num-at .ensures), ← (c .before .before .before .before .activity-span .ensures), (c .before .before .span .given .1)) (c .with-start .ensures)
+returns-2 c = search (needs, member-seen)
 
 returns-3 : tie.Need-returns-3
-unfolding withMember
-returns-3 c = rw (sym (c .before .is-at .ensures) ∙ (c .if1 .left))
+returns-3 c = search (needs, member-other)
 
 pub with-member-spec : {M : Type 1} → statement M
 with-member-spec =

@@ -1,4 +1,4 @@
-use mathlib.Core.Path.{sym, _∙_}
+use Rattle.check9_constraints.proofs.Together.{start-same, start-other}
 use borrow.Author.Needs.{needs}
 use Rattle.check9_constraints.proofs.with_start.Statement.{statement}
 use Rattle.check9_constraints.proofs.with_start.Tie as tie
@@ -19,7 +19,7 @@ same-start-requires : tie.Need-same-start-requires
 same-start-requires c κs = search needs
 
 returns : tie.Need-returns
-returns c = rw ((c .before .before .before .s .given .1), sym (c .before .same-start .ensures) ∙ (c .if1 .taken))
+returns c = search (needs, start-same)
 
 returns-2 : tie.Need-returns-2
 returns-2 c = rw ((c .enum-told .given .1))
@@ -31,7 +31,7 @@ returns-4 : tie.Need-returns-4
 returns-4 c = rw ((c .enum-told3 .given .1))
 
 returns-5 : tie.Need-returns-5
-returns-5 c = rw ((c .before .before .before .s .given .1), sym (c .before .same-start .ensures) ∙ (c .if1 .left))
+returns-5 c = search (needs, start-other)
 
 pub with-start-spec : {M : Type 1} → statement M
 with-start-spec =
