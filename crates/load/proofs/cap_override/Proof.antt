@@ -40,7 +40,7 @@ loop-less : tie.Need-loop-less Inv-loop μ-loop
 loop-less c = search needs
 
 loop-again : tie.Need-loop-again Inv-loop μ-loop
-loop-again c = search (needs, only-next, later-turn)
+loop-again c = (search needs, only-next _ _ _ (c .next-of .ensures) (c .before .before .before .loop-test .taken) (c .before .before .before .before .before .before .row-count .ensures) ((c .before .before .before .before .loop .inv .0)) ((c .before .before .before .before .loop .inv .1)) (later-turn _ _ _ _ (c .before .before .cap-at .ensures) (c .before .or-else .ensures)))
 
 returns : tie.Need-returns Inv-loop μ-loop
 returns c = search (needs, override-is, fold-end)
