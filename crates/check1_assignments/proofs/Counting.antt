@@ -25,7 +25,6 @@ use Rattle.definition.specs.Pieces.{indexOf, sameIndex, ofPiece, isHeld}
 use Rattle.definition.specs.CheckAssignments.{misplaced, uses}
 use Rattle.pieces.specs.inner.Bookings.{inPiece}
 use Rattle.pieces.specs.inner.Held.{heldAt}
-use Rattle.pieces.proofs.Chains.{piece-kind}
 use Rattle.pieces.proofs.Companions.{of-piece}
 use Rattle.check1_assignments.specs.inner.Bookings.{Booked, takesUnit}
 
@@ -118,6 +117,3 @@ module _ (rows : List ℤ) (a k : ℕ) where
   pub uses-next : {n i j x y : ℕ} {r : Bool} → First (ownedBy rows a 23) (suc i) n j → y ≡ x + cond r 1 0 → r ≡ takesUnit rows a k i → x ≡ countBelow (takesUnit rows a k) i → Booked rows a k
       → y ≡ countBelow (takesUnit rows a k) j
   uses-next {x = x} f e g h b = count-next _ f (takes-blind b) h (e ∙ ap (λ r. x + cond r 1 0) g)
-
-pub piece-booking : (rows : List ℤ) (k j : ℕ) {r : Bool} → r ≡ inPiece rows k j → r ≡ true → is rows j 0 23 ≡ true
-piece-booking rows k j e h = piece-kind rows k j (sym e ∙ h)

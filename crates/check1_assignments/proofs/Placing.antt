@@ -1,11 +1,11 @@
 -- Where a booking belongs: its activity's row, whether it is misplaced, and that it stands in its activity's chain. Assumes nothing.
+use Rattle.loops.proofs.ChainLaws.{first-upto}
 use Prim.Native.Nat.{ℕ, suc, _<_, _≤_}
 use mathlib.Core.Path.{_≡_, refl, ap, ap₂, sym, _∙_}
-use mathlib.Core.Bool.{Bool, true, false, not, _&&_, _||_, true≢false}
+use mathlib.Core.Bool.{Bool, true, false, not, _&&_, _||_}
 use mathlib.Core.List.{List}
 use mathlib.Core.Option.{Option, none, some}
 use native.Mathlib.Omega.{arith}
-use native.Mathlib.Decide.{decLt}
 use lib.Dec.{eqb, ltb}
 use lib.IntN.{ℤ, negsuc}
 use borrow.Author.Tests.{lt-ltb, le-ltb, eq-eqb}
@@ -100,9 +100,6 @@ module _ (rows : List ℤ) where
   pub booked : (a k : ℕ) {f : Found} → f ≡ At a → foundOf f ≡ placeOf rows 2 (num rows k 1) → k < rowCount rows → is rows k 0 23 ≡ true → Booked rows a k
   booked a k z e l h = record { within = l; kind = h; place = sym e ∙ ap foundOf z }
 
-  pub place-most : (x id k : ℕ) → placeOf rows x id ≡ some k → k ≤ rowCount rows
-  place-most x id k e = let w = placed rows x id k e in omega (arith, w .within)
-
   pub own-row : (a k : ℕ) → Booked rows a k → ownPlace rows k ≡ a
   own-row a k b = own-activity rows 23 k (unfold ownerKind in refl) (b .kind) ∙ rw (b .place) (unfold orEnd in refl)
 
@@ -126,13 +123,6 @@ module _ (rows : List ℤ) where
   unfolding ownedBy
   owned-booking a k b = rw (b .kind) (eq-eqb (ownPlace rows k) a (own-row a k b))
 
--- the first place at which p holds is none after a place at which it holds
-pub first-upto : (p : ℕ → Bool) (i n j k : ℕ) → First p i n j → i ≤ k → p k ≡ true → j ≤ k
-first-upto p i n j k f l e = go (decLt k j)
-  where
-    go : Dec (k < j) → j ≤ k
-    go (yes m) = absurd (true≢false (sym e ∙ f .none k l m))
-    go (no m) = omega arith
-
+-- a chain's next place is none after a place of it
 pub next-upto : (p : ℕ → Bool) (i n j k : ℕ) → First p (suc i) n j → i < k → p k ≡ true → j ≤ k
-next-upto p i n j k f l e = first-upto p (suc i) n j k f (omega arith) e
+next-upto p i n j k f l e = first-upto k f (omega arith) e

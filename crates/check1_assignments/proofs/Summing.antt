@@ -11,8 +11,6 @@ use lib.IntN.{ℤ, pos, negsuc, subℕ, _+ℤ_, _-ℤ_}
 use lib.Signed.{ltZ, mag}
 use mir.Syntax.{w64}
 use mir.Val.{Fits, toZ, ofZ, hbits}
-use mir.Facts.{toZ-ofZ}
-use borrow.Author.Needs.{sfits-of}
 use borrow.Author.Tests.{lt-ltb, le-ltb}
 use Rattle.loops.specs.Lists.{given}
 use Rattle.loops.specs.Numbers.{maxZ}
@@ -35,7 +33,7 @@ use Rattle.definition.specs.CheckAssignments.{units}
 use Rattle.rows.proofs.Signed.{number-low}
 use Rattle.pieces.specs.inner.Bookings.{indexKey}
 use Rattle.pieces.proofs.Chains.{owned-kind}
-use Rattle.pieces.proofs.Indices.{key-neg, key-pos, key-most}
+use Rattle.pieces.proofs.Indices.{key-neg, key-pos, key-most, index-read}
 use Rattle.check1_assignments.specs.declared.Units.{Units}
 use Rattle.check1_assignments.specs.inner.Bookings.{quantities}
 
@@ -86,15 +84,12 @@ module _ (rows : List ℤ) (acc : Accepted rows) where
 
 -- ---- one quantity more
 
-key-read : {x : ℕ} {y z : ℤ} → x ≡ indexKey (toZ w64 (ofZ w64 z)) → mag z < 2 ^ hbits w64 → z ≡ y → x ≡ indexKey y
-key-read h m e = rw (toZ-ofZ (sfits-of m), e) at h
-
 module _ (rows : List ℤ) (q : ℕ) {x : ℕ} {z : ℤ} (e : x ≡ indexKey (toZ w64 (ofZ w64 z))) (m : mag z < 2 ^ hbits w64) (f : z ≡ cell rows q 3) where
   pub raised-fits : (r : ℕ) → indexKey (cell rows q 3) ≤ 2000001 → r ≤ 2000001 * q → q < 800 → Fits w64 (r + x)
-  raised-fits r h l u = let k = key-read e m f in record { fits = omega arith }
+  raised-fits r h l u = let k = index-read e m f in record { fits = omega arith }
 
   pub raised-is : (r o : ℕ) → _≡_ {A = Units} (record { raised = r + x; offset = o }) (record { raised = r + indexKey (cell rows q 3); offset = o })
-  raised-is r o = ap (λ y. record { raised = r + y; offset = o }) (key-read e m f)
+  raised-is r o = ap (λ y. record { raised = r + y; offset = o }) (index-read e m f)
 
 -- ---- the sum along the activity's chain
 

@@ -12,7 +12,7 @@ use Rattle.loops.specs.Range.{collect}
 use Rattle.loops.specs.Search.{someIf, firstPlace}
 use Rattle.loops.specs.inner.Chain.{First, Stands, only}
 use Rattle.loops.proofs.RangeLaws.{collect-ext}
-use Rattle.loops.proofs.ListLaws.{each-collect, each-keep, any-keep, any-collect, head-collect}
+use Rattle.loops.proofs.ListLaws.{each-collect, each-keep, any-keep, any-collect, head-collect, head-given}
 use Rattle.loops.proofs.PlaceLaws.{any-same}
 use Rattle.findings.specs.inner.Sink.{Sink, emit}
 use Rattle.findings.proofs.SinkLaws.{emit-then, emit-none}
@@ -59,10 +59,6 @@ booked-whole x w e = go (isNone x) (isNone w) e
     go true b e = refl
     go false true e = absurd (true≢false (sym e))
     go false false e = refl
-
-head-given : {A : Type 0} (b : Bool) (y : A) → head (given b y) ≡ someIf b y
-head-given true y = refl
-head-given false y = refl
 
 module _ (rows : List ℤ) (acc : Accepted rows) where
   module _ (o : ℕ) (l : o < rowCount rows) (h : is rows o 0 2 ≡ true) where

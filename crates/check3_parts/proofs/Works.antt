@@ -1,12 +1,11 @@
 -- The work that an index was given last, by rows. Assumes nothing.
 use Prim.Native.Nat.{ℕ, zero, suc, _+_, _<_, _≤_}
 use mathlib.Core.Path.{_≡_, refl, ap, ap₂, sym, _∙_}
-use mathlib.Core.Bool.{Bool, true, false, cond, not, _&&_, true≢false, and-comm}
+use mathlib.Core.Bool.{Bool, true, false, cond, not, _&&_, and-comm}
 use mathlib.Core.List.{List, [], _∷_, _++_, foldl, foldl-append, append-nil, append-assoc}
 use mathlib.Core.Option.{none, some}
 use native.Mathlib.Omega.{arith}
 use native.Mathlib.Numerals.{add-one}
-use native.Mathlib.Decide.{decLt}
 use lib.Dec.{eqb}
 use lib.IntN.{ℤ}
 use borrow.Author.Tests.{eq-eqb, ne-eqb}
@@ -142,14 +141,6 @@ module _ (rows : List ℤ) (o : ℕ) where
 
   pub work-first : (x : ℤ) {n i : ℕ} → First (ownedBy rows o 23) 0 n i → decoded 0 ≡ workOf (partsBelow rows o i) x
   work-first x s = sym (ap (λ l. workOf l x) (parts-first s) ∙ (unfold workOf partsOf keep in refl))
-
--- a chain does not pass over a place of it
-pub not-past : {p : ℕ → Bool} {a n j : ℕ} (k : ℕ) → First p a n j → a ≤ k → p k ≡ true → j ≤ k
-not-past {p} {a} {n} {j} k s l h = go (decLt k j)
-  where
-    go : Dec (k < j) → j ≤ k
-    go (yes m) = absurd (true≢false (sym h ∙ s .none k l m))
-    go (no m) = omega arith
 
 pub work-end : (rows : List ℤ) (o : ℕ) (x : ℤ) (e : ℕ) {i k : ℕ} → k ≤ i → i ≤ k → decoded e ≡ workOf (partsBelow rows o i) x → decoded e ≡ workOf (partsBelow rows o k) x
 work-end rows o x e {i} {k} l m r = let z : i ≡ k = omega arith in r ∙ ap (λ t. workOf (partsBelow rows o t) x) z

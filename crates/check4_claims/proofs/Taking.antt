@@ -18,7 +18,6 @@ use Rattle.sheet.specs.declared.Found.{Found}
 use Rattle.sheet.specs.declared.Found.the-variants.{At, Nothing}
 use Rattle.sheet.specs.inner.Found.{foundOf}
 use Rattle.sheet.specs.Places.{placeOf}
-use Rattle.sheet.proofs.Lookups.{placed}
 use Rattle.owners.specs.inner.Owners.{Owned}
 use Rattle.model.specs.Schedule.{skillMismatch}
 use Rattle.model.specs.Sheet.{sheet}
@@ -31,9 +30,6 @@ pub row-low : {rows : List ℤ} {t : List ℕ} {k : ℕ} → Owned rows t → k 
 row-low h l = omega (arith, h .short)
 
 -- a row that was found
-pub place-low : (rows : List ℤ) (x id : ℕ) {k : ℕ} → placeOf rows x id ≡ some k → k ≤ rowCount rows
-place-low rows x id e = let w = placed rows x id _ e .within in omega (arith, w)
-
 -- a skill of the requirement
 pub lacking-one : (rows : List ℤ) (x k : ℕ) {r v : ℕ} {b : Bool} (s : Sink) {s′ : Sink} → placeOf rows 11 x ≡ some r → v ≡ num rows k 3 → b ≡ hasSkill rows r v
     → s′ ≡ emit s (given (not b) (skillMismatch 4 x)) → s′ ≡ emit s (lackingFor rows x k)

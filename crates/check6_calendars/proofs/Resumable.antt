@@ -10,7 +10,7 @@ use lib.IntN.{ℤ, pos}
 use lib.ListN.{getD, set}
 use mir.Syntax.{w64}
 use mir.Val.{Fits}
-use borrow.Author.Tests.{not-true, not-false}
+use borrow.Author.Tests.{not-true}
 use Rattle.loops.specs.Lists.{given, option}
 use Rattle.loops.proofs.StoreLaws.{Filled, filled-turn}
 use Rattle.calendar.specs.Clock.{clock}
@@ -66,10 +66,6 @@ pub laid-covered : (rows : List ℤ) (k a : ℕ) {kinds links owned : List ℕ} 
 laid-covered rows k a {cs = cs} c i l h p q m u = same-covered cs _ (λ t. joint-laid rows (accepted rows (i .accepted)) k l h t a cs c) p q m u
 
 -- ---- the finding
-
--- a test that was asked for its contrary
-pub untold : {b v : Bool} → b ≡ v → not b ≡ false → v ≡ true
-untold e q = sym e ∙ not-false _ q
 
 pub row-few : (rows : List ℤ) {N k : ℕ} → k < N → N ≡ rowCount rows → rowCount rows ≤ 800 → k < 800
 row-few rows l z s = omega arith

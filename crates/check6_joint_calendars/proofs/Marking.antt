@@ -1,4 +1,5 @@
 -- The rows of the resources of a piece are marked along the bookings of its activity. Assumes nothing.
+use Rattle.model.proofs.OwnedLaws.{booking-owner}
 use Prim.Native.Nat.{ℕ, suc, _+_, _<_, _≤_}
 use mathlib.Core.Path.{_≡_, refl, ap, sym, _∙_}
 use mathlib.Core.Bool.{Bool, true, false, cond, _&&_, _||_, or-true, or-false}
@@ -19,30 +20,19 @@ use Rattle.sheet.specs.declared.Found.{Found}
 use Rattle.sheet.specs.declared.Found.the-variants.{At, Nothing}
 use Rattle.sheet.specs.inner.Found.{foundOf}
 use Rattle.sheet.specs.Places.{placeOf}
-use Rattle.sheet.specs.inner.Index.{orEnd}
 use Rattle.sheet.proofs.Lookups.{placed}
-use Rattle.owners.specs.inner.Owners.{ownerKind, ownPlace, ownedBy}
+use Rattle.owners.specs.inner.Owners.{ownedBy}
 use Rattle.pieces.specs.inner.Bookings.{inPiece}
-use Rattle.pieces.proofs.Chains.{blind-if, own-activity, piece-kind, piece-owned}
+use Rattle.pieces.proofs.Chains.{blind-if, piece-owned}
 use Rattle.check6_joint_calendars.specs.inner.Taken.{isOn, takenBelow, marked, Marked, OnResources}
 use Rattle.check6_joint_calendars.proofs.Once.{taken-place}
-
--- the row of a booking's activity is the one that the booking belongs to
-pub own-is : (rows : List ℤ) (k a : ℕ) → is rows k 0 23 ≡ true → placeOf rows 2 (num rows k 1) ≡ some a → a ≡ ownPlace rows k
-own-is rows k a h q = sym (own-activity rows 23 k (unfold ownerKind in refl) h ∙ ap (orEnd rows) q ∙ (unfold orEnd in refl))
 
 abbrev mark : Bool → ℕ
 mark b = cond b 1 0
 
 -- a row that was found
-pub place-low : (rows : List ℤ) (x id : ℕ) {r : ℕ} → placeOf rows x id ≡ some r → r ≤ rowCount rows
-place-low rows x id e = let w = placed rows x id _ e .within in omega (arith, w)
-
 pub mark-low : (rows : List ℤ) (x id : ℕ) {f : Found} {r : ℕ} → foundOf f ≡ placeOf rows x id → f ≡ At r → rowCount rows ≤ 800 → r < 800
 mark-low rows x id e q b = let w = placed rows x id _ (sym e ∙ ap foundOf q) .within in omega (arith, w)
-
-pub piece-row : (rows : List ℤ) (k j : ℕ) {b : Bool} → b ≡ inPiece rows k j → b ≡ true → is rows j 0 23 ≡ true
-piece-row rows k j e q = piece-kind rows k j (sym e ∙ q)
 
 module _ (rows : List ℤ) (k : ℕ) where
   -- one row more
@@ -109,7 +99,7 @@ module _ (rows : List ℤ) (k : ℕ) where
     still : (marks : List ℕ) (j : ℕ) → ownedBy rows a 23 j ≡ false → Marked rows k j marks → Marked rows k (j + 1) marks
     still marks j e g =
         let q : j + 1 ≡ suc j = omega arith in
-        rw q (mark-other (blind-if (ownedBy rows a 23) (inPiece rows k) (piece-owned rows k a h (own-is rows k a h o)) .still j e) g)
+        rw q (mark-other (blind-if (ownedBy rows a 23) (inPiece rows k) (piece-owned rows k a h (booking-owner rows k a h o)) .still j e) g)
 
     pub mark-first : {n i : ℕ} → First (ownedBy rows a 23) 0 n i → rowCount rows ≤ 800 → Marked rows k i (replicate 800 0)
     mark-first f b =

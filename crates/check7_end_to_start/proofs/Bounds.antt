@@ -21,6 +21,7 @@ use Rattle.rows.specs.Cells.{rowCount, cell, num, is}
 use Rattle.rows.proofs.Signed.{signed-time}
 use Rattle.sheet.specs.Places.{ofKind, placeOf}
 use Rattle.sheet.specs.inner.Accepted.{Accepted}
+use Rattle.sheet.specs.declared.Found.the-variants.{At, Nothing}
 use Rattle.sheet.proofs.Lookups.{placed}
 use Rattle.model.specs.Sheet.{sheet}
 use Rattle.model.proofs.Accepting.{at-most, in-class}
@@ -84,10 +85,10 @@ module _ (rows : List ℤ) (acc : Accepted rows) where
   span-early id = go (placeOf rows 24 id) refl
     where
       go : (o : Option ℕ) → placeOf rows 24 id ≡ o → bounded (activitySpan clock (sheet rows) id) ≡ true
-      go none e = rw (← runs-booked rows id (sym e) refl) (booked-early id (rowCount rows))
+      go none e = rw (← runs-booked rows id {f = Nothing} (sym e) refl refl) (booked-early id (rowCount rows))
       go (some k) e =
           let h : is rows k 0 24 ≡ true = unfold is in eq-eqb (num rows k 0) 24 (placed rows 24 id k e .kind) in
-          rw (← runs-timed rows id (sym e)) (pair-early _ _ (instant-early k 24 3 (at-most rows acc k 24 3 h)) (instant-early k 24 4 (at-most rows acc k 24 4 h)))
+          rw (← runs-timed rows id {f = At k} (sym e) refl refl refl) (pair-early _ _ (instant-early k 24 3 (at-most rows acc k 24 3 h)) (instant-early k 24 4 (at-most rows acc k 24 4 h)))
 
   module _ (id : ℕ) {x : ActivitySpan} {a e : ℕ} (q : spanMeant x ≡ activitySpan clock (sheet rows) id) (z : x ≡ Between a e) where
     pub start-most : a ≤ 4000000000000

@@ -40,7 +40,6 @@ use Rattle.definition.specs.CheckPrecedence.{endToStart, checkPrecedenceConstra
 use Rattle.spans.specs.declared.ActivitySpan.{ActivitySpan}
 use Rattle.spans.specs.declared.ActivitySpan.the-variants.{Between, Nowhere}
 use Rattle.spans.specs.inner.Activities.{spanMeant}
-use Rattle.pieces.proofs.Chains.{owned-kind}
 use Rattle.check7_end_to_start.specs.inner.Early.{startsEarly}
 
 -- ---- the test
@@ -121,10 +120,6 @@ module _ (rows : List ℤ) (id : ℕ) where
 -- ---- the activities of a task
 
 module _ (rows : List ℤ) where
-  -- a loop along the activities of a task stands at one
-  pub stands-activity : (t : ℕ) {n N i : ℕ} → i < N → N ≡ n → Stands (ownedBy rows t 2) n i → is rows i 0 2 ≡ true
-  stands-activity t {n} {N} {i} l z a = owned-kind rows t 2 i (a .here (omega arith))
-
   pub allPredecessors : ℕ → List Violation
   allPredecessors id = each (λ p. endToStart clock (sheet rows) p id (pos 0)) (predecessors (sheet rows) id)
 

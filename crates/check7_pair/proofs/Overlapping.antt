@@ -14,7 +14,7 @@ use mir.Facts.{toZ-ofZ}
 use borrow.Author.Needs.{sfits-of}
 use Rattle.loops.specs.Lists.{given, head, option}
 use Rattle.loops.specs.Search.{firstPlace, someIf}
-use Rattle.loops.proofs.ListLaws.{head-collect}
+use Rattle.loops.proofs.ListLaws.{head-collect, head-given}
 use Rattle.loops.proofs.BoolLaws.{and-left}
 use Rattle.loops.proofs.PlaceLaws.{found-at}
 use Rattle.model.proofs.Finds.{first-same, first-placed}
@@ -38,7 +38,7 @@ use Rattle.model.proofs.RowLaws.{kind-is, row-none, row-here}
 use Rattle.model.proofs.Accepting.{at-most, in-class}
 use Rattle.model.proofs.OwnedLaws.{of-activity}
 
--- ---- the first row of kind 3 of activity `id`, the one of row o
+-- ---- the first row of kind 3 of activity `id`, the head-given of row o
 
 module _ (rows : List ℤ) (o id : ℕ) where
   abbrev lap : ℕ → List Overlap
@@ -47,12 +47,8 @@ module _ (rows : List ℤ) (o id : ℕ) where
   lap-at : placeOf rows 2 id ≡ some o → (k : ℕ) → head (rowAt (sheet rows) 3 lap k) ≡ someIf (ownedBy rows o 3 k) (overlapOf (num rows k 2) (cell rows k 3))
   lap-at q k = rw (of-activity rows 3 o id (unfold ownerKind in refl) q k) (go (is rows k 0 3) refl)
     where
-      one : (b : Bool) (v : Overlap) → head (given b v) ≡ someIf b v
-      one true v = refl
-      one false v = refl
-
       go : (b : Bool) → is rows k 0 3 ≡ b → head (rowAt (sheet rows) 3 lap k) ≡ someIf (is rows k 0 3 && is rows k 1 id) (overlapOf (num rows k 2) (cell rows k 3))
-      go true h = unfold is in (rw (row-here rows k 3 lap h, h, kind-is rows k 3 h) (one (eqb (num rows k 1) id) (overlapOf (num rows k 2) (cell rows k 3))))
+      go true h = unfold is in (rw (row-here rows k 3 lap h, h, kind-is rows k 3 h) (head-given (eqb (num rows k 1) id) (overlapOf (num rows k 2) (cell rows k 3))))
       go false h = rw (row-none rows k 3 lap h, h)
 
   overlap-is : placeOf rows 2 id ≡ some o → overlap (sheet rows) id ≡ option (firstPlace (ownedBy rows o 3) (rowCount rows)) none (λ k. some (overlapOf (num rows k 2) (cell rows k 3)))

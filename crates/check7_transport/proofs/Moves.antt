@@ -4,13 +4,12 @@ use mathlib.Core.Path.{_≡_, refl, sym, ap, _∙_}
 use mathlib.Core.Bool.{Bool, true, false, _&&_}
 use mathlib.Core.List.{List}
 use mathlib.Core.Option.{Option, none, some}
-use native.Mathlib.Omega.{arith}
 use lib.Dec.{eqb}
 use lib.IntN.{ℤ}
 use Rattle.loops.specs.Lists.{given, head, option}
 use Rattle.loops.specs.Search.{firstPlace, someIf}
 use Rattle.loops.specs.inner.Chain.{Blind}
-use Rattle.loops.proofs.ListLaws.{head-collect}
+use Rattle.loops.proofs.ListLaws.{head-collect, head-given}
 use Rattle.loops.proofs.PlaceLaws.{found-at}
 use Rattle.rows.specs.Cells.{rowCount, num, is}
 use Rattle.sheet.specs.Places.{placeOf}
@@ -19,7 +18,6 @@ use Rattle.sheet.specs.inner.Accepted.{Accepted}
 use Rattle.sheet.specs.declared.Found.{Found}
 use Rattle.sheet.specs.declared.Found.the-variants.{At, Nothing}
 use Rattle.sheet.specs.inner.Found.{foundOf}
-use Rattle.sheet.proofs.Lookups.{placed}
 use Rattle.owners.specs.inner.Owners.{ownerKind, ownedBy}
 use Rattle.model.specs.Sheet.{sheet, rowAt}
 use Rattle.model.specs.inner.Records.{numAt}
@@ -34,9 +32,6 @@ module _ (rows : List ℤ) where
   pub moves-blind : (o b : ℕ) {a a′ : ℕ} {f : Found} → a ≡ a′ → foundOf f ≡ placeOf rows 11 a′ → f ≡ At o → Blind (ownedBy rows o 14) (names rows 14 a b)
   moves-blind o b e p q = rw e (names-blind rows 14 11 o _ b (λ i h. own-resource rows 14 i (unfold ownerKind in refl) h) (sym (ap foundOf q) ∙ p))
 
-  pub placed-most : (x id o : ℕ) {f : Found} → foundOf f ≡ placeOf rows x id → f ≡ At o → o ≤ rowCount rows
-  placed-most x id o p q = let w = placed rows x id o (sym p ∙ ap foundOf q) in omega (arith, w .within)
-
   module _ (a b : ℕ) where
     move : ℕ → List ℕ
     move k = given (eqb (numAt (sheet rows) k 1) a && eqb (numAt (sheet rows) k 2) b) (numAt (sheet rows) k 3)
@@ -45,12 +40,8 @@ module _ (rows : List ℤ) where
     unfolding move
     move-at k = go (is rows k 0 14) refl
       where
-        one : (c : Bool) (v : ℕ) → head (given c v) ≡ someIf c v
-        one true v = refl
-        one false v = refl
-
         go : (c : Bool) → is rows k 0 14 ≡ c → head (rowAt (sheet rows) 14 move k) ≡ someIf (names rows 14 a b k) (num rows k 3)
-        go true h = unfold names is in (rw (row-here rows k 14 move h, h, kind-is rows k 14 h) (one (eqb (num rows k 1) a && eqb (num rows k 2) b) (num rows k 3)))
+        go true h = unfold names is in (rw (row-here rows k 14 move h, h, kind-is rows k 14 h) (head-given (eqb (num rows k 1) a && eqb (num rows k 2) b) (num rows k 3)))
         go false h = unfold names in (rw (row-none rows k 14 move h, h))
 
     -- what the search finds

@@ -263,12 +263,6 @@ overlaps-told rows k p s q i h e = rw (overlaps-found rows k p h e, ← i) q
 
 -- ---- what is told of a member, of two bookings, of two members
 
-pub both-told : {b p q r : Bool} → b ≡ p → b ≡ true → r ≡ q → r ≡ (p && q)
-both-told e h f = rw (sym e ∙ h) f
-
-pub one-told : (q : Bool) {b p : Bool} → b ≡ p → b ≡ false → b ≡ (p && q)
-one-told q e h = rw (sym e ∙ h) h
-
 module _ (rows : List ℤ) (p r k : ℕ) {b : Bool} (e : b ≡ (is rows k 0 22 && is rows k 1 p)) where
   pub member-told : {a : ℕ} {x : Option ℕ} → b ≡ true → a ≡ num rows k 2 → x ≡ firstPlace (bookedOn rows a r) (rowCount rows) → x ≡ memberBooking rows p r k
   unfolding memberBooking

@@ -1,6 +1,7 @@
 -- What a lookup of the typed sheet finds, by the place of its row. Assumes nothing.
+use Rattle.model.proofs.Finds.{first-same}
 use Prim.Native.Nat.{ℕ, zero, suc}
-use mathlib.Core.Path.{_≡_, refl, ap, ap₂, _∙_}
+use mathlib.Core.Path.{_≡_, refl, ap, _∙_}
 use mathlib.Core.Bool.{Bool, true, false, cond, _&&_, _||_}
 use mathlib.Core.List.{List, [], _++_}
 use mathlib.Core.Option.{Option, none, some}
@@ -27,11 +28,6 @@ use Rattle.derived_times.specs.inner.Rows.{columnsOf, timedBy, timingOf,
 
 -- ---- what the first place gives
 
-first-ext : {A : Type 0} (f g : ℕ → Option A) (n : ℕ) → ((k : ℕ) → f k ≡ g k) → first f n ≡ first g n
-unfolding first
-first-ext f g zero h = refl
-first-ext f g (suc n) h = ap₂ orElse (first-ext f g n h) (h n)
-
 first-of : {A : Type 0} (q : ℕ → Bool) (g : ℕ → A) (n : ℕ) → first (λ k. cond (q k) (some (g k)) none) n ≡ option (firstPlace q n) none (λ i. some (g i))
 unfolding first firstPlace
 first-of q g zero = refl
@@ -45,7 +41,7 @@ first-of {A} q g (suc n) = ap (λ x. orElse x (cond (q n) (some (g n)) none)) (f
 -- a list put together by place, whose rows give one element or none
 pub head-of : {A : Type 0} (q : ℕ → Bool) (g : ℕ → A) (f : ℕ → List A) (n : ℕ) → ((k : ℕ) → head (f k) ≡ cond (q k) (some (g k)) none)
     → head (collect f n) ≡ option (firstPlace q n) none (λ i. some (g i))
-head-of q g f n h = head-collect f n ∙ first-ext _ _ n h ∙ first-of q g n
+head-of q g f n h = head-collect f n ∙ first-same _ _ n h ∙ first-of q g n
 
 here : {A : Type 0} (b : Bool) (x : A) → head (given b x) ≡ cond b (some x) none
 here true x = refl

@@ -31,7 +31,7 @@ use Rattle.sheet.specs.inner.Accepted.{Accepted}
 use Rattle.sheet.specs.Refusals.{lacks}
 use Rattle.sheet.proofs.Lookups.{placed, num-is}
 use Rattle.sheet.proofs.Keeping.{Keeping, keeping-start, keeping-turn, keeping-end, kept-at}
-use Rattle.owners.specs.inner.Owners.{ownerKind, ownPlace, ownedBy}
+use Rattle.owners.specs.inner.Owners.{ownerKind, ownedBy}
 use Rattle.resource_timing.specs.declared.ActivityDuration.{ActivityDuration}
 use Rattle.resource_timing.specs.declared.PartTimes.{PartTimes}
 use Rattle.resource_timing.specs.declared.ResourceTiming.the-variants.{Speed, Duration}
@@ -43,7 +43,7 @@ use Rattle.model.specs.Activity.{split, pieceOf}
 use Rattle.model.specs.inner.Records.{activityOf}
 use Rattle.model.proofs.RowLaws.{kind-is}
 use Rattle.model.proofs.Accepting.{at-most, has-owner}
-use Rattle.model.proofs.OwnedLaws.{of-activity, own-activity}
+use Rattle.model.proofs.OwnedLaws.{of-activity}
 use Rattle.pieces.specs.inner.Bookings.{names}
 use Rattle.pieces.proofs.Chains.{names-kind, place-never, unnamed, timings-blind}
 use Rattle.pieces.proofs.Companions.{both-parts}
@@ -81,9 +81,6 @@ module _ (rows : List ℤ) where
 
   pub activity-id : (x o : ℕ) → placeOf rows 2 x ≡ some o → num rows o 1 ≡ x
   activity-id x o e = placed rows 2 x o e .id-is
-
-  pub owner-is : (k o : ℕ) → is rows k 0 23 ≡ true → placeOf rows 2 (num rows k 1) ≡ some o → o ≡ ownPlace rows k
-  owner-is k o h e = sym (own-activity rows 23 k (unfold ownerKind in refl) h ∙ ap (orEnd rows) e ∙ unfold orEnd in refl)
 
   pub activity-within : (x o : ℕ) → placeOf rows 2 x ≡ some o → o < rowCount rows
   activity-within x o e = placed rows 2 x o e .within

@@ -3,11 +3,11 @@ use Prim.Native.Nat.{ℕ, suc, _+_, _-_, _<_, _≤_}
 use mir.Syntax.{w64}
 use mir.Val.{Fits}
 use mathlib.Core.Path.{_≡_, refl, sym, ap, _∙_}
-use mathlib.Core.Bool.{Bool, true, false}
+use mathlib.Core.Bool.{Bool, true, false, true≢false}
 use mathlib.Core.List.{List}
 use native.Mathlib.Omega.{arith}
 use native.Mathlib.Numerals.{add-one}
-use native.Mathlib.Decide.{ℕ-discrete}
+use native.Mathlib.Decide.{ℕ-discrete, decLt}
 use lib.ListN.{getD, set, replicate, getD-replicate, length-set, length-replicate}
 use lib.Seq.{getD-set-same, getD-set-other}
 use borrow.Author.Tests.{eq-eqb, ne-eqb, eqb-true}
@@ -87,3 +87,11 @@ links-next key m n t k i h e l = let q : key i ≡ k = eqb-true (key i) k e in r
 
 pub fits : (p : ℕ → Bool) (i n j : ℕ) → First p i n j → n ≤ 800 → Fits w64 j
 fits p i n j f l = record { fits = omega (arith, f .high) }
+
+-- the first place at which p holds is none after a place at which it holds
+pub first-upto : {p : ℕ → Bool} {i n j : ℕ} (k : ℕ) → First p i n j → i ≤ k → p k ≡ true → j ≤ k
+first-upto {p} {i} {n} {j} k f l e = go (decLt k j)
+  where
+    go : Dec (k < j) → j ≤ k
+    go (yes m) = absurd (true≢false (sym e ∙ f .none k l m))
+    go (no m) = omega arith

@@ -1,4 +1,5 @@
 pub mod BoolLaws
+pub mod BranchLaws
 pub mod ChainLaws
 pub mod IntegerLaws
 pub mod KeyLaws

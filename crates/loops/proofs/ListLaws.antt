@@ -8,7 +8,7 @@ use mathlib.Core.Option.{none, some}
 use native.Mathlib.Omega.{arith}
 use Rattle.loops.specs.Lists.{given, keep, anyOf, allOf, countOf, head, last, each}
 use Rattle.loops.specs.Range.{fold, collect}
-use Rattle.loops.specs.Search.{orElse, first, anyBelow}
+use Rattle.loops.specs.Search.{orElse, first, anyBelow, someIf}
 
 pub each-append : {A B : Type 0} (f : A → List B) (l m : List A) → each f (l ++ m) ≡ each f l ++ each f m
 unfolding each
@@ -135,3 +135,7 @@ last-append {A = A} (x ∷ []) (y ∷ m) = go m y
     go [] y = refl
     go (z ∷ m) y = go m z
 last-append (x ∷ w ∷ l) (y ∷ m) = last-append (w ∷ l) (y ∷ m)
+
+pub head-given : {A : Type 0} (b : Bool) (x : A) → head (given b x) ≡ someIf b x
+head-given true x = refl
+head-given false x = refl

@@ -65,3 +65,6 @@ module _ (rows : List ℤ) where
   pub own-activity : (x k : ℕ) → ownerKind x ≡ 2 → is rows k 0 x ≡ true → ownPlace rows k ≡ orEnd rows (placeOf rows 2 (num rows k 1))
   unfolding ownerOf
   own-activity x k o e = owns-at x 2 k o e
+
+  pub booking-owner : (k o : ℕ) → is rows k 0 23 ≡ true → placeOf rows 2 (num rows k 1) ≡ some o → o ≡ ownPlace rows k
+  booking-owner k o h e = sym (own-activity 23 k (unfold ownerKind in refl) h ∙ ap (orEnd rows) e ∙ (unfold orEnd in refl))

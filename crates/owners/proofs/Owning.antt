@@ -15,7 +15,7 @@ use Rattle.loops.specs.Search.{anyBelow}
 use Rattle.loops.specs.inner.Chain.{same, First, Links, Stands, Blind}
 use Rattle.loops.proofs.BoolLaws.{and-left, and-right}
 use Rattle.loops.proofs.ChainLaws.{links-start, links-again, links-next, fits}
-use Rattle.loops.proofs.TableLaws.{first-below}
+use Rattle.loops.proofs.TableLaws.{first-below, seeking-from}
 use Rattle.loops.proofs.Walks.{stands}
 use Rattle.rows.specs.Cells.{rowCount, num, is}
 use Rattle.sheet.proofs.Lookups.{is-num}
@@ -39,19 +39,6 @@ module _ (rows : List ℤ) {n : ℕ} (e : n ≡ rowCount rows) (u : rowCount row
 -- whether there is one
 pub first-any : {p : ℕ → Bool} {n N j : ℕ} → First p 0 n j → N ≡ n → ltb j N ≡ anyBelow p n
 first-any {p} {n} {N} {j} f e = ap (ltb j) e ∙ first-below n (omega arith) f
-
--- a chain in a chain: what is first from the first on is first
-first-join : (p q : ℕ → Bool) (i n j r : ℕ) → Blind p q → First p i n j → First q j n r → First q i n r
-first-join p q i n j r h f g = record {
-  low = omega (arith, f .low, g .low);
-  high = g .high;
-  here = g .here;
-  none = λ k a b. go k a b (decLt k j);
-}
-  where
-    go : (k : ℕ) → i ≤ k → k < r → Dec (k < j) → q k ≡ false
-    go k a b (yes l) = h .still k (f .none k a l)
-    go k a b (no l) = g .none k (omega arith) b
 
 module _ (rows : List ℤ) (o x : ℕ) where
   abbrev key : ℕ
@@ -148,7 +135,7 @@ module _ (rows : List ℤ) (o x : ℕ) where
     head-stands = stands _ _ _ head
 
     pub head-join : {r : ℕ} → First (ownedBy rows o x) (getD t (800 + key) 0) (rowCount rows) r → First (ownedBy rows o x) 0 (rowCount rows) r
-    head-join f = first-join _ _ _ _ _ _ owned-blind head f
+    head-join f = seeking-from _ _ _ _ _ _ owned-blind head f
 
   -- the next row of the chain, and the next of the kind
   module _ {t : List ℕ} {i : ℕ} (h : Owned rows t) (s : Stands (ownedBy rows o x) (rowCount rows) i) (l : i < rowCount rows) where
@@ -162,4 +149,4 @@ module _ (rows : List ℤ) (o x : ℕ) where
     next-stands = stands _ _ _ next
 
     pub next-join : {r : ℕ} → First (ownedBy rows o x) (getD t i 0) (rowCount rows) r → First (ownedBy rows o x) (suc i) (rowCount rows) r
-    next-join f = first-join _ _ _ _ _ _ owned-blind next f
+    next-join f = seeking-from _ _ _ _ _ _ owned-blind next f

@@ -108,9 +108,16 @@ module _ (rows : List ℤ) where
       ∙ sym (own-activity 23 k (unfold ownerKind in refl) h)
       ∙ sym p)
 
+  pub piece-booking : (k j : ℕ) {r : Bool} → r ≡ inPiece rows k j → r ≡ true → is rows j 0 23 ≡ true
+  piece-booking k j e h = piece-kind k j (sym e ∙ h)
+
   pub owned-kind : (o x k : ℕ) → ownedBy rows o x k ≡ true → is rows k 0 x ≡ true
   unfolding ownedBy
   owned-kind o x k e = and-left (is rows k 0 x) (eqb (ownPlace rows k) o) e
+
+  -- a loop along the chain stands at a row of the kind
+  pub stands-kind : (o x : ℕ) {n N i : ℕ} → i < N → N ≡ n → Stands (ownedBy rows o x) n i → is rows i 0 x ≡ true
+  stands-kind o x {n} {N} {i} l z a = owned-kind o x i (a .here (omega arith))
 
 -- ---- a search along a chain
 

@@ -1,5 +1,5 @@
 -- Part indices as numbers: the order of the numbers is that of the indices, none first. Assumes nothing.
-use Prim.Native.Nat.{ℕ, suc, _+_, _-_, _<_, _≤_}
+use Prim.Native.Nat.{ℕ, suc, _+_, _-_, _^_, _<_, _≤_}
 use mathlib.Core.Path.{_≡_, refl, sym, ap₂, _∙_}
 use mathlib.Core.Bool.{Bool, Bool·beq, true, false, cond, not, _&&_, true≢false, false≢true}
 use mathlib.Core.List.{List}
@@ -8,10 +8,11 @@ use native.Mathlib.Omega.{arith}
 use native.Mathlib.Decide.{decLt}
 use lib.Dec.{eqb, ltb, leb, T}
 use lib.IntN.{ℤ, pos, negsuc, subℕ, _+ℤ_, natAbs}
-use lib.Signed.{ltZ, leZ, nonNeg}
+use lib.Signed.{ltZ, leZ, nonNeg, mag}
 use mir.Syntax.{w64}
-use mir.Val.{Fits, SFits, toZ, ofZ}
+use mir.Val.{Fits, SFits, toZ, ofZ, hbits}
 use mir.Facts.{toZ-ofZ}
+use borrow.Author.Needs.{sfits-of}
 use borrow.Author.Tests.{ltb-true, ltb-false, leb-true, lt-ltb, le-ltb}
 use Rattle.loops.specs.Numbers.{toNat}
 use Rattle.loops.proofs.BoolLaws.{and-left, and-right, or-left}
@@ -106,6 +107,9 @@ module _ (z : ℤ) (f : SFits w64 z) where
 
     pub up-key : natAbs (toZ w64 (ofZ w64 z)) + 1000001 ≡ indexKey z
     up-key = rw (toZ-ofZ f) (upper .1)
+
+pub index-read : {r : ℕ} {z y : ℤ} → r ≡ indexKey (toZ w64 (ofZ w64 z)) → mag z < 2 ^ hbits w64 → z ≡ y → r ≡ indexKey y
+index-read h m e = rw (toZ-ofZ (sfits-of m), e) at h
 
 pub key-read : (rows : List ℤ) (k : ℕ) {x : ℤ} {r : ℕ} → x ≡ cell rows k 7 → SFits w64 x → r ≡ indexKey (toZ w64 (ofZ w64 x)) → r ≡ keyAt rows k
 unfolding keyAt

@@ -145,8 +145,6 @@ pub held : {step : ReadStep} {i : Input} (place : Place) (lent : ℕ) (buffer : 
 held place lent buffer t l e q = held-by place lent buffer l t (sym q ∙ e)
 
 -- the step that was made is the one that was matched
-pub matched : {A : Type 0} {x y z : A} → x ≡ y → x ≡ z → y ≡ z
-matched e q = sym e ∙ q
 
 pub ruleset reading = (needs, within-begun, read-within, read-nearer)
 

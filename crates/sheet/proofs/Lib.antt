@@ -1,4 +1,3 @@
-pub mod Branches
 pub mod Groups
 pub mod Keeping
 pub mod Lookups

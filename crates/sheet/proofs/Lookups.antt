@@ -94,3 +94,12 @@ module _ (q : ℕ → Bool) (m : ℕ) where
   pub nth-step : (k : ℕ) → nthPlace q m (suc k) ≡ orElse (nthPlace q m k) (someIf (isNth q m k) k)
   unfolding nthPlace firstPlace
   nth-step k = refl
+
+-- ---- a row that was found
+
+module _ (rows : List ℤ) (x id : ℕ) {k : ℕ} where
+  pub place-low : placeOf rows x id ≡ some k → k ≤ rowCount rows
+  place-low e = let w = placed rows x id k e .within in omega (arith, w)
+
+  pub found-low : {f : Found} → foundOf f ≡ placeOf rows x id → f ≡ At k → k ≤ rowCount rows
+  found-low e q = place-low (sym e ∙ ap foundOf q)

@@ -134,7 +134,3 @@ module _ (rows : List ℤ) (x id : ℕ) where
   pub pair-blind : (other : ℕ) → Blind (same (nameKey rows) (nameHash x id)) (namedPair rows x id other)
   unfolding namedPair
   pair-blind other = record { still = λ k e. rw (name-blind .still k e) }
-
--- what an answer and the branch that it takes say of the test
-pub told : {r b v : Bool} → r ≡ b → r ≡ v → b ≡ v
-told e f = sym e ∙ f

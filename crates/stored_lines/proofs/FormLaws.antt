@@ -1,10 +1,11 @@
 -- Laws of a line's letter, count and piece, and of the tests that say whether it is formed. Assumes nothing.
+use Rattle.loops.proofs.BranchLaws.{chosen, passed, matched}
 use Prim.Native.Nat.{ℕ, _+_, _≤_, _<_}
-use mathlib.Core.Bool.{Bool, true, false, cond, _&&_, not}
+use mathlib.Core.Bool.{Bool, true, false}
 use mathlib.Core.List.{List, []}
 use mathlib.Core.Path.{_≡_, sym, ap, _∙_}
 use native.Mathlib.Omega.{arith}
-use borrow.Author.Tests.{lt-ltb, le-ltb, le-leb, lt-leb, eq-eqb, ne-eqb, not-true, not-false}
+use borrow.Author.Tests.{lt-ltb, le-ltb, le-leb, lt-leb, eq-eqb, ne-eqb}
 use lib.Dec.{eqb, ltb, leb}
 use lib.IntN.{ℤ}
 use lib.ListN.{length, drop, drop-of-length-le, List·getD-eq-default}
@@ -19,43 +20,21 @@ use Rattle.text_fields.specs.declared.Number.the-variants.{Value, Misspelt}
 use Rattle.text_line.specs.Line.{fieldsOf, valueOf, spelled, isNumber}
 use Rattle.stored_lines.specs.inner.Line.{letter, body, count, piece, isJudging, hasCount}
 
--- what a call gave, r, tells of what it is, b
-pub told : {A : Type 0} {r b v : A} → r ≡ b → r ≡ v → b ≡ v
-told e t = sym e ∙ t
-
-pub told-yes : {r b : Bool} → r ≡ b → not r ≡ false → b ≡ true
-told-yes {r} e t = sym e ∙ not-false r t
-
-pub told-no : {r b : Bool} → r ≡ b → not r ≡ true → b ≡ false
-told-no {r} e t = sym e ∙ not-true r t
-
+-- what a field tells
 pub told-number : {v : Number} {z : ℤ} (s : List ℕ) → v ≡ numberOf s → v ≡ Value z → isNumber (numberOf s) ≡ true
 told-number s e t = ap isNumber (sym e ∙ t)
 
 pub told-none : {v : Number} (s : List ℕ) → v ≡ numberOf s → v ≡ Misspelt → isNumber (numberOf s) ≡ false
 told-none s e t = ap isNumber (sym e ∙ t)
 
--- a choice: its test holds, or it does not; the test of a byte, x, that was read
-pub chosen : {A : Type 0} {r : A} (b : Bool) (x y : A) → b ≡ true → r ≡ x → r ≡ cond b x y
-chosen b x y t e = rw t e
-
-pub passed : {A : Type 0} {r : A} (b : Bool) (x y : A) → b ≡ false → r ≡ y → r ≡ cond b x y
-passed b x y t e = rw t e
-
+-- the test of a byte, x, that was read
 pub is-byte : {x : ℕ} (y k : ℕ) → x ≡ y → x ≡ k → eqb y k ≡ true
 is-byte y k e h = eq-eqb y k (sym e ∙ h)
 
 pub no-byte : {x : ℕ} (y k : ℕ) → x ≡ y → (x ≡ k → ⊥) → eqb y k ≡ false
 no-byte y k e h = ne-eqb y k (λ p. h (e ∙ p))
 
-pub ruleset branches = (chosen, passed, told, is-byte, no-byte, eq-eqb, ne-eqb)
-
--- both tests hold: the code looks at the second where the first holds
-pub both : {a b p q : Bool} → a ≡ p → a ≡ true → b ≡ q → b ≡ (p && q)
-both {q = q} e t f = f ∙ ap (λ (x : Bool). x && q) (sym t ∙ e)
-
-pub not-both : {a p : Bool} (q : Bool) → a ≡ p → a ≡ false → a ≡ (p && q)
-not-both q e t = t ∙ ap (λ (x : Bool). x && q) (sym t ∙ e)
+pub ruleset branches = (chosen, passed, matched, is-byte, no-byte, eq-eqb, ne-eqb)
 
 -- the parts of a line: nothing lies past its end; b is what follows its letter, f what stands there before the first comma
 pub none-after : (s : List ℕ) (n : ℕ) → length s ≤ n → [] ≡ drop (n + 1) s

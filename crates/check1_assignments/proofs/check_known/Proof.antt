@@ -1,4 +1,4 @@
-use Rattle.sheet.proofs.Naming.{told}
+use Rattle.loops.proofs.BranchLaws.{told}
 use Rattle.check1_assignments.proofs.Placing.{activity-place}
 use Rattle.check1_assignments.proofs.Judging.{misplaced-told, held-told, is-held}
 use borrow.Author.Needs.{needs}

@@ -1,4 +1,5 @@
-use Rattle.check1_assignments.proofs.Counting.{piece-booking, takes-misplaced, takes-free, takes-apart}
+use Rattle.pieces.proofs.Chains.{piece-booking}
+use Rattle.check1_assignments.proofs.Counting.{takes-misplaced, takes-free, takes-apart}
 use borrow.Author.Needs.{needs}
 use Rattle.check1_assignments.proofs.takes_unit.Statement.{statement}
 use Rattle.check1_assignments.proofs.takes_unit.Tie as tie

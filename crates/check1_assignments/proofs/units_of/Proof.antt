@@ -1,3 +1,4 @@
+use Rattle.sheet.proofs.Lookups.{place-low}
 use Prim.Native.Nat.{_-_, _*_, _≤_}
 use mathlib.Core.Path.{_≡_}
 use native.Mathlib.Omega.{arith}
@@ -7,7 +8,6 @@ use Rattle.loops.specs.inner.Chain.{Stands, onlyAt}
 use Rattle.loops.proofs.Walks.{fold-first, fold-end, quiet-only, only-next}
 use Rattle.rows.specs.Cells.{rowCount}
 use Rattle.owners.specs.inner.Owners.{ownedBy}
-use Rattle.check1_assignments.proofs.Placing.{place-most}
 use Rattle.check1_assignments.proofs.Summing.{addAt, stands-key, sum-step, raised-most, offset-most, sum-told}
 use borrow.Author.Needs.{needs}
 use Rattle.check1_assignments.proofs.units_of.Statement.{statement}
@@ -23,7 +23,7 @@ row-count-requires : tie.Need-row-count-requires Inv-loop μ-loop
 row-count-requires c κs = search needs
 
 first-owned-requires : tie.Need-first-owned-requires Inv-loop μ-loop
-first-owned-requires c κs = (search needs, search (needs, place-most))
+first-owned-requires c κs = (search needs, search (needs, place-low))
 
 loop-holds : tie.Need-loop-holds Inv-loop μ-loop
 loop-holds c = (search needs, fold-first _ _ (c .first-owned .ensures) (quiet-only _ _), omega arith, omega arith)

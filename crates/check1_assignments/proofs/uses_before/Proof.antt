@@ -1,3 +1,4 @@
+use Rattle.loops.proofs.ChainLaws.{first-upto}
 use Prim.Native.Nat.{_-_, _≤_}
 use mathlib.Core.Path.{_≡_}
 use Rattle.loops.specs.Search.{countBelow}
@@ -6,7 +7,7 @@ use Rattle.loops.proofs.PlaceLaws.{count-first}
 use Rattle.rows.specs.Cells.{rowCount}
 use Rattle.owners.specs.inner.Owners.{ownedBy}
 use Rattle.check1_assignments.specs.inner.Bookings.{takesUnit}
-use Rattle.check1_assignments.proofs.Placing.{activity-most, owned-booking, first-upto, next-upto}
+use Rattle.check1_assignments.proofs.Placing.{activity-most, owned-booking, next-upto}
 use Rattle.check1_assignments.proofs.Counting.{takes-blind, uses-told, uses-most, uses-fit, uses-next}
 use borrow.Author.Needs.{needs}
 use Rattle.check1_assignments.proofs.uses_before.Statement.{statement}

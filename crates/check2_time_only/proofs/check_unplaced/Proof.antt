@@ -1,6 +1,6 @@
+use Rattle.loops.proofs.BranchLaws.{told}
 use borrow.Author.Needs.{needs}
 use Rattle.check2_time_only.proofs.Told.{free-told, held-told}
-use Rattle.sheet.proofs.Naming.{told}
 use Rattle.check2_time_only.proofs.check_unplaced.Statement.{statement}
 use Rattle.check2_time_only.proofs.check_unplaced.Tie as tie
 

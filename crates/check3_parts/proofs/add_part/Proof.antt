@@ -1,4 +1,4 @@
-use Rattle.sheet.proofs.Naming.{told}
+use Rattle.loops.proofs.BranchLaws.{told}
 use Rattle.check3_parts.proofs.Sums.{sum-small, added-new, added-none, again-fits, again-is, sum-most, less-most}
 use borrow.Author.Needs.{needs}
 use Rattle.check3_parts.proofs.add_part.Statement.{statement}

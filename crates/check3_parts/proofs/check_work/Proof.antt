@@ -1,4 +1,4 @@
-use Rattle.sheet.proofs.Naming.{told}
+use Rattle.loops.proofs.BranchLaws.{told}
 use Rattle.check3_parts.proofs.Works.{work-told, work-quiet}
 use borrow.Author.Needs.{needs}
 use Rattle.check3_parts.proofs.check_work.Statement.{statement}

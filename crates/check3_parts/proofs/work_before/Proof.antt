@@ -1,3 +1,4 @@
+use Rattle.loops.proofs.ChainLaws.{first-upto}
 use borrow.Author.Needs.{needs}
 use Prim.Native.Nat.{_-_, _≤_}
 use mathlib.Core.Path.{_≡_}
@@ -6,7 +7,7 @@ use Rattle.rows.specs.Cells.{rowCount, cell}
 use Rattle.owners.specs.inner.Owners.{ownedBy}
 use Rattle.definition.specs.CheckParts.{workOf}
 use Rattle.check3_parts.specs.inner.Booked.{decoded, partsBelow}
-use Rattle.check3_parts.proofs.Works.{work-first, work-turn, work-end, not-past}
+use Rattle.check3_parts.proofs.Works.{work-first, work-turn, work-end}
 use Rattle.check3_parts.proofs.work_before.Statement.{statement}
 use Rattle.check3_parts.proofs.work_before.Tie as tie
 
@@ -20,7 +21,7 @@ first-owned-requires : tie.Need-first-owned-requires Inv-loop μ-loop
 first-owned-requires c κs = search needs
 
 loop-holds : tie.Need-loop-holds Inv-loop μ-loop
-loop-holds c = search (needs, work-first, not-past)
+loop-holds c = search (needs, work-first, first-upto)
 
 work-after-requires : tie.Need-work-after-requires Inv-loop μ-loop
 work-after-requires c κs = search needs
@@ -32,7 +33,7 @@ loop-less : tie.Need-loop-less Inv-loop μ-loop
 loop-less c = search needs
 
 loop-again : tie.Need-loop-again Inv-loop μ-loop
-loop-again c = (search needs, search (needs, work-turn), search (needs, not-past))
+loop-again c = (search needs, search (needs, work-turn), search (needs, first-upto))
 
 returns : tie.Need-returns Inv-loop μ-loop
 returns c = search (needs, work-end)

@@ -1,4 +1,5 @@
-use Rattle.check4_claims.proofs.Taking.{place-low, lacking-one}
+use Rattle.sheet.proofs.Lookups.{place-low}
+use Rattle.check4_claims.proofs.Taking.{lacking-one}
 use Rattle.rows.specs.Cells.{rowCount}
 use Rattle.owners.specs.inner.Owners.{ownedBy}
 use Prim.Native.Nat.{_-_}

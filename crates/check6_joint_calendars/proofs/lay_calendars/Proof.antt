@@ -1,5 +1,6 @@
+use Rattle.sheet.proofs.Lookups.{place-low}
 use borrow.Author.Needs.{needs}
-use Rattle.check6_joint_calendars.proofs.Marking.{on-resources, place-low}
+use Rattle.check6_joint_calendars.proofs.Marking.{on-resources}
 use Rattle.check6_joint_calendars.proofs.Gathering.{last-windows, last-calendars}
 use Rattle.check6_joint_calendars.proofs.Whole.{activity-holder, whole}
 use Rattle.check6_joint_calendars.proofs.lay_calendars.Statement.{statement}

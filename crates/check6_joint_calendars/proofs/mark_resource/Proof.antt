@@ -1,4 +1,5 @@
-use Rattle.check6_joint_calendars.proofs.Marking.{piece-row, mark-low, mark-more, mark-none, mark-past}
+use Rattle.pieces.proofs.Chains.{piece-booking}
+use Rattle.check6_joint_calendars.proofs.Marking.{mark-low, mark-more, mark-none, mark-past}
 use borrow.Author.Needs.{needs}
 use Rattle.check6_joint_calendars.proofs.mark_resource.Statement.{statement}
 use Rattle.check6_joint_calendars.proofs.mark_resource.Tie as tie
@@ -7,7 +8,7 @@ in-piece-requires : tie.Need-in-piece-requires
 in-piece-requires c κs = search needs
 
 booked-resource-requires : tie.Need-booked-resource-requires
-booked-resource-requires c κs = search (needs, piece-row)
+booked-resource-requires c κs = search (needs, piece-booking)
 
 enum-known-r : tie.Need-enum-known-r
 enum-known-r c = search needs

@@ -1,10 +1,11 @@
+use Rattle.sheet.proofs.Lookups.{place-low}
 use borrow.Author.Needs.{needs}
 use Prim.Native.Nat.{_-_}
 use Rattle.loops.specs.inner.Chain.{Stands}
 use Rattle.rows.specs.Cells.{rowCount}
 use Rattle.owners.specs.inner.Owners.{ownedBy}
 use Rattle.check6_joint_calendars.specs.inner.Taken.{Marked}
-use Rattle.check6_joint_calendars.proofs.Marking.{place-low, mark-first, mark-next, mark-end}
+use Rattle.check6_joint_calendars.proofs.Marking.{mark-first, mark-next, mark-end}
 use Rattle.check6_joint_calendars.proofs.mark_resources.Statement.{statement}
 use Rattle.check6_joint_calendars.proofs.mark_resources.Tie as tie
 

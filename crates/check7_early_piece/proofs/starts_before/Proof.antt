@@ -1,3 +1,4 @@
+use Rattle.loops.proofs.BranchLaws.{told}
 use borrow.Author.Needs.{needs}
 use mathlib.Core.Path.{_≡_}
 use mathlib.Core.Bool.{false}
@@ -6,7 +7,6 @@ use Rattle.loops.specs.Search.{anyBelow}
 use Rattle.loops.specs.inner.Chain.{Stands}
 use Rattle.loops.proofs.SearchLaws.{any-hit}
 use Rattle.loops.proofs.Walks.{any-first, any-next, any-end}
-use Rattle.sheet.proofs.Naming.{told}
 use Rattle.rows.specs.Cells.{rowCount}
 use Rattle.owners.specs.inner.Owners.{ownedBy}
 use Rattle.check7_early_piece.specs.inner.Reached.{startsAt}

@@ -1,3 +1,4 @@
+use Rattle.pieces.proofs.Chains.{stands-kind}
 use borrow.Author.Needs.{needs}
 use Prim.Native.Nat.{_-_}
 use mathlib.Core.Path.{_≡_}
@@ -8,7 +9,7 @@ use Rattle.findings.proofs.SinkLaws.{kept}
 use Rattle.findings.proofs.Reports.{emit-first, emit-end}
 use Rattle.rows.specs.Cells.{rowCount, num}
 use Rattle.owners.specs.inner.Owners.{ownedBy}
-use Rattle.check7_end_to_start.proofs.Told.{activityTold, activity-silent, activity-next, activities-told, stands-activity}
+use Rattle.check7_end_to_start.proofs.Told.{activityTold, activity-silent, activity-next, activities-told}
 use Rattle.check7_end_to_start.proofs.check_all_predecessors.Statement.{statement}
 use Rattle.check7_end_to_start.proofs.check_all_predecessors.Tie as tie
 use Rattle.model.proofs.Accepting.{task-at}
@@ -29,7 +30,7 @@ loop-holds : tie.Need-loop-holds Inv-loop μ-loop
 loop-holds c = (search needs, search (needs, emit-first, activity-silent, task-at))
 
 check-predecessors-requires : tie.Need-check-predecessors-requires Inv-loop μ-loop
-check-predecessors-requires c κs = search (needs, stands-activity)
+check-predecessors-requires c κs = search (needs, stands-kind)
 
 next-owned-requires : tie.Need-next-owned-requires Inv-loop μ-loop
 next-owned-requires c κs = search needs

@@ -1,4 +1,5 @@
-use Rattle.check7_transport.proofs.Moves.{moves-blind, placed-most, move-is, no-move, move-most, unmoved}
+use Rattle.sheet.proofs.Lookups.{found-low}
+use Rattle.check7_transport.proofs.Moves.{moves-blind, move-is, no-move, move-most, unmoved}
 use borrow.Author.Needs.{needs}
 use Rattle.check7_transport.proofs.transport_to.Statement.{statement}
 use Rattle.check7_transport.proofs.transport_to.Tie as tie
@@ -19,7 +20,7 @@ num-at-requires : tie.Need-num-at-requires
 num-at-requires c κs = search needs
 
 find-naming-requires : tie.Need-find-naming-requires
-find-naming-requires c κs = search (needs, placed-most, moves-blind)
+find-naming-requires c κs = search (needs, found-low, moves-blind)
 
 enum-known-k : tie.Need-enum-known-k
 enum-known-k c = search needs

@@ -1,4 +1,4 @@
-use Rattle.check9_constraints.proofs.Pairs.{both-told, one-told}
+use Rattle.loops.proofs.BranchLaws.{both-told, one-told}
 use borrow.Author.Needs.{needs}
 use Rattle.check9_constraints.proofs.is_member.Statement.{statement}
 use Rattle.check9_constraints.proofs.is_member.Tie as tie

@@ -1,5 +1,4 @@
-use Rattle.sheet.proofs.Branches.{told-no, told-yes, if-yes, if-no, else-yes, else-no}
-use Rattle.sheet.proofs.Naming.{told}
+use Rattle.loops.proofs.BranchLaws.{told-no, told-yes, if-yes, if-no, else-yes, else-no, told}
 use borrow.Author.Needs.{needs}
 use Rattle.sheet.specs.Refusals.{columnFault}
 use Rattle.column_faults.proofs.column_fault.Statement.{statement}

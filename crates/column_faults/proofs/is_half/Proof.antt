@@ -1,7 +1,6 @@
+use Rattle.loops.proofs.BranchLaws.{and-yes, and-no, told}
 use mathlib.Core.Bool.{Bool, not, Bool·beq}
 use mathlib.Core.Path.{_≡_}
-use Rattle.sheet.proofs.Branches.{and-yes, and-no}
-use Rattle.sheet.proofs.Naming.{told}
 use borrow.Author.Needs.{needs}
 use Rattle.sheet.specs.Refusals.{halfPart}
 use Rattle.column_faults.proofs.is_half.Statement.{statement}

@@ -1,5 +1,4 @@
-use Rattle.sheet.proofs.Branches.{or-yes, or-no}
-use Rattle.sheet.proofs.Naming.{told}
+use Rattle.loops.proofs.BranchLaws.{or-yes, or-no, told}
 use borrow.Author.Needs.{needs}
 use Rattle.sheet.specs.Refusals.{outOfRange}
 use Rattle.column_faults.proofs.is_out.Statement.{statement}

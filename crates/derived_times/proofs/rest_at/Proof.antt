@@ -1,4 +1,4 @@
-use Rattle.sheet.proofs.Naming.{told}
+use Rattle.loops.proofs.BranchLaws.{told}
 use Rattle.owners.proofs.Links.{books}
 use Rattle.derived_times.proofs.Parts.{found-none, found-some}
 use Rattle.derived_times.proofs.Refusing.{rest-most, rest-known, rest-unknown, rest-none}

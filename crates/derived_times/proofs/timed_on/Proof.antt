@@ -1,4 +1,4 @@
-use Rattle.sheet.proofs.Naming.{told}
+use Rattle.loops.proofs.BranchLaws.{told}
 use Rattle.derived_times.proofs.Derivation.{held-aside, timed-still, timed-found, untimed-found, not-of-piece}
 use borrow.Author.Needs.{needs}
 use Rattle.derived_times.proofs.timed_on.Statement.{statement}

@@ -1,4 +1,4 @@
-use Rattle.sheet.proofs.Naming.{told}
+use Rattle.loops.proofs.BranchLaws.{told}
 use Rattle.derived_times.proofs.Parts.{timing-speed, timing-fixed}
 use borrow.Author.Needs.{needs}
 use Rattle.derived_times.proofs.timing_at.Statement.{statement}

@@ -1,4 +1,4 @@
-use Rattle.sheet.proofs.Naming.{told}
+use Rattle.loops.proofs.BranchLaws.{told}
 use borrow.Author.Tests.{not-true, not-false}
 use Rattle.owners.proofs.Links.{books}
 use Rattle.derived_times.proofs.Parts.{found-none, found-below, found-blind, kind-9, kind-10, row-none, row-unknown, row-earlier}

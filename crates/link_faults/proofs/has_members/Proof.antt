@@ -1,4 +1,4 @@
-use Rattle.sheet.proofs.Branches.{range-from, range-under}
+use Rattle.loops.proofs.BranchLaws.{range-from, range-under}
 use borrow.Author.Needs.{needs}
 use Rattle.sheet.specs.Refusals.{hasMembers}
 use Rattle.link_faults.proofs.has_members.Statement.{statement}

@@ -1,5 +1,4 @@
-use Rattle.sheet.proofs.Branches.{if-yes, if-no}
-use Rattle.sheet.proofs.Naming.{told}
+use Rattle.loops.proofs.BranchLaws.{if-yes, if-no, told}
 use borrow.Author.Needs.{needs}
 use Rattle.sheet.specs.Refusals.{ownerFault}
 use Rattle.link_faults.proofs.owner_fault.Statement.{statement}

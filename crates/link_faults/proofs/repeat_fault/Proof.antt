@@ -1,6 +1,5 @@
+use Rattle.loops.proofs.BranchLaws.{if-yes, if-no, told}
 use Rattle.link_faults.proofs.Repeats.{repeat-read}
-use Rattle.sheet.proofs.Branches.{if-yes, if-no}
-use Rattle.sheet.proofs.Naming.{told}
 use borrow.Author.Needs.{needs}
 use Rattle.sheet.specs.Refusals.{repeatFault}
 use Rattle.link_faults.proofs.repeat_fault.Statement.{statement}

@@ -1,9 +1,9 @@
+use Rattle.loops.proofs.BranchLaws.{told}
 use borrow.Author.Needs.{needs}
 use Prim.Native.Nat.{_-_}
 use Rattle.loops.proofs.TableLaws.{Seeking, seeking-start, seeking-hit, seeking-next, seeking-end}
 use Rattle.rows.specs.Cells.{rowCount}
 use Rattle.sheet.specs.Places.{ofKind}
-use Rattle.sheet.proofs.Naming.{told}
 use Rattle.model.proofs.Standing.{stands-kind}
 use Rattle.load.specs.inner.Firsts.{isFirst}
 use Rattle.load.proofs.Firsts.{first-blind}

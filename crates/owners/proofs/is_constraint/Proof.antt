@@ -1,5 +1,5 @@
+use Rattle.loops.proofs.BranchLaws.{range-from, range-under}
 use Rattle.sheet.specs.Places.{isConstraint}
-use Rattle.sheet.proofs.Branches.{range-from, range-under}
 use borrow.Author.Needs.{needs}
 use Rattle.owners.proofs.is_constraint.Statement.{statement}
 use Rattle.owners.proofs.is_constraint.Tie as tie

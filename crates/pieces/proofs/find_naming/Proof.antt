@@ -1,4 +1,4 @@
-use Rattle.sheet.proofs.Naming.{told}
+use Rattle.loops.proofs.BranchLaws.{told}
 use borrow.Author.Needs.{needs}
 use Rattle.pieces.proofs.Chains.{found-here, found-none}
 use Rattle.pieces.specs.inner.Bookings.{names}

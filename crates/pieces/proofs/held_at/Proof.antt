@@ -1,6 +1,6 @@
+use Rattle.loops.proofs.BranchLaws.{told}
 use mathlib.Core.Path.{sym}
 use Rattle.pieces.proofs.Companions.{held-as, held-none}
-use Rattle.sheet.proofs.Naming.{told}
 use borrow.Author.Needs.{needs}
 use Rattle.pieces.proofs.held_at.Statement.{statement}
 use Rattle.pieces.proofs.held_at.Tie as tie

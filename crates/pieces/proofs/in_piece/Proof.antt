@@ -1,6 +1,5 @@
+use Rattle.loops.proofs.BranchLaws.{and-yes, and-no, told}
 use Rattle.pieces.proofs.Chains.{read-is}
-use Rattle.sheet.proofs.Branches.{and-yes, and-no}
-use Rattle.sheet.proofs.Naming.{told}
 use Rattle.pieces.specs.inner.Bookings.{inPiece}
 use lib.Dec.{eqb}
 use Prim.Native.Nat.{ℕ}

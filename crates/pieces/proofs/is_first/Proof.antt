@@ -1,8 +1,8 @@
+use Rattle.loops.proofs.BranchLaws.{told}
 use borrow.Author.Needs.{needs}
 use Rattle.pieces.specs.inner.Bookings.{sameBooking}
 use Rattle.pieces.proofs.Chains.{same-blind, not-first, is-first}
 use Rattle.sheet.specs.Places.{named}
-use Rattle.sheet.proofs.Naming.{told}
 use Rattle.rows.specs.Cells.{rowCount}
 use Rattle.loops.proofs.Walks.{any-first, any-next}
 use Rattle.loops.specs.Search.{anyBelow}

@@ -1,8 +1,8 @@
+use Rattle.loops.proofs.BranchLaws.{told}
 use borrow.Author.Needs.{needs}
 use Rattle.loops.proofs.SearchLaws.{any-hit}
 use Rattle.pieces.proofs.Chains.{firstHolds, first-blind, firsts-enough}
 use Rattle.sheet.specs.Places.{named}
-use Rattle.sheet.proofs.Naming.{told}
 use Rattle.rows.specs.Cells.{rowCount}
 use Rattle.loops.proofs.Walks.{any-first, any-next, any-end}
 use Rattle.loops.specs.Search.{anyBelow}

@@ -1,5 +1,5 @@
+use Rattle.loops.proofs.BranchLaws.{and-yes, and-no}
 use Rattle.pieces.proofs.Chains.{read-is}
-use Rattle.sheet.proofs.Branches.{and-yes, and-no}
 use Rattle.pieces.specs.inner.Bookings.{sameBooking}
 use borrow.Author.Needs.{needs}
 use Rattle.pieces.proofs.is_same.Statement.{statement}

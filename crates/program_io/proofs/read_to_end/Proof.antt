@@ -1,7 +1,8 @@
+use Rattle.loops.proofs.BranchLaws.{matched}
 use mathlib.Core.Path.{_≡_}
 use lib.ListN.{length}
 use borrow.Author.Needs.{needs}
-use Rattle.program_io.proofs.Onward.{Within, ahead, held, matched, reading}
+use Rattle.program_io.proofs.Onward.{Within, ahead, held, reading}
 use Rattle.program_io.proofs.read_to_end.Statement.{statement}
 use Rattle.program_io.proofs.read_to_end.Tie as tie
 

@@ -1,6 +1,7 @@
+use Rattle.loops.proofs.BranchLaws.{matched}
 use lib.ListN.{length}
 use borrow.Author.Needs.{needs}
-use Rattle.program_io.proofs.Onward.{Within, ahead, matched, writing}
+use Rattle.program_io.proofs.Onward.{Within, ahead, writing}
 use Rattle.program_io.proofs.write_to_end.Statement.{statement}
 use Rattle.program_io.proofs.write_to_end.Tie as tie
 

@@ -1,22 +1,11 @@
-use Rattle.sheet.specs.declared.Found.the-variants.{At}
-use Rattle.sheet.specs.declared.Found.{Found}
-use Prim.Native.Nat.{ℕ}
-use mathlib.Core.Option.{Option, some}
-use mathlib.Core.Bool.{Bool}
-use mathlib.Core.Path.{sym, ap, _∙_, _≡_}
-use Rattle.sheet.specs.inner.Found.{foundOf}
+use Rattle.derived_times.proofs.Parts.{found-some}
+use Rattle.loops.proofs.BranchLaws.{told}
 use Rattle.owners.proofs.Links.{books}
 use borrow.Author.Needs.{needs}
 use Rattle.replay_derived_times.proofs.derived_at.Statement.{statement}
 use Rattle.replay_derived_times.proofs.derived_at.Tie as tie
 
 -- what a call gave, r, tells of what it is
-told : {r b v : Bool} → r ≡ b → r ≡ v → b ≡ v
-told e h = sym e ∙ h
-
-told-found : {p : Option ℕ} {k : ℕ} (r : Found) → foundOf r ≡ p → r ≡ At k → p ≡ some k
-told-found r e h = sym e ∙ ap foundOf h
-
 is-at-requires : tie.Need-is-at-requires
 is-at-requires c κs = search needs
 
@@ -33,7 +22,7 @@ returns : tie.Need-returns
 returns c = search needs
 
 duration-on-requires : tie.Need-duration-on-requires
-duration-on-requires c κs = search (needs, told, told-found)
+duration-on-requires c κs = search (needs, told, found-some)
 
 add-derived-requires : tie.Need-add-derived-requires
 add-derived-requires c κs = search needs

@@ -1,3 +1,4 @@
+use Rattle.loops.proofs.BranchLaws.{told}
 use borrow.Author.Needs.{needs}
 use Prim.Native.Nat.{_-_}
 use mathlib.Core.Path.{_≡_, sym}
@@ -10,7 +11,7 @@ use Rattle.loops.proofs.PlaceLaws.{any-less}
 use Rattle.rows.specs.Cells.{rowCount}
 use Rattle.sheet.specs.inner.Groups.{namedPair}
 use Rattle.sheet.specs.inner.Index.{nameHash, nameKey}
-use Rattle.sheet.proofs.Naming.{pair-blind, told}
+use Rattle.sheet.proofs.Naming.{pair-blind}
 use Rattle.sheet.proofs.has_earlier_pair.Statement.{statement}
 use Rattle.sheet.proofs.has_earlier_pair.Tie as tie
 

@@ -1,4 +1,4 @@
-use Rattle.sheet.proofs.Branches.{half-fails, half-holds}
+use Rattle.loops.proofs.BranchLaws.{half-fails, half-holds}
 use Rattle.sheet.specs.Places.{named}
 use borrow.Author.Needs.{needs}
 use Rattle.sheet.proofs.is_named.Statement.{statement}

@@ -1,6 +1,6 @@
+use Rattle.loops.proofs.BranchLaws.{half-fails, half-holds}
 use Rattle.sheet.specs.inner.Groups.{namedPair}
 use borrow.Author.Needs.{needs}
-use Rattle.sheet.proofs.Branches.{half-fails, half-holds}
 use Rattle.sheet.proofs.is_pair.Statement.{statement}
 use Rattle.sheet.proofs.is_pair.Tie as tie
 

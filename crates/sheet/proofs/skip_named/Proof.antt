@@ -1,3 +1,4 @@
+use Rattle.loops.proofs.BranchLaws.{told}
 use borrow.Author.Needs.{needs}
 use Prim.Native.Nat.{_-_}
 use Rattle.loops.specs.inner.Chain.{same}
@@ -5,7 +6,7 @@ use Rattle.loops.proofs.TableLaws.{Seeking, seeking-start, seeking-hit, seeking
 use Rattle.rows.specs.Cells.{rowCount}
 use Rattle.sheet.specs.Places.{named}
 use Rattle.sheet.specs.inner.Index.{nameHash, nameKey}
-use Rattle.sheet.proofs.Naming.{name-blind, told}
+use Rattle.sheet.proofs.Naming.{name-blind}
 use Rattle.sheet.proofs.skip_named.Statement.{statement}
 use Rattle.sheet.proofs.skip_named.Tie as tie
 

@@ -1,4 +1,4 @@
-use Rattle.stored_lines.proofs.FormLaws.{chosen, passed}
+use Rattle.loops.proofs.BranchLaws.{chosen, passed}
 use Rattle.stored_bytes.specs.inner.Bytes.{meant}
 use borrow.Author.Tests.{eq-eqb, ne-eqb}
 use Rattle.stored_bytes.proofs.meant_by.Statement.{statement}

@@ -1,4 +1,4 @@
-use Rattle.stored_lines.proofs.FormLaws.{told-yes, told-no}
+use Rattle.loops.proofs.BranchLaws.{untold-yes, untold-no}
 use borrow.Author.Needs.{needs}
 use Rattle.stored_lines.proofs.LineLaws.{all-more, all-last, all-not}
 use Rattle.stored_lines.specs.inner.Line.{isFormed}
@@ -26,10 +26,10 @@ is-formed-requires : tie.Need-is-formed-requires Inv-loop μ-loop
 is-formed-requires c κs = search needs
 
 returns : tie.Need-returns Inv-loop μ-loop
-returns c = search (needs, all-not, told-no)
+returns c = search (needs, all-not, untold-no)
 
 returns-2 : tie.Need-returns-2 Inv-loop μ-loop
-returns-2 c = search (needs, all-last, told-yes)
+returns-2 c = search (needs, all-last, untold-yes)
 
 add-rest : tie.Need-add-rest Inv-loop μ-loop
 add-rest c = search needs
@@ -47,7 +47,7 @@ loop-less : tie.Need-loop-less Inv-loop μ-loop
 loop-less c = simp (length-take, length-drop) (omega arith)
 
 loop-again : tie.Need-loop-again Inv-loop μ-loop
-loop-again c = search (needs, all-more, told-yes)
+loop-again c = search (needs, all-more, untold-yes)
 
 pub all-formed-spec : {M : Type 1} → statement M
 all-formed-spec =

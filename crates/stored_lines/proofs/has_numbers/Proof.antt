@@ -1,4 +1,5 @@
-use Rattle.stored_lines.proofs.FormLaws.{both, not-both, body-spelled}
+use Rattle.loops.proofs.BranchLaws.{both-told, one-told}
+use Rattle.stored_lines.proofs.FormLaws.{body-spelled}
 use Rattle.stored_lines.specs.inner.Line.{hasNumbers}
 use borrow.Author.Needs.{needs}
 use Rattle.stored_lines.proofs.has_numbers.Statement.{statement}
@@ -15,11 +16,11 @@ is-spelled-requires c κs = search needs
 
 returns : tie.Need-returns
 unfolding hasNumbers
-returns c = search (needs, both, body-spelled)
+returns c = search (needs, both-told, body-spelled)
 
 returns-2 : tie.Need-returns-2
 unfolding hasNumbers
-returns-2 c = search (needs, not-both)
+returns-2 c = search (needs, one-told)
 
 pub has-numbers-spec : {M : Type 1} → statement M
 has-numbers-spec =

@@ -1,4 +1,5 @@
-use Rattle.stored_lines.proofs.FormLaws.{both, not-both, body-short}
+use Rattle.loops.proofs.BranchLaws.{both-told, one-told}
+use Rattle.stored_lines.proofs.FormLaws.{body-short}
 use Rattle.stored_lines.specs.inner.Line.{hasRow}
 use borrow.Author.Needs.{needs}
 use Rattle.stored_lines.proofs.has_row.Statement.{statement}
@@ -15,11 +16,11 @@ is-short-requires c κs = search needs
 
 returns : tie.Need-returns
 unfolding hasRow
-returns c = search (needs, both, body-short)
+returns c = search (needs, both-told, body-short)
 
 returns-2 : tie.Need-returns-2
 unfolding hasRow
-returns-2 c = search (needs, not-both)
+returns-2 c = search (needs, one-told)
 
 pub has-row-spec : {M : Type 1} → statement M
 has-row-spec =

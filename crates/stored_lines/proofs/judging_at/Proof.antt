@@ -1,4 +1,4 @@
-use Rattle.stored_lines.proofs.FormLaws.{told}
+use Rattle.loops.proofs.BranchLaws.{matched}
 use borrow.Author.Needs.{needs}
 use Rattle.stored_lines.proofs.LineLaws.{judges-here, judges-nowhere, judges-later, judges-past}
 use Rattle.stored_lines.specs.inner.Case.{judgingAt}
@@ -33,13 +33,13 @@ is-judging-requires : tie.Need-is-judging-requires Inv-loop μ-loop
 is-judging-requires c κs = search needs
 
 returns : tie.Need-returns Inv-loop μ-loop
-returns c = search (needs, judges-here, told)
+returns c = search (needs, judges-here, matched)
 
 sub-if2 : tie.Need-sub-if2 Inv-loop μ-loop
 sub-if2 c = search needs
 
 returns-2 : tie.Need-returns-2 Inv-loop μ-loop
-returns-2 c = search (needs, judges-nowhere, told)
+returns-2 c = search (needs, judges-nowhere, matched)
 
 add-at : tie.Need-add-at Inv-loop μ-loop
 add-at c = search needs
@@ -51,7 +51,7 @@ loop-less : tie.Need-loop-less Inv-loop μ-loop
 loop-less c = search needs
 
 loop-again : tie.Need-loop-again Inv-loop μ-loop
-loop-again c = search (needs, judges-later, told)
+loop-again c = search (needs, judges-later, matched)
 
 returns-3 : tie.Need-returns-3 Inv-loop μ-loop
 returns-3 c = search (needs, judges-past)

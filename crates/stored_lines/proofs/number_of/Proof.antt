@@ -1,5 +1,5 @@
+use Rattle.loops.proofs.BranchLaws.{matched}
 use Rattle.text_line.proofs.LineLaws.{value-held, none-held}
-use Rattle.stored_lines.proofs.FormLaws.{told}
 use borrow.Author.Needs.{needs}
 use Rattle.stored_lines.proofs.number_of.Statement.{statement}
 use Rattle.stored_lines.proofs.number_of.Tie as tie
@@ -14,10 +14,10 @@ enum-told : tie.Need-enum-told
 enum-told c = search needs
 
 returns : tie.Need-returns
-returns c = search (needs, value-held, told)
+returns c = search (needs, value-held, matched)
 
 returns-2 : tie.Need-returns-2
-returns-2 c = search (needs, none-held, told)
+returns-2 c = search (needs, none-held, matched)
 
 pub number-of-spec : {M : Type 1} → statement M
 number-of-spec = tie.close (tie.spec read-number-requires enum-known-z enum-told returns returns-2)

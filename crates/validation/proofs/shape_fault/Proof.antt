@@ -1,5 +1,4 @@
-use Rattle.sheet.proofs.Branches.{else-yes, else-no}
-use Rattle.sheet.proofs.Naming.{told}
+use Rattle.loops.proofs.BranchLaws.{else-yes, else-no, told}
 use borrow.Author.Needs.{needs}
 use Rattle.validation.specs.inner.Answer.{shapeRefusal}
 use Rattle.validation.proofs.shape_fault.Statement.{statement}

@@ -1,4 +1,4 @@
-use Rattle.sheet.proofs.Naming.{told}
+use Rattle.loops.proofs.BranchLaws.{told}
 use Rattle.work_end_inquiry.proofs.Ends.{no-refusal, kinds-of, owned-of, inquiry-refused, inquiry-own, inquiry-ends}
 use borrow.Author.Needs.{needs}
 use Rattle.work_end_inquiry.proofs.work_end.Statement.{statement}

@@ -1,13 +1,41 @@
 -- Tests that code makes one after another, and the test or the answer that the definition puts together of them. Assumes nothing.
 use Prim.Native.Nat.{ℕ, _<_, _≤_}
 use mathlib.Core.Path.{_≡_, sym, ap, _∙_}
-use mathlib.Core.Bool.{Bool, true, false, not, _&&_, _||_, and-false, and-true}
+use mathlib.Core.Bool.{Bool, true, false, cond, not, _&&_, _||_, and-false, and-true}
 use mathlib.Core.Option.{Option, none, some}
 use lib.Dec.{leb}
 use borrow.Author.Tests.{le-leb, lt-leb, not-true, not-false}
 use Rattle.loops.specs.Search.{orElse, someIf}
+
+-- ---- what a call gave, r, tells of what it is, b
+
+pub told : {r b v : Bool} → r ≡ b → r ≡ v → b ≡ v
+told e f = sym e ∙ f
+
+pub matched : {A : Type 0} {x y z : A} → x ≡ y → x ≡ z → y ≡ z
+matched e f = sym e ∙ f
+
+pub untold-yes : {r b : Bool} → r ≡ b → not r ≡ false → b ≡ true
+untold-yes {r} e f = sym e ∙ not-false r f
+
+pub untold-no : {r b : Bool} → r ≡ b → not r ≡ true → b ≡ false
+untold-no {r} e f = sym e ∙ not-true r f
+
+-- ---- of a choice
+
+pub chosen : {A : Type 0} {r : A} (b : Bool) (x y : A) → b ≡ true → r ≡ x → r ≡ cond b x y
+chosen b x y t e = rw t e
+
+pub passed : {A : Type 0} {r : A} (b : Bool) (x y : A) → b ≡ false → r ≡ y → r ≡ cond b x y
+passed b x y t e = rw t e
 
 -- ---- of the two halves
+
+pub both-told : {b p q r : Bool} → b ≡ p → b ≡ true → r ≡ q → r ≡ (p && q)
+both-told e h f = rw (sym e ∙ h) f
+
+pub one-told : (q : Bool) {b p : Bool} → b ≡ p → b ≡ false → b ≡ (p && q)
+one-told q e h = rw (sym e ∙ h) h
 
 pub and-yes : {a b r : Bool} → a ≡ true → r ≡ b → r ≡ (a && b)
 and-yes e q = rw e q
