@@ -5,19 +5,16 @@ use mathlib.Core.Bool.{Bool, true, false, not, _&&_}
 use mathlib.Core.List.{List}
 use mathlib.Core.Option.{Option, none, some}
 use native.Mathlib.Omega.{arith}
-use lib.Dec.{eqb}
 use lib.IntN.{ℤ}
 use Rattle.loops.specs.Lists.{keep, head, option, among, isEmpty}
 use Rattle.loops.specs.Search.{someIf, firstPlace, anyBelow}
 use Rattle.loops.specs.inner.Chain.{Stands, Blind}
-use Rattle.loops.proofs.BoolLaws.{and-left}
 use Rattle.loops.proofs.ListLaws.{keep-collect, head-collect}
 use Rattle.loops.proofs.Walks.{seek-hit, seek-end}
 use Rattle.rows.specs.Cells.{rowCount, num, is}
 use Rattle.sheet.specs.Places.{placeOf}
 use Rattle.sheet.specs.Refusals.{refusalOf}
-use Rattle.sheet.proofs.Lookups.{placed}
-use Rattle.owners.specs.inner.Owners.{ownerKind, ownPlace, ownedBy}
+use Rattle.owners.specs.inner.Owners.{ownerKind, ownedBy}
 use Rattle.model.specs.Sheet.{sheet}
 use Rattle.model.specs.Activity.{requirementAt, requirements, candidates, isCandidate, usageOn}
 use Rattle.model.specs.inner.Records.{activityOf, requirementOf, resourceOf}
@@ -25,6 +22,7 @@ use Rattle.model.proofs.Accepting.{accepted, at-most}
 use Rattle.model.proofs.OwnedLaws.{of-activity}
 use Rattle.model.proofs.Finds.{first-same, first-placed, given-head}
 use Rattle.model.proofs.Requiring.{requirement-row, requirement-none, candidates-are, none-given, among-given}
+use Rattle.model.proofs.Standing.{stands-owned}
 
 -- ---- candidates
 
@@ -82,10 +80,6 @@ module _ (rows : List ℤ) (a k : ℕ) where
   unfolding takes
   takes-test l z s e f = rw (s .here (omega arith), ← e) f
 
-  pub is-requirement : {n N i : ℕ} → i < N → N ≡ n → Stands (ownedBy rows a 5) n i → is rows i 0 5 ≡ true
-  unfolding ownedBy
-  is-requirement {i = i} l z s = and-left (is rows i 0 5) (eqb (ownPlace rows i) a) (s .here (omega arith))
-
   requirement-at : placeOf rows 2 (num rows a 1) ≡ some a → (q : ℕ)
       → head (keep (λ q. isCandidate (sheet rows) q (resourceOf rows k)) (requirementAt (sheet rows) (num rows a 1) q)) ≡ someIf (takes q) (requirementOf rows q)
   unfolding takes keep
@@ -116,7 +110,7 @@ module _ (rows : List ℤ) (a k : ℕ) where
       go (some j) = refl
 
   pub usage-most : {n N i r : ℕ} → refusalOf rows ≡ none → i < N → N ≡ n → Stands (ownedBy rows a 5) n i → r ≡ num rows i 4 → r ≤ 1000000
-  usage-most {i = i} acc l z s e = rw e (at-most rows (accepted rows acc) i 5 4 (is-requirement l z s))
+  usage-most {i = i} acc l z s e = rw e (at-most rows (accepted rows acc) i 5 4 (stands-owned rows a 5 l z s))
 
   -- what the loop answers, at the requirement that it stops at and at its end
   module _ {n i : ℕ} (s : Stands (ownedBy rows a 5) (rowCount rows) i) (f : firstPlace takes i ≡ none) (p : placeOf rows 2 (num rows a 1) ≡ some a)
@@ -127,6 +121,3 @@ module _ (rows : List ℤ) (a k : ℕ) where
 
     pub usage-none : n ≤ i → 1 ≡ usageOn (sheet rows) (activityOf rows a) (resourceOf rows k)
     usage-none l = usage-found p (seek-end takes (rowCount rows) n i l z s f)
-
-pub activity-within : (rows : List ℤ) {a : ℕ} → placeOf rows 2 (num rows a 1) ≡ some a → a ≤ rowCount rows
-activity-within rows {a} p = omega (arith, placed rows 2 (num rows a 1) a p .within)

@@ -29,10 +29,10 @@ use Rattle.model.specs.Activity.{ResourceRequirement, requirementAt, requiremen
 use Rattle.model.proofs.RowLaws.{kind-is}
 use Rattle.model.proofs.OwnedLaws.{of-activity}
 use Rattle.model.proofs.Accepting.{in-class}
+use Rattle.model.proofs.Standing.{stands-owned}
 use Rattle.definition.specs.CheckAssignments.{units}
 use Rattle.rows.proofs.Signed.{number-low}
 use Rattle.pieces.specs.inner.Bookings.{indexKey}
-use Rattle.pieces.proofs.Chains.{owned-kind}
 use Rattle.pieces.proofs.Indices.{key-neg, key-pos, key-most, index-read}
 use Rattle.check1_assignments.specs.declared.Units.{Units}
 use Rattle.check1_assignments.specs.inner.Bookings.{quantities}
@@ -98,16 +98,13 @@ addAt rows c k = c +ℤ cell rows k 3
 
 -- the loop stands at a requirement
 module _ (rows : List ℤ) (a : ℕ) {n N q : ℕ} (s : Stands (ownedBy rows a 5) n q) (l : q < N) (z : N ≡ n) where
-  quantity-kind : is rows q 0 5 ≡ true
-  quantity-kind = owned-kind rows a 5 q (s .here (omega arith))
-
   pub stands-key : Accepted rows → indexKey (cell rows q 3) ≤ 2000001
-  stands-key acc = quantity-key rows acc q quantity-kind
+  stands-key acc = quantity-key rows acc q (stands-owned rows a 5 l z s)
 
   module _ (u : Units) {v : Units} (e : v ≡ record { raised = u .raised + indexKey (cell rows q 3); offset = u .offset + 1000001 }) (acc : Accepted rows) where
     pub sum-step : pos (v .raised) -ℤ pos (v .offset) ≡ addAt rows (pos (u .raised) -ℤ pos (u .offset)) q
     unfolding addAt
-    sum-step = ap (λ x. pos (x .raised) -ℤ pos (x .offset)) e ∙ raised-by (cell rows q 3) (u .raised) (u .offset) (quantity-class rows acc q quantity-kind)
+    sum-step = ap (λ x. pos (x .raised) -ℤ pos (x .offset)) e ∙ raised-by (cell rows q 3) (u .raised) (u .offset) (quantity-class rows acc q (stands-owned rows a 5 l z s))
 
     module _ {j : ℕ} (f : First (ownedBy rows a 5) (suc q) n j) where
       pub raised-most : u .raised ≤ 2000001 * q → v .raised ≤ 2000001 * j

@@ -23,7 +23,6 @@ use Rattle.sheet.specs.declared.Found.{Found}
 use Rattle.sheet.specs.declared.Found.the-variants.{At, Nothing}
 use Rattle.sheet.specs.inner.Found.{foundOf}
 use Rattle.sheet.specs.Places.{placeOf}
-use Rattle.sheet.proofs.Lookups.{placed, num-is}
 use Rattle.owners.specs.inner.Owners.{ownerKind, ownedBy}
 use Rattle.model.specs.Sheet.{sheet}
 use Rattle.model.specs.Activity.{requirements}
@@ -36,15 +35,6 @@ use Rattle.model.proofs.Requiring.{requirement-by, none-given}
 use Rattle.window_rows.specs.inner.Laid.{Holder}
 use Rattle.definition.specs.CheckTimeOnly.{known, seen}
 use Rattle.check2_time_only.specs.inner.Known.{Known}
-
-pub is-activity : (rows : List ℤ) (id a : ℕ) → placeOf rows 2 id ≡ some a → is rows a 0 2 ≡ true
-is-activity rows id a q = num-is rows a 0 2 (placed rows 2 id a q .kind)
-
-pub is-below : (rows : List ℤ) (id a : ℕ) → placeOf rows 2 id ≡ some a → a < rowCount rows
-is-below rows id a q = placed rows 2 id a q .within
-
-pub up-to : (rows : List ℤ) (id a : ℕ) → placeOf rows 2 id ≡ some a → a ≤ rowCount rows
-up-to rows id a q = omega (arith, is-below rows id a q)
 
 -- an activity holds windows of kind 16
 pub own-windows : (rows : List ℤ) (id a : ℕ) → placeOf rows 2 id ≡ some a → Holder rows a 16

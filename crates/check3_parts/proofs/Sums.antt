@@ -23,7 +23,7 @@ use Rattle.sheet.specs.inner.Accepted.{Accepted}
 use Rattle.owners.specs.inner.Owners.{ownedBy}
 use Rattle.model.specs.Schedule.{Part}
 use Rattle.model.proofs.Accepting.{at-most}
-use Rattle.pieces.proofs.Chains.{owned-kind}
+use Rattle.model.proofs.OwnedLaws.{owned-kind}
 use Rattle.definition.specs.CheckParts.{partsOf, workOf}
 use Rattle.check3_parts.specs.inner.Booked.{hasPart, partOf, partsBelow, decoded, measureOf, measured, wholeAt, outside}
 use Rattle.check3_parts.proofs.Works.{parts-more, work-is, part-on, part-whole, parts-step, parts-next, parts-first}

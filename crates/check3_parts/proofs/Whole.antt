@@ -19,7 +19,7 @@ use Rattle.findings.proofs.SinkLaws.{emit-then, emit-none}
 use Rattle.findings.proofs.Reports.{emit-end, emit-turn}
 use Rattle.rows.specs.Cells.{rowCount, cell, num, is}
 use Rattle.rows.specs.Ranges.{isNone}
-use Rattle.sheet.specs.Places.{ofKind, placeOf}
+use Rattle.sheet.specs.Places.{ofKind}
 use Rattle.sheet.specs.inner.Accepted.{Accepted}
 use Rattle.sheet.specs.inner.Found.{foundOf}
 use Rattle.sheet.specs.declared.Found.{Found}
@@ -31,7 +31,7 @@ use Rattle.model.specs.inner.Indexed.{Indexed}
 use Rattle.model.specs.Activity.{Split, split}
 use Rattle.model.specs.Schedule.{Part, Assignment, asPart, assignmentAt, assignmentsBelow, assignments, assignmentsForActivityAll}
 use Rattle.model.proofs.RowLaws.{kind-is, assignment-row, assignment-none}
-use Rattle.model.proofs.Accepting.{accepted, found-again}
+use Rattle.model.proofs.Accepting.{accepted, activity-at}
 use Rattle.model.proofs.OwnedLaws.{of-activity}
 use Rattle.model.proofs.Tasks.{tasks-by-rows}
 use Rattle.model.proofs.Finds.{first-same, first-placed}
@@ -62,9 +62,6 @@ booked-whole x w e = go (isNone x) (isNone w) e
 
 module _ (rows : List ℤ) (acc : Accepted rows) where
   module _ (o : ℕ) (l : o < rowCount rows) (h : is rows o 0 2 ≡ true) where
-    found : placeOf rows 2 (num rows o 1) ≡ some o
-    found = found-again rows acc o 2 l refl h
-
     -- ---- its bookings
 
     part-row : (k : ℕ) → k < rowCount rows → is rows k 0 23 ≡ true
@@ -84,7 +81,7 @@ module _ (rows : List ℤ) (acc : Accepted rows) where
 
     part-is : (k : ℕ) → k < rowCount rows → each partIn (assignmentAt (sheet rows) k) ≡ partAt rows o k
     unfolding partIn partAt only each hasPart
-    part-is k m = go (is rows k 0 23) refl ∙ ap (λ b. cond b (given (not (isNone (cell rows k 7))) (partOf rows k)) []) (sym (of-activity rows 23 o (num rows o 1) (unfold ownerKind in refl) found k))
+    part-is k m = go (is rows k 0 23) refl ∙ ap (λ b. cond b (given (not (isNone (cell rows k 7))) (partOf rows k)) []) (sym (of-activity rows 23 o (num rows o 1) (unfold ownerKind in refl) (activity-at rows acc o l h) k))
       where
         go : (b : Bool) → is rows k 0 23 ≡ b
             → each partIn (assignmentAt (sheet rows) k) ≡ cond (is rows k 0 23 && is rows k 1 (num rows o 1)) (given (not (isNone (cell rows k 7))) (partOf rows k)) []
@@ -107,7 +104,7 @@ module _ (rows : List ℤ) (acc : Accepted rows) where
 
     whole-at : (k : ℕ) → k < rowCount rows → anyOf wholeOf (assignmentAt (sheet rows) k) ≡ wholeAt rows o k
     unfolding wholeOf wholeAt anyOf hasPart
-    whole-at k m = go (is rows k 0 23) refl ∙ ap (λ b. b && not (not (isNone (cell rows k 7)))) (sym (of-activity rows 23 o (num rows o 1) (unfold ownerKind in refl) found k))
+    whole-at k m = go (is rows k 0 23) refl ∙ ap (λ b. b && not (not (isNone (cell rows k 7)))) (sym (of-activity rows 23 o (num rows o 1) (unfold ownerKind in refl) (activity-at rows acc o l h) k))
       where
         go : (b : Bool) → is rows k 0 23 ≡ b
             → anyOf wholeOf (assignmentAt (sheet rows) k) ≡ ((is rows k 0 23 && is rows k 1 (num rows o 1)) && not (not (isNone (cell rows k 7))))
@@ -133,7 +130,7 @@ module _ (rows : List ℤ) (acc : Accepted rows) where
 
     split-at : (k : ℕ) → head (splitAt k) ≡ someIf (ownedBy rows o 4 k) (splitOf rows k)
     unfolding is
-    split-at k = rw (of-activity rows 4 o (num rows o 1) (unfold ownerKind in refl) found k) (go (is rows k 0 4) refl)
+    split-at k = rw (of-activity rows 4 o (num rows o 1) (unfold ownerKind in refl) (activity-at rows acc o l h) k) (go (is rows k 0 4) refl)
       where
         go : (b : Bool) → is rows k 0 4 ≡ b → head (splitAt k) ≡ someIf (is rows k 0 4 && is rows k 1 (num rows o 1)) (splitOf rows k)
         go true e = rw (kind-is rows k 4 e) (head-given (eqb (num rows k 1) (num rows o 1)) (splitOf rows k))

@@ -18,7 +18,7 @@ use Rattle.loops.proofs.OrderedLaws.{alike, integer-order, lookup, sorted, sort
 use Rattle.loops.proofs.BoolLaws.{not-true}
 use Rattle.loops.proofs.Walks.{collect-first, collect-next}
 use Rattle.loops.proofs.RangeLaws.{collect-step}
-use Rattle.rows.specs.Cells.{rowCount, cell, num, is}
+use Rattle.rows.specs.Cells.{rowCount, cell, num}
 use Rattle.rows.specs.Ranges.{isNone}
 use Rattle.sheet.specs.inner.Accepted.{Accepted}
 use Rattle.owners.specs.inner.Owners.{ownedBy}
@@ -27,12 +27,12 @@ use Rattle.findings.specs.inner.Sink.{Sink, emit}
 use Rattle.findings.proofs.SinkLaws.{emit-none}
 use Rattle.findings.proofs.Reports.{emit-end}
 use Rattle.model.specs.Schedule.{Part, unknownActivity}
+use Rattle.model.proofs.OwnedLaws.{owned-kind}
 use Rattle.definition.specs.Pieces.{sameIndex}
 use Rattle.definition.specs.CheckParts.{partsOf, workOf, twoWorks}
 use Rattle.pieces.specs.inner.Bookings.{keyAt}
 use Rattle.pieces.proofs.Indices.{same-key}
 use Rattle.pieces.proofs.Companions.{index-class}
-use Rattle.pieces.proofs.Chains.{owned-kind}
 use Rattle.check3_parts.specs.inner.Booked.{hasPart, partOf, partAt, partsBelow, decoded}
 
 -- ---- one part more
@@ -65,14 +65,6 @@ module _ (rows : List ℤ) (i k e : ℕ) {b : Bool} (q : b ≡ hasPart rows i) w
     after-other z = rw (sym q ∙ f, ← x, ← y, ne-eqb v w z)
 
 -- ---- the bookings of the activity
-
--- where a loop along the rows of an owner stands
-module _ (rows : List ℤ) (o x : ℕ) {n N k : ℕ} (a : Stands (ownedBy rows o x) n k) (l : k < N) (z : N ≡ n) where
-  pub owned-here : ownedBy rows o x k ≡ true
-  owned-here = a .here (omega arith)
-
-  pub kind-here : is rows k 0 x ≡ true
-  kind-here = owned-kind rows o x k owned-here
 
 module _ (rows : List ℤ) (o : ℕ) where
   pub part-silent : Silent (ownedBy rows o 23) (partAt rows o)

@@ -5,22 +5,18 @@ use mathlib.Core.Bool.{Bool, true, false, _||_, or-false}
 use mathlib.Core.List.{List}
 use native.Mathlib.Omega.{arith}
 use native.Mathlib.Numerals.{add-one}
-use lib.Dec.{eqb}
 use lib.IntN.{ℤ}
 use lib.ListN.{length}
 use borrow.Author.Needs.{needs}
 use Rattle.loops.specs.Range.{collect}
 use Rattle.loops.specs.Search.{anyBelow}
 use Rattle.loops.specs.inner.Chain.{First, Stands, Blind, only}
-use Rattle.loops.proofs.BoolLaws.{and-left}
 use Rattle.loops.proofs.SearchLaws.{any-none, any-hit}
 use Rattle.loops.proofs.Walks.{over, silent-only, any-first, any-next, any-end}
 use Rattle.findings.specs.declared.Violation.{Violation}
 use Rattle.findings.specs.inner.Sink.{Sink, sink, emit}
 use Rattle.findings.proofs.Reports.{emit-first, emit-end, emit-turn}
 use Rattle.findings.proofs.SinkLaws.{kept}
-use Rattle.rows.specs.Cells.{is}
-use Rattle.owners.specs.inner.Owners.{ownedBy, ownPlace}
 use Rattle.check4_pieces.specs.inner.OfPiece.{both}
 
 -- ---- tests
@@ -62,11 +58,6 @@ first-past p t {n} {N} {i} l z a e = record {
 }
 
 -- ---- reports
-
--- a place of an owner's chain is of the kind
-pub kind-here : (rows : List ℤ) (o x : ℕ) {n N i : ℕ} → i < N → N ≡ n → Stands (ownedBy rows o x) n i → is rows i 0 x ≡ true
-unfolding ownedBy
-kind-here rows o x {i = i} l z a = and-left (is rows i 0 x) (eqb (ownPlace rows i) o) (a .here (omega arith))
 
 -- what a loop along a chain knows that reports at each of its places
 pub record Reporting (p : ℕ → Bool) (f : ℕ → List Violation) (n : ℕ) (s₀ : Sink) (i : ℕ) (s : Sink) : Type 0 where

@@ -36,7 +36,7 @@ use Rattle.model.specs.Schedule.{skillMismatch, requirementUnfilled}
 use Rattle.model.proofs.RowLaws.{kind-is, row-none, row-here, resource-row, resource-none}
 use Rattle.model.proofs.Accepting.{has-owner, one-row}
 use Rattle.model.proofs.OwnedLaws.{of-resource}
-use Rattle.model.proofs.Requiring.{of-requirement}
+use Rattle.model.proofs.Requiring.{wanted-at}
 use Rattle.definition.specs.CheckRequirements.{claim, claiming, passing, candidateId, lacking, claims}
 use Rattle.check4_claims.specs.inner.Claims.{hasSkill, candidateOf, lackingFor, lackingOf, claimOf, filled, claimsOf}
 use Rattle.check4_requirements.proofs.Lists.{only-same, both-same, each-only, any-only, none-collect, given-any, given-each, any-at}
@@ -109,23 +109,9 @@ module _ (rows : List ℤ) (acc : Accepted rows) where
   -- ---- one requirement
 
   module _ (q : ℕ) (l : q < rowCount rows) (h : is rows q 0 5 ≡ true) where
-    required-at : (k : ℕ)
-        → rowAt (sheet rows) 7
-        (λ k. given (eqb (numAt (sheet rows) k 1) (requirementOf rows q .activity) && eqb (numAt (sheet rows) k 2) (requirementOf rows q .place)) (numAt (sheet rows) k 3)) k
-        ≡ given (ownedBy rows q 7 k) (num rows k 3)
-    unfolding is
-    required-at k = rw (of-requirement rows 7 q (unfold ownerKind in refl) l h k) (go (is rows k 0 7) refl)
-      where
-        go : (b : Bool) → is rows k 0 7 ≡ b
-            → rowAt (sheet rows) 7
-            (λ k. given (eqb (numAt (sheet rows) k 1) (requirementOf rows q .activity) && eqb (numAt (sheet rows) k 2) (requirementOf rows q .place)) (numAt (sheet rows) k 3)) k
-            ≡ given (is rows k 0 7 && (is rows k 1 (num rows q 1) && is rows k 2 (requirementOf rows q .place))) (num rows k 3)
-        go true e = rw (kind-is rows k 7 e)
-        go false e = rw e
-
     required-along : requiredSkills (sheet rows) (requirementOf rows q) ≡ along rows q 7 3
     unfolding namedFor
-    required-along = collect-ext _ _ (rowCount rows) (λ k m. required-at k) ∙ given-only (ownedBy rows q 7) (λ k. num rows k 3) (rowCount rows)
+    required-along = collect-ext _ _ (rowCount rows) (λ k m. wanted-at rows q l h 7 (unfold ownerKind in refl) (λ j e. unfold is in rw (kind-is rows j 7 e)) k) ∙ given-only (ownedBy rows q 7) (λ k. num rows k 3) (rowCount rows)
 
     lacking-along : (r : ℕ) → lacking (sheet rows) (requirementOf rows q) r ≡ lackingOf rows q r
     unfolding lacking lackingFor

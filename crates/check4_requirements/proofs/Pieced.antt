@@ -27,15 +27,14 @@ use Rattle.calendar.specs.Clock.{clock}
 use Rattle.rows.specs.Cells.{rowCount, cell, num, is}
 use Rattle.rows.specs.Class.{n?-c}
 use Rattle.rows.specs.Ranges.{between, isNone, inRange, inClass}
-use Rattle.sheet.specs.Places.{placeOf}
 use Rattle.sheet.specs.inner.Accepted.{Accepted}
 use Rattle.sheet.proofs.Lookups.{is-num}
 use Rattle.owners.specs.inner.Owners.{ownerKind, ownedBy}
 use Rattle.model.specs.Sheet.{sheet}
 use Rattle.model.specs.Schedule.{Assignment, assignmentAt, assignmentsBelow, assignments}
 use Rattle.model.proofs.RowLaws.{assignment-row, assignment-none}
-use Rattle.model.proofs.Accepting.{found-again, at-most}
-use Rattle.model.proofs.OwnedLaws.{of-activity}
+use Rattle.model.proofs.Accepting.{activity-at, at-most}
+use Rattle.model.proofs.OwnedLaws.{of-activity, owned-kind}
 use Rattle.model.proofs.Finds.{first-same, first-placed}
 use Rattle.definition.specs.Pieces.{indexOf, beforeIndex, sameIndex, ofPiece, resourcesOf, heldAmong, notHeld, assignedWith, isHeld}
 use Rattle.definition.specs.CheckRequirements.{sameTime, notSimultaneous, bookingsByPiece}
@@ -126,17 +125,11 @@ key-small (negsuc n) h = let s = sub-most 1000001 (suc n) in omega arith
 -- ---- the bookings of the activity at row o
 
 module _ (rows : List ℤ) (acc : Accepted rows) (o : ℕ) (l : o < rowCount rows) (h : is rows o 0 2 ≡ true) where
-  pub found : placeOf rows 2 (num rows o 1) ≡ some o
-  found = found-again rows acc o 2 l refl h
-
   abbrev own : ℕ → Bool
   own = ownedBy rows o 23
 
   own-is : (k : ℕ) → ownedBy rows o 23 k ≡ (is rows k 0 23 && is rows k 1 (num rows o 1))
-  own-is k = of-activity rows 23 o (num rows o 1) (unfold ownerKind in refl) found k
-
-  own-kind : (k : ℕ) → ownedBy rows o 23 k ≡ true → is rows k 0 23 ≡ true
-  own-kind k e = and-left (is rows k 0 23) (is rows k 1 (num rows o 1)) (sym (own-is k) ∙ e)
+  own-is k = of-activity rows 23 o (num rows o 1) (unfold ownerKind in refl) (activity-at rows acc o l h) k
 
   own-id : (k : ℕ) → ownedBy rows o 23 k ≡ true → num rows k 1 ≡ num rows o 1
   own-id k e = is-num rows k 1 (num rows o 1) (and-right (is rows k 0 23) (is rows k 1 (num rows o 1)) (sym (own-is k) ∙ e))
@@ -152,21 +145,21 @@ module _ (rows : List ℤ) (acc : Accepted rows) (o : ℕ) (l : o < rowCount row
   index a = indexOf (a .part)
 
   index-is : (k : ℕ) → k < rowCount rows → ownedBy rows o 23 k ≡ true → index (booking rows k) ≡ indexIn (cell rows k 7)
-  index-is k m e = booked-index rows acc k m (own-kind k e)
+  index-is k m e = booked-index rows acc k m (owned-kind rows o 23 k e)
 
   number-is : (k : ℕ) → k < rowCount rows → ownedBy rows o 23 k ≡ true → number (index (booking rows k)) ≡ keyAt rows k
   unfolding keyAt
-  number-is k m e = ap number (index-is k m e) ∙ number-in (cell rows k 7) (index-class rows acc k (own-kind k e))
+  number-is k m e = ap number (index-is k m e) ∙ number-in (cell rows k 7) (index-class rows acc k (owned-kind rows o 23 k e))
 
   key-below : (k : ℕ) → k < rowCount rows → ownedBy rows o 23 k ≡ true → keyAt rows k < 2000002
   unfolding keyAt
-  key-below k m e = let b : num rows k 7 ≤ 1000000 = at-most rows acc k 23 7 (own-kind k e) in key-small (cell rows k 7) b
+  key-below k m e = let b : num rows k 7 ≤ 1000000 = at-most rows acc k 23 7 (owned-kind rows o 23 k e) in key-small (cell rows k 7) b
 
   all-valid : allOf (λ a. valid (index a)) booked ≡ true
   all-valid = all-only (ownedBy rows o 23) (λ k. booking rows k ∷ []) (rowCount rows) (λ a. valid (index a)) at
     where
       at : (k : ℕ) → k < rowCount rows → ownedBy rows o 23 k ≡ true → allOf (λ a. valid (index a)) (booking rows k ∷ []) ≡ true
-      at k m e = unfold allOf in ap (λ b. b && true) (ap valid (index-is k m e) ∙ valid-in (cell rows k 7) (index-class rows acc k (own-kind k e)))
+      at k m e = unfold allOf in ap (λ b. b && true) (ap valid (index-is k m e) ∙ valid-in (cell rows k 7) (index-class rows acc k (owned-kind rows o 23 k e)))
 
   all-below : allOf (λ a. ltb (number (index a)) keys) booked ≡ true
   all-below = all-only (ownedBy rows o 23) (λ k. booking rows k ∷ []) (rowCount rows) (λ a. ltb (number (index a)) keys) at
@@ -189,7 +182,7 @@ module _ (rows : List ℤ) (acc : Accepted rows) (o : ℕ) (l : o < rowCount row
   pub pieces-are : values (bookingsByPiece clock (sheet rows) (num rows o 1)) ≡ collect (only (keyBelow rows o (rowCount rows)) (λ p. pieceAt p ∷ [])) keys
   unfolding bookingsByPiece only
   pieces-are =
-      ap (λ m. values (foldl (λ m a. upsert beforeIndex (indexOf (a .part)) [] (λ l. l ++ a ∷ []) m) [] m)) (bookings-of rows o found)
+      ap (λ m. values (foldl (λ m a. upsert beforeIndex (indexOf (a .part)) [] (λ l. l ++ a ∷ []) m) [] m)) (bookings-of rows o (activity-at rows acc o l h))
       ∙ numbered-fold valid beforeIndex number order (λ a. indexOf (a .part)) (λ a. []) (λ a l. l ++ a ∷ []) booked [] all-valid (unfold allOf in refl)
       ∙ by-key (λ a. number (index a)) keys booked all-below
       ∙ map-collect (λ e. e .value) (λ q. given (anyOf (λ a. eqb (number (index a)) q) booked) (entry q (keep (λ a. eqb (number (index a)) q) booked))) keys
@@ -247,7 +240,7 @@ module _ (rows : List ℤ) (acc : Accepted rows) (o : ℕ) (l : o < rowCount row
         split false b = refl
 
         inside : is rows j 0 23 ≡ true → ofPiece (booking rows k) (booking rows j) ≡ (is rows j 1 (num rows o 1) && keyIs rows p j)
-        inside g = of-piece rows acc j k n m g (own-kind k e) ∙ (unfold inPiece keyIs in (ap (λ b. b && (is rows j 1 (num rows k 1) && eqb (keyAt rows j) (keyAt rows k))) g
+        inside g = of-piece rows acc j k n m g (owned-kind rows o 23 k e) ∙ (unfold inPiece keyIs in (ap (λ b. b && (is rows j 1 (num rows k 1) && eqb (keyAt rows j) (keyAt rows k))) g
             ∙ ap₂ (λ x y. is rows j 1 x && eqb (keyAt rows j) y) (own-id k e) f))
 
         go : (b : Bool) → is rows j 0 23 ≡ b
@@ -266,7 +259,7 @@ module _ (rows : List ℤ) (acc : Accepted rows) (o : ℕ) (l : o < rowCount row
     unfolding heldAt isHeld
     held-is k m e f =
         ap (λ y. heldAmong (sheet rows) y (num rows k 3)) (sym (same-assigned k m e f))
-        ∙ sym (ap (anyOf (isHeld (sheet rows))) (assignment-row rows k (own-kind k e)) ∙ given-any true (booking rows k) (isHeld (sheet rows)))
+        ∙ sym (ap (anyOf (isHeld (sheet rows))) (assignment-row rows k (owned-kind rows o 23 k e)) ∙ given-any true (booking rows k) (isHeld (sheet rows)))
 
     pub runs-on : notHeld (sheet rows) (resourcesOf (pieceAt p)) ≡ runsOnIn rows o p
     unfolding notHeld freeAt freeIn

@@ -26,7 +26,7 @@ use Rattle.model.specs.inner.Records.{activityOf, requirementOf}
 use Rattle.model.specs.Resource.{companions}
 use Rattle.model.specs.Activity.{requirementAt, requirements}
 use Rattle.model.specs.Schedule.{Assignment, requirementUnfilled}
-use Rattle.model.proofs.Accepting.{accepted}
+use Rattle.model.proofs.Accepting.{accepted, activity-at}
 use Rattle.model.proofs.OwnedLaws.{of-activity}
 use Rattle.model.proofs.Tasks.{tasks-by-rows}
 use Rattle.model.proofs.Requiring.{requirement-row, requirement-none}
@@ -37,7 +37,7 @@ use Rattle.check4_claims.specs.inner.Claims.{freeAt, requirementRows, runsOnIn,
 use Rattle.check4_requirements.specs.inner.ByRow.{owns, checkPiece, checkKeys, checkPieces, checkActivity, checkTask}
 use Rattle.check4_requirements.proofs.Lists.{only-same, both-same, each-only, map-only, any-only, all-only, given-any, given-each, empty-only}
 use Rattle.check4_requirements.proofs.Claimants.{along, companions-along, isOf, claims-are}
-use Rattle.check4_requirements.proofs.Pieced.{found, pieceAt, assigned, assigned-are, runs-on, apart-is, pieces-are, keys-any, no-piece}
+use Rattle.check4_requirements.proofs.Pieced.{pieceAt, assigned, assigned-are, runs-on, apart-is, pieces-are, keys-any, no-piece}
 
 module _ (rows : List ℤ) (acc : Accepted rows) where
   -- ---- a piece
@@ -81,7 +81,7 @@ module _ (rows : List ℤ) (acc : Accepted rows) where
 
     asked-at : (k : ℕ) → requirementAt (sheet rows) (num rows o 1) k ≡ only (ownedBy rows o 5) (λ q. requirementOf rows q ∷ []) k
     unfolding only
-    asked-at k = go (is rows k 0 5) refl ∙ ap (λ b. cond b (requirementOf rows k ∷ []) []) (sym (of-activity rows 5 o (num rows o 1) (unfold ownerKind in refl) (found rows acc o l h) k))
+    asked-at k = go (is rows k 0 5) refl ∙ ap (λ b. cond b (requirementOf rows k ∷ []) []) (sym (of-activity rows 5 o (num rows o 1) (unfold ownerKind in refl) (activity-at rows acc o l h) k))
       where
         pick : (b : Bool) → given b (requirementOf rows k) ≡ cond b (requirementOf rows k ∷ []) []
         pick true = refl
@@ -99,7 +99,7 @@ module _ (rows : List ℤ) (acc : Accepted rows) where
     all-of = all-only (ownedBy rows o 5) (λ q. q ∷ []) (rowCount rows) (isOf rows acc (num rows o 1)) at
       where
         at : (q : ℕ) → q < rowCount rows → ownedBy rows o 5 q ≡ true → allOf (isOf rows acc (num rows o 1)) (q ∷ []) ≡ true
-        at q m e = unfold allOf isOf in ap₂ (λ a b. (a && b) && true) (lt-ltb q (rowCount rows) m) (sym (of-activity rows 5 o (num rows o 1) (unfold ownerKind in refl) (found rows acc o l h) q) ∙ e)
+        at q m e = unfold allOf isOf in ap₂ (λ a b. (a && b) && true) (lt-ltb q (rowCount rows) m) (sym (of-activity rows 5 o (num rows o 1) (unfold ownerKind in refl) (activity-at rows acc o l h) q) ∙ e)
 
     claims-is : (m : List ℕ) → claims (sheet rows) (requirements (sheet rows) (num rows o 1)) m ≡ claimsOf rows (num rows o 1) (requirementRows rows o) m
     claims-is m =

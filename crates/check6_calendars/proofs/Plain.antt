@@ -3,7 +3,7 @@ use Prim.Native.Nat.{ℕ}
 use mathlib.Core.Path.{_≡_, ap, ap₂, sym, _∙_}
 use mathlib.Core.Bool.{Bool, not}
 use mathlib.Core.List.{List, append-nil}
-use mathlib.Core.Option.{Option, none, some}
+use mathlib.Core.Option.{none, some}
 use lib.IntN.{ℤ, pos}
 use Rattle.loops.specs.Lists.{given}
 use Rattle.calendar.specs.Clock.{clock}
@@ -12,9 +12,6 @@ use Rattle.findings.specs.declared.Violation.{Violation}
 use Rattle.findings.specs.inner.Sink.{Sink, emit}
 use Rattle.findings.proofs.SinkLaws.{emit-then}
 use Rattle.rows.specs.Cells.{num}
-use Rattle.sheet.specs.declared.Found.{Found}
-use Rattle.sheet.specs.declared.Found.the-variants.{At}
-use Rattle.sheet.specs.inner.Found.{foundOf}
 use Rattle.sheet.specs.Places.{placeOf}
 use Rattle.sheet.proofs.Lookups.{placed}
 use Rattle.model.specs.Sheet.{sheet}
@@ -22,10 +19,6 @@ use Rattle.model.specs.Resource.{windows}
 use Rattle.model.specs.Schedule.{violation, resourceUnavailable, timeWindowViolation}
 use Rattle.model.specs.inner.Records.{activityOf, assignmentOf}
 use Rattle.definition.specs.CheckCalendars.{checkPlain}
-
--- a row that was found
-pub place-told : {f : Found} {x : Option ℕ} {k : ℕ} → f ≡ At k → foundOf f ≡ x → x ≡ some k
-place-told q e = sym e ∙ ap foundOf q
 
 module _ (rows : List ℤ) (k : ℕ) where
   abbrev fitting : ℕ → ℕ → Bool

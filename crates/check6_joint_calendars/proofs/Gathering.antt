@@ -33,9 +33,9 @@ use Rattle.model.specs.Sheet.{sheet}
 use Rattle.model.specs.Resource.{windows}
 use Rattle.model.proofs.Requiring.{count-less}
 use Rattle.model.proofs.Standing.{stands-kind}
+use Rattle.model.proofs.OwnedLaws.{owned-kind}
 use Rattle.window_rows.specs.inner.Laid.{Holder, calendarNumbers, Laid}
 use Rattle.window_rows.proofs.Laying.{numbers-length}
-use Rattle.pieces.proofs.Chains.{owned-kind}
 use Rattle.check6_joint_calendars.specs.declared.Gathered.{Gathered}
 use Rattle.check6_joint_calendars.specs.inner.Taken.{marked, OnResources}
 use Rattle.check6_joint_calendars.specs.inner.Laying.{laidOut, pairsFrom, Over, Tidy, Added, calendarAt, AddedAt, windowAbove, Resources}

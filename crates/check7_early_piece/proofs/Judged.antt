@@ -22,7 +22,6 @@ use Rattle.loops.proofs.SearchLaws.{any-hit}
 use Rattle.loops.proofs.PlaceLaws.{found-at, place-none, hit}
 use Rattle.calendar.specs.Clock.{clock}
 use Rattle.rows.specs.Cells.{rowCount, num, is}
-use Rattle.sheet.specs.Places.{placeOf}
 use Rattle.sheet.specs.inner.Accepted.{Accepted}
 use Rattle.sheet.specs.declared.Found.{Found}
 use Rattle.sheet.specs.declared.Found.the-variants.{At, Nothing}
@@ -35,7 +34,7 @@ use Rattle.owners.specs.inner.Owners.{ownerKind, ownPlace, ownedBy}
 use Rattle.model.specs.Sheet.{sheet}
 use Rattle.model.specs.Resource.{transportBetween}
 use Rattle.model.specs.Schedule.{Assignment}
-use Rattle.model.proofs.OwnedLaws.{of-activity}
+use Rattle.model.proofs.OwnedLaws.{of-activity, owned-kind}
 use Rattle.definition.specs.Pieces.{indexOf, beforeIndex, sameIndex}
 use Rattle.definition.specs.CheckPrecedence.{PlacedPiece, pieceWith, byPart, runsOnAll, orTimeOnly, piecesOf}
 use Rattle.definition.specs.ActivitySpan as page
@@ -43,7 +42,7 @@ use Rattle.definition.specs.ActivitySpan.{activitySpan}
 use Rattle.check7_transport.proofs.Longest.{between-none}
 use Rattle.pieces.specs.inner.Bookings.{inPiece}
 use Rattle.pieces.proofs.Companions.{booking, of-piece}
-use Rattle.pieces.proofs.Chains.{blind-if, owned-kind, piece-kind, piece-activity}
+use Rattle.pieces.proofs.Chains.{blind-if, piece-kind, piece-activity}
 use Rattle.pieces.proofs.Chains as chains
 use Rattle.model.proofs.Accepting.{activity-at}
 use Rattle.pieces.proofs.Bookings.{bookings-of}
@@ -57,13 +56,10 @@ is-alike : (x y : Option ℤ) → x ≡ y → alike beforeIndex x y ≡ true
 is-alike x y e = rw (e, not-self beforeIndex index-order y)
 
 module _ (rows : List ℤ) (acc : Accepted rows) (o : ℕ) (l : o < rowCount rows) (h : is rows o 0 2 ≡ true) where
-  q : placeOf rows 2 (num rows o 1) ≡ some o
-  q = activity-at rows acc o l h
-
   -- two bookings of the activity are of one piece where their part indices are alike
   module _ (k j : ℕ) (b : k < rowCount rows) (d : j < rowCount rows) (e : ownedBy rows o 23 k ≡ true) where
     named : (i : ℕ) → ownedBy rows o 23 i ≡ true → is rows i 1 (num rows o 1) ≡ true
-    named i g = and-right (is rows i 0 23) (is rows i 1 (num rows o 1)) (sym (of-activity rows 23 o (num rows o 1) (unfold ownerKind in refl) q i) ∙ g)
+    named i g = and-right (is rows i 0 23) (is rows i 1 (num rows o 1)) (sym (of-activity rows 23 o (num rows o 1) (unfold ownerKind in refl) (activity-at rows acc o l h) i) ∙ g)
 
     pub piece-alike : ownedBy rows o 23 j ≡ true → inPiece rows k j ≡ true → indexAt rows j ≡ indexAt rows k
     piece-alike f g =
@@ -78,14 +74,14 @@ module _ (rows : List ℤ) (acc : Accepted rows) (o : ℕ) (l : o < rowCount row
     pub piece-owned : inPiece rows k j ≡ true → ownedBy rows o 23 j ≡ true
     unfolding inPiece is
     piece-owned g =
-        of-activity rows 23 o (num rows o 1) (unfold ownerKind in refl) q j
+        of-activity rows 23 o (num rows o 1) (unfold ownerKind in refl) (activity-at rows acc o l h) j
         ∙ both (piece-kind rows k j g) (eq-eqb (num rows j 1) (num rows o 1) (piece-activity rows k j g ∙ is-num rows k 1 (num rows o 1) (named k e)))
 
   -- ---- the map of the pieces
   pub pieces-are : byPart clock (sheet rows) (num rows o 1) ≡ mapTo rows (ownedBy rows o 23) (rowCount rows)
   unfolding byPart mapTo only onlyAt
   pieces-are =
-      ap (foldl step []) (bookings-of rows o q)
+      ap (foldl step []) (bookings-of rows o (activity-at rows acc o l h))
       ∙ foldl-collect step [] (only (ownedBy rows o 23) (λ k. booking rows k ∷ [])) (rowCount rows)
       ∙ fold-ext _ _ [] (rowCount rows) (λ m k. go m k (ownedBy rows o 23 k))
     where
@@ -249,9 +245,6 @@ module _ (rows : List ℤ) where
 
     pub judged-not : b ≡ false → (ownedBy rows o 23 k && unreachedAt rows a from k) ≡ false
     judged-not h = rw (sym e ∙ h) (and-false (ownedBy rows o 23 k))
-
-  pub stands-owned : (o : ℕ) {n N k : ℕ} → k < N → N ≡ n → Stands (ownedBy rows o 23) n k → ownedBy rows o 23 k ≡ true
-  stands-owned o l z s = s .here (omega arith)
 
 -- the two answers of `piece_is_early`, by the first booking; m and u only say which row and which instant are meant, since `early` shows them under a binder
 module _ (rows : List ℤ) (acc : Accepted rows) (o : ℕ) (l : o < rowCount rows) (h : is rows o 0 2 ≡ true) (before from : ℕ) (m : before < rowCount rows) (u : from ≤ 4000000000000)

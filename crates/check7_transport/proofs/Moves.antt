@@ -8,7 +8,6 @@ use lib.Dec.{eqb}
 use lib.IntN.{ℤ}
 use Rattle.loops.specs.Lists.{given, head, option}
 use Rattle.loops.specs.Search.{firstPlace, someIf}
-use Rattle.loops.specs.inner.Chain.{Blind}
 use Rattle.loops.proofs.ListLaws.{head-collect, head-given}
 use Rattle.loops.proofs.PlaceLaws.{found-at}
 use Rattle.rows.specs.Cells.{rowCount, num, is}
@@ -18,7 +17,6 @@ use Rattle.sheet.specs.inner.Accepted.{Accepted}
 use Rattle.sheet.specs.declared.Found.{Found}
 use Rattle.sheet.specs.declared.Found.the-variants.{At, Nothing}
 use Rattle.sheet.specs.inner.Found.{foundOf}
-use Rattle.owners.specs.inner.Owners.{ownerKind, ownedBy}
 use Rattle.model.specs.Sheet.{sheet, rowAt}
 use Rattle.model.specs.inner.Records.{numAt}
 use Rattle.model.specs.Resource.{transportTo}
@@ -26,12 +24,9 @@ use Rattle.model.proofs.RowLaws.{kind-is, row-none, row-here}
 use Rattle.model.proofs.Accepting.{at-most, has-owner}
 use Rattle.model.proofs.Finds.{first-same, first-placed}
 use Rattle.pieces.specs.inner.Bookings.{names}
-use Rattle.pieces.proofs.Chains.{own-resource, names-kind, names-blind, place-never, unnamed}
+use Rattle.pieces.proofs.Chains.{names-kind, place-never, unnamed}
 
 module _ (rows : List ℤ) where
-  pub moves-blind : (o b : ℕ) {a a′ : ℕ} {f : Found} → a ≡ a′ → foundOf f ≡ placeOf rows 11 a′ → f ≡ At o → Blind (ownedBy rows o 14) (names rows 14 a b)
-  moves-blind o b e p q = rw e (names-blind rows 14 11 o _ b (λ i h. own-resource rows 14 i (unfold ownerKind in refl) h) (sym (ap foundOf q) ∙ p))
-
   module _ (a b : ℕ) where
     move : ℕ → List ℕ
     move k = given (eqb (numAt (sheet rows) k 1) a && eqb (numAt (sheet rows) k 2) b) (numAt (sheet rows) k 3)

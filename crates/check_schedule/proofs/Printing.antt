@@ -12,7 +12,7 @@ use native.Mathlib.Omega.{arith}
 use borrow.Author.Tests.{ltb-false}
 use lib.Dec.{ltb}
 use lib.IntN.{ℤ, pos, negsuc, natAbs}
-use lib.ListN.{length, getD, take, drop, length-append, length-drop}
+use lib.ListN.{length, getD, take, drop, length-drop}
 use lib.Seq.{sets, sets-eq, take-at, take-append-le, drop-append-le, length-take-le}
 use mir.Syntax.{w64}
 use mir.Val.{Val, Fits}
@@ -27,12 +27,13 @@ use Rattle.refusals.specs.declared.Answer.{Answer}
 use Rattle.refusals.specs.declared.Answer.the-variants.{Accepted, Refused}
 use Rattle.text.proofs.TextLaws.{accepted-rows}
 use Rattle.refusals.specs.Refusals.{Refusal}
-use Rattle.findings.specs.declared.Violation.{Violation}
+use Rattle.refusals.proofs.AnswerLaws.{same-count, not-both}
 use Rattle.findings.specs.Findings.{flat}
 use Rattle.findings.proofs.SinkLaws.{flat-length}
-use Rattle.definition.specs.CheckSchedule.{findings, checkSchedule}
+use Rattle.definition.specs.CheckSchedule.{findings}
 use Rattle.feasibility.specs.Refusals.{sheetRefusal, refusal}
-use Rattle.feasibility.specs.Call.{Listed, Ended, Checked}
+use Rattle.feasibility.specs.Call.{Ended, Checked}
+use Rattle.feasibility.proofs.Calls.{length-listed}
 use Rattle.printing.specs.Decimal.{decimal}
 use Rattle.printing.specs.NumberLines.{numberLine, lineAt, numberLines}
 use Rattle.printing.specs.Printed.{acceptedWord, printedRefused, printedAccepted, printed}
@@ -73,10 +74,6 @@ stands o p {r = r} h l q e =
 
 -- ---- what is printed of findings is that of their lines, whatever follows them
 
-length-listed : (rows : List ℤ) (l : List Violation) → Listed rows l → length l ≡ length (findings rows)
-unfolding findings checkSchedule
-length-listed rows l p = ap length (p .whole) ∙ simp length-append (omega (arith, p .places))
-
 module _ (xs ys : List ℤ) where
   line-first : (k : ℕ) → k * 4 + 4 ≤ length xs → numberLine (lineAt 4 (xs ++ ys) k) ≡ numberLine (lineAt 4 xs k)
   unfolding lineAt
@@ -94,12 +91,6 @@ module _ (xs ys : List ℤ) where
 pub checked-kept : {rows before found found′ : List ℤ} {a : Answer} → found′ ≡ found → Checked rows before a found → Checked rows before a found′
 checked-kept {rows = rows} {before = before} {a = a} p c = subst (Checked rows before a) (sym p) c
 
-accepted-inj : (n m : ℕ) → Accepted n ≡ Accepted m → n ≡ m
-accepted-inj n m p = cc
-
-not-both : (n m p : ℕ) → Accepted n ≡ Refused m p → ⊥
-not-both n m p e = let z : _≡_ {A = ℕ} 0 1 = cc in omega arith
-
 few : (rows : List ℤ) → refusal rows 2000 ≡ none → length (findings rows) ≤ 2000
 unfolding refusal
 few rows e = omega (arith, ltb-false 2000 (length (findings rows)) (if-none (ltb 2000 (length (findings rows))) _ (or-none-right (sheetRefusal rows) _ e)))
@@ -116,9 +107,9 @@ module _ (rows before : List ℤ) (room : 8000 ≡ length before) where
         → Small found
         → r ≡ min (length (printedAccepted n found)) (length o) → o′ ≡ sets o 0 (printedAccepted n found)
         → (r ≤ 168030) × PrintedBy t rows (take r o′)
-    accepted-by (some x) n found h e f q s = absurd (not-both _ _ _ (e .answered))
+    accepted-by (some x) n found h e f q s = absurd (not-both (e .answered))
     accepted-by none n found h e f q s =
-        let z : n ≡ length (findings rows) = accepted-inj _ _ (e .counted) in
+        let z : n ≡ length (findings rows) = same-count (e .counted) in
         let d = stands o (printedAccepted n found) long (accepted-fits found f n (omega (arith, h refl))) q s in
         let l : length (flat (e .lines)) ≡ 4 * n = flat-length (e .lines) ∙ ap (λ m. 4 * m) (length-listed rows (e .lines) (e .listed) ∙ sym z) in (
           d .within,
@@ -134,7 +125,7 @@ module _ (rows before : List ℤ) (room : 8000 ≡ length before) where
         → number < 2 ^ 64 → place < 2 ^ 64
         → r ≡ min (length (printedRefused number place)) (length o) → o′ ≡ sets o 0 (printedRefused number place)
         → (r ≤ 168030) × PrintedBy t rows (take r o′)
-    refused-by none number place found e h l q s = absurd (not-both _ _ _ (sym (e .counted)))
+    refused-by none number place found e h l q s = absurd (not-both (sym (e .counted)))
     refused-by (some x) number place found e h l q s =
         let d = stands o (printedRefused number place) long (omega (arith, refused-fits number place h l)) q s in
         let a : number ≡ x .number = cc (e .answered) in

@@ -19,6 +19,7 @@ use Rattle.sheet.specs.declared.Found.{Found}
 use Rattle.sheet.specs.declared.Found.the-variants.{At, Nothing}
 use Rattle.sheet.specs.inner.Found.{foundOf}
 use Rattle.sheet.specs.inner.Accepted.{Accepted}
+use Rattle.sheet.proofs.Lookups.{placed}
 use Rattle.owners.specs.inner.Owners.{ownPlace, ownedBy}
 use Rattle.resource_timing.specs.declared.ResourceTiming.{ResourceTiming}
 use Rattle.resource_timing.specs.declared.Piece.{Piece}
@@ -40,7 +41,7 @@ use Rattle.pieces.proofs.Companions.{of-piece, held-among, held-booking}
 use Rattle.derived_times.specs.inner.Rows.{columnsOf, partAt, timedBy, timingOf, timingPlace, timedAt}
 use Rattle.derived_times.specs.Times.{derived}
 use Rattle.derived_times.proofs.Finds.{timing-is}
-use Rattle.derived_times.proofs.Parts.{activity-id, timing-row, row-amounts}
+use Rattle.derived_times.proofs.Parts.{timing-row, row-amounts}
 
 each-map : {A B C : Type 0} (f : B → List C) (g : A → B) (l : List A) → each f (map g l) ≡ each (λ x. f (g x)) l
 unfolding each
@@ -175,7 +176,7 @@ module _ (rows : List ℤ) where
       ≡ derived (sheet rows) (assignmentOf rows k) (activityOf rows o)
   unfolding derived durationOn timedDuration
   derived-is acc k o piece l h e p =
-      ap (timed (pieceDuration piece (columnsOf rows o 4))) (sym (fold-is k piece acc l h (num rows o 1) (activity-id rows (num rows k 1) o e)))
+      ap (timed (pieceDuration piece (columnsOf rows o 4))) (sym (fold-is k piece acc l h (num rows o 1) (placed rows 2 (num rows k 1) o e .id-is)))
       ∙ ap (λ z. timed (pieceDuration z (columnsOf rows o 4)) (foldl timedOn start (map (pieceTiming z) (each (λ r. option (timing (sheet rows) (num rows o 1) r) [] (λ t. t ∷ [])) (runsOn (sheet rows) (assignmentOf rows k)))))) p
 
   -- the same, of what the code found

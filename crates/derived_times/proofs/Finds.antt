@@ -1,9 +1,9 @@
 -- What a lookup of the typed sheet finds, by the place of its row. Assumes nothing.
-use Rattle.model.proofs.Finds.{first-same}
+use Rattle.model.proofs.Finds.{first-same, first-placed, given-head}
 use Prim.Native.Nat.{ℕ, zero, suc}
-use mathlib.Core.Path.{_≡_, refl, ap, _∙_}
-use mathlib.Core.Bool.{Bool, true, false, cond, _&&_, _||_}
-use mathlib.Core.List.{List, [], _++_}
+use mathlib.Core.Path.{_≡_, refl, ap, sym, _∙_}
+use mathlib.Core.Bool.{Bool, true, false, cond, _&&_, _||_, or-false}
+use mathlib.Core.List.{List}
 use mathlib.Core.Option.{Option, none, some}
 use native.Mathlib.Omega.{arith}
 use lib.Dec.{eqb, ltb}
@@ -12,12 +12,11 @@ use lib.IntN.{ℤ}
 use lib.Ieee.{binary64, ofBits}
 use Rattle.loops.specs.Lists.{given, head, option}
 use Rattle.loops.specs.Range.{collect}
-use Rattle.loops.specs.Search.{orElse, someIf, first, firstPlace}
-use Rattle.loops.proofs.ListLaws.{head-collect}
+use Rattle.loops.specs.Search.{orElse, someIf, firstPlace}
+use Rattle.loops.proofs.ListLaws.{head-collect, head-given}
 use Rattle.loops.proofs.PlaceLaws.{found-at}
 use Rattle.rows.specs.Cells.{rowCount, cell, num, is}
 use Rattle.sheet.specs.Places.{named, placeOf}
-use Rattle.resource_timing.specs.declared.ResourceTiming.{ResourceTiming}
 use Rattle.resource_timing.specs.declared.ResourceTiming.the-variants.{Speed, Duration}
 use Rattle.model.specs.Sheet.{sheet, rowAt}
 use Rattle.model.specs.inner.Records.{numAt, intAt}
@@ -26,26 +25,10 @@ use Rattle.model.proofs.RowLaws.{kind-is, row-none, row-here}
 use Rattle.pieces.specs.inner.Bookings.{names}
 use Rattle.derived_times.specs.inner.Rows.{columnsOf, timedBy, timingOf, earlierOf}
 
--- ---- what the first place gives
-
-first-of : {A : Type 0} (q : ℕ → Bool) (g : ℕ → A) (n : ℕ) → first (λ k. cond (q k) (some (g k)) none) n ≡ option (firstPlace q n) none (λ i. some (g i))
-unfolding first firstPlace
-first-of q g zero = refl
-first-of {A} q g (suc n) = ap (λ x. orElse x (cond (q n) (some (g n)) none)) (first-of q g n) ∙ go (firstPlace q n) (q n)
-  where
-    go : (x : Option ℕ) (b : Bool) → orElse {A = A} (option x none (λ i. some (g i))) (cond b (some (g n)) none) ≡ option (orElse x (someIf b n)) none (λ i. some (g i))
-    go none true = refl
-    go none false = refl
-    go (some i) b = refl
-
 -- a list put together by place, whose rows give one element or none
-pub head-of : {A : Type 0} (q : ℕ → Bool) (g : ℕ → A) (f : ℕ → List A) (n : ℕ) → ((k : ℕ) → head (f k) ≡ cond (q k) (some (g k)) none)
+pub head-of : {A : Type 0} (q : ℕ → Bool) (g : ℕ → A) (f : ℕ → List A) (n : ℕ) → ((k : ℕ) → head (f k) ≡ someIf (q k) (g k))
     → head (collect f n) ≡ option (firstPlace q n) none (λ i. some (g i))
-head-of q g f n h = head-collect f n ∙ first-same _ _ n h ∙ first-of q g n
-
-here : {A : Type 0} (b : Bool) (x : A) → head (given b x) ≡ cond b (some x) none
-here true x = refl
-here false x = refl
+head-of q g f n h = head-collect f n ∙ first-same _ _ n h ∙ first-placed q g n
 
 module _ (rows : List ℤ) where
   abbrev pub splitOf : ℕ → Split
@@ -58,22 +41,18 @@ module _ (rows : List ℤ) where
   unfolding split placeOf
   split-is x = head-of (named rows 4 x) splitOf _ (rowCount rows) (λ k. at k (is rows k 0 4) refl)
     where
-      at : (k : ℕ) (b : Bool) → is rows k 0 4 ≡ b → head (rowAt (sheet rows) 4 (split-row x) k) ≡ cond (named rows 4 x k) (some (splitOf k)) none
-      at k true h = rw (row-here rows k 4 (split-row x) h, kind-is rows k 4 h) (unfold named is in (rw h (here (eqb (num rows k 1) x) (splitOf k))))
+      at : (k : ℕ) (b : Bool) → is rows k 0 4 ≡ b → head (rowAt (sheet rows) 4 (split-row x) k) ≡ someIf (named rows 4 x k) (splitOf k)
+      at k true h = rw (row-here rows k 4 (split-row x) h, kind-is rows k 4 h) (unfold named is in (rw h (head-given (eqb (num rows k 1) x) (splitOf k))))
       at k false h = rw (row-none rows k 4 (split-row x) h) (unfold named in (rw h))
 
   -- ---- timings
 
-  nine : (b : Bool) (x y : ResourceTiming) → head (given b x ++ []) ≡ cond (b || false) (some x) none
-  nine true x y = refl
-  nine false x y = refl
-
-  timing-row : (a r k : ℕ) → head (timingAt (sheet rows) a r k) ≡ cond (timedBy rows a r k) (some (timingOf rows k)) none
+  timing-row : (a r k : ℕ) → head (timingAt (sheet rows) a r k) ≡ someIf (timedBy rows a r k) (timingOf rows k)
   timing-row a r k = go (is rows k 0 9) (is rows k 0 10) refl refl
     where
-      go : (b c : Bool) → is rows k 0 9 ≡ b → is rows k 0 10 ≡ c → head (timingAt (sheet rows) a r k) ≡ cond (timedBy rows a r k) (some (timingOf rows k)) none
-      go true c h g = unfold timingAt timedBy timingOf names is in (rw (kind-is rows k 9 h) (nine (eqb (num rows k 1) a && eqb (num rows k 2) r) (Speed (ofBits binary64 (num rows k 3))) (Duration (columnsOf rows k 3))))
-      go false true h g = unfold timingAt timedBy timingOf names is in (rw (kind-is rows k 10 g) (here (eqb (num rows k 1) a && eqb (num rows k 2) r) (Duration (columnsOf rows k 3))))
+      go : (b c : Bool) → is rows k 0 9 ≡ b → is rows k 0 10 ≡ c → head (timingAt (sheet rows) a r k) ≡ someIf (timedBy rows a r k) (timingOf rows k)
+      go true c h g = unfold timingAt timedBy timingOf names is in (rw (kind-is rows k 9 h) (given-head (eqb (num rows k 1) a && eqb (num rows k 2) r) (Speed (ofBits binary64 (num rows k 3))) ∙ ap (λ b. someIf b (Speed (ofBits binary64 (num rows k 3)))) (sym (or-false (eqb (num rows k 1) a && eqb (num rows k 2) r)))))
+      go false true h g = unfold timingAt timedBy timingOf names is in (rw (kind-is rows k 10 g) (head-given (eqb (num rows k 1) a && eqb (num rows k 2) r) (Duration (columnsOf rows k 3))))
       go false false h g = unfold timingAt timedBy timingOf names is in (rw (h, g))
 
   pub timing-is : (a r : ℕ) → timing (sheet rows) a r ≡ option (firstPlace (timedBy rows a r) (rowCount rows)) none (λ i. some (timingOf rows i))

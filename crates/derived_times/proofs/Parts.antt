@@ -29,7 +29,7 @@ use Rattle.sheet.specs.inner.Index.{orEnd, storedPlace}
 use Rattle.sheet.specs.inner.Kept.{IsRow}
 use Rattle.sheet.specs.inner.Accepted.{Accepted}
 use Rattle.sheet.specs.Refusals.{lacks}
-use Rattle.sheet.proofs.Lookups.{placed, num-is}
+use Rattle.sheet.proofs.Lookups.{placed, found-some, found-none, place-kind}
 use Rattle.sheet.proofs.Keeping.{Keeping, keeping-start, keeping-turn, keeping-end, kept-at}
 use Rattle.owners.specs.inner.Owners.{ownerKind, ownedBy}
 use Rattle.resource_timing.specs.declared.ActivityDuration.{ActivityDuration}
@@ -59,12 +59,6 @@ kind-10 = unfold ownerKind in refl
 
 -- ---- what is found
 
-pub found-none : {r : Found} {x : Option ℕ} → foundOf r ≡ x → r ≡ Nothing → x ≡ none
-found-none e f = sym e ∙ ap foundOf f
-
-pub found-some : {r : Found} {x : Option ℕ} {i : ℕ} → foundOf r ≡ x → r ≡ At i → x ≡ some i
-found-some e f = sym e ∙ ap foundOf f
-
 -- the earlier of two places that were found, by the code's test
 module _ {i j : ℕ} {r e : Option ℕ} where
   pub earlier-first : i < j → r ≡ some i → e ≡ cond (ltb i j) (some i) (some j) → r ≡ e
@@ -76,24 +70,8 @@ module _ {i j : ℕ} {r e : Option ℕ} where
 module _ (rows : List ℤ) where
   -- ---- the activity's row
 
-  pub activity-kind : (x o : ℕ) → placeOf rows 2 x ≡ some o → is rows o 0 2 ≡ true
-  activity-kind x o e = num-is rows o 0 2 (placed rows 2 x o e .kind)
-
-  pub activity-id : (x o : ℕ) → placeOf rows 2 x ≡ some o → num rows o 1 ≡ x
-  activity-id x o e = placed rows 2 x o e .id-is
-
-  pub activity-within : (x o : ℕ) → placeOf rows 2 x ≡ some o → o < rowCount rows
-  activity-within x o e = placed rows 2 x o e .within
-
-  pub activity-below : (x o : ℕ) → placeOf rows 2 x ≡ some o → o ≤ rowCount rows
-  activity-below x o e = omega (arith, placed rows 2 x o e .within)
-
-  module _ (k o : ℕ) {r : Found} (e : foundOf r ≡ placeOf rows 2 (num rows k 1)) (f : r ≡ At o) where
-    pub found-below : o ≤ rowCount rows
-    found-below = activity-below (num rows k 1) o (found-some e f)
-
-    pub found-blind : (x b : ℕ) {a : ℕ} → a ≡ num rows k 1 → ownerKind x ≡ 2 → Blind (ownedBy rows o x) (names rows x a b)
-    found-blind x b p z = timings-blind rows x o b z p (sym (found-some e f))
+  pub found-blind : (k o : ℕ) {r : Found} → foundOf r ≡ placeOf rows 2 (num rows k 1) → r ≡ At o → (x b : ℕ) {a : ℕ} → a ≡ num rows k 1 → ownerKind x ≡ 2 → Blind (ownedBy rows o x) (names rows x a b)
+  found-blind k o e f x b p z = timings-blind rows x o b z p (sym (found-some f e))
 
   -- ---- the split's row
 
@@ -126,11 +104,11 @@ module _ (rows : List ℤ) where
     piece-whole f = rw (part-none k h f)
 
     split-at : (x : Option ℕ) → placeOf rows 4 (num rows k 1) ≡ x → split (sheet rows) (num rows o 1) ≡ option x none (λ i. some (splitOf rows i))
-    split-at x f = ap (split (sheet rows)) (activity-id (num rows k 1) o e) ∙ split-is rows (num rows k 1) ∙ ap (λ y. option y none (λ i. some (splitOf rows i))) f
+    split-at x f = ap (split (sheet rows)) (placed rows 2 (num rows k 1) o e .id-is) ∙ split-is rows (num rows k 1) ∙ ap (λ y. option y none (λ i. some (splitOf rows i))) f
 
     -- a part's times are amounts
     pub part-amounts : Accepted rows → (num rows k 8 ≤ 4000000000000) × (num rows o 5 ≤ 4000000000000)
-    part-amounts acc = (at-most rows acc k 23 8 h, at-most rows acc o 2 5 (activity-kind (num rows k 1) o e))
+    part-amounts acc = (at-most rows acc k 23 8 h, at-most rows acc o 2 5 (place-kind rows 2 (num rows k 1) e))
 
     module _ (acc : Accepted rows) (l : k < rowCount rows) (f : isNone (cell rows k 7) ≡ false) where
       piece-unsplit : none ≡ firstPlace (ownedBy rows o 4) (rowCount rows) → Whole ≡ pieceOf (sheet rows) (activityOf rows o) (partAt rows k)
@@ -153,7 +131,7 @@ module _ (rows : List ℤ) where
 
     pub unsplit-found : {r : Found} → b ≡ false → r ≡ Nothing → foundOf r ≡ firstPlace (ownedBy rows o 4) (rowCount rows) → Accepted rows → k < rowCount rows
         → Whole ≡ pieceOf (sheet rows) (activityOf rows o) (partAt rows k)
-    unsplit-found z t f acc l = piece-unsplit k o h e acc l (rw (toZ-ofZ s, c) at (sym q ∙ z)) (sym (found-none f t))
+    unsplit-found z t f acc l = piece-unsplit k o h e acc l (rw (toZ-ofZ s, c) at (sym q ∙ z)) (sym (found-none t f))
 
   pub piece-found : (k o : ℕ) {x : ℤ} {b : Bool} {r : Found} {i work whole overhead : ℕ} {part : PartTimes} → part ≡ partOf (toZ w64 (ofZ w64 x)) work whole overhead
       → x ≡ cell rows k 7 → SFits w64 x → work ≡ num rows k 8 → whole ≡ num rows o 5 → overhead ≡ num rows i 4 → b ≡ isNone (toZ w64 (ofZ w64 x)) → b ≡ false

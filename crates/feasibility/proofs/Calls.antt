@@ -26,7 +26,8 @@ use Rattle.definition.specs.CheckCapacity.{checkResource, checkCapacity}
 use Rattle.definition.specs.CheckSchedule.{beforeCapacity, afterCapacity, checkSchedule, findings}
 use Rattle.shift.specs.Shift.{Shifted}
 use Rattle.shift.specs.inner.InClass.{InClass}
-use Rattle.refusals.specs.declared.Answer.the-variants.{Accepted, Refused}
+use Rattle.refusals.specs.declared.Answer.the-variants.{Accepted}
+use Rattle.refusals.proofs.AnswerLaws.{same-count, not-both}
 use Rattle.feasibility.specs.Refusals.{refusal}
 use Rattle.feasibility.specs.Call.{sameLine, AsOften, Listed, Written, Ended, Checked}
 use Rattle.feasibility.specs.Demand3.{isCapacity, SameFindings, SameCalls}
@@ -104,22 +105,16 @@ listed-same rows l p =
       check5′ = five;
     }
 
-length-listed : (rows : List ℤ) (l : List Violation) → Listed rows l → length l ≡ length (findings rows)
+pub length-listed : (rows : List ℤ) (l : List Violation) → Listed rows l → length l ≡ length (findings rows)
 unfolding findings checkSchedule
 length-listed rows l p = ap length (p .whole) ∙ simp length-append (omega (arith, p .places))
-
-accepted-inj : (n m : ℕ) → Accepted n ≡ Accepted m → n ≡ m
-accepted-inj n m p = cc
-
-not-refused : (n m p : ℕ) → Accepted n ≡ Refused m p → ⊥
-not-refused n m p e = let z : _≡_ {A = ℕ} 0 1 = cc in omega arith
 
 -- what stands in the buffer after a call that accepts
 first-lines : (rows before : List ℤ) (n : ℕ) (after : List ℤ) (w : Written rows before (Accepted n) after) → take (4 * n) after ≡ flat (w .lines)
 first-lines rows before n after w =
     ap (take (4 * n)) (w .buffer)
     ∙ take-at (flat (w .lines)) _ (4 * n)
-    (flat-length (w .lines) ∙ ap (λ k. 4 * k) (length-listed rows (w .lines) (w .listed) ∙ sym (accepted-inj _ _ (w .counted))))
+    (flat-length (w .lines) ∙ ap (λ k. 4 * k) (length-listed rows (w .lines) (w .listed) ∙ sym (same-count (w .counted))))
 
 -- ---- two calls
 
@@ -145,8 +140,8 @@ module _ (a b : List ℤ) (p : SameParts a b) (same : findings a ≡ findings b)
       → SameCalls a b n m after after′
   two-written before before′ after after′ n m v w =
       record {
-        as-many = accepted-inj _ _ (v .counted) ∙ ap length same ∙ sym (accepted-inj _ _ (w .counted));
-        counted = accepted-inj _ _ (v .counted);
+        as-many = same-count (v .counted) ∙ ap length same ∙ sym (same-count (w .counted));
+        counted = same-count (v .counted);
         lines = v .lines;
         lines′ = w .lines;
         written = first-lines a before n after v;
@@ -159,7 +154,7 @@ module _ (a b : List ℤ) (p : SameParts a b) (same : findings a ≡ findings b)
 -- a call that accepts is of a sheet that is not refused
 passed : (rows before : List ℤ) (n : ℕ) (after : List ℤ) (o : Option Refusal) → Ended o rows before (Accepted n) after → o ≡ none
 passed rows before n after none e = refl
-passed rows before n after (some x) e = absurd (not-refused _ _ _ (e .answered))
+passed rows before n after (some x) e = absurd (not-both (e .answered))
 
 written : (rows before : List ℤ) (n : ℕ) (after : List ℤ) → Checked rows before (Accepted n) after → Written rows before (Accepted n) after
 written rows before n after c =

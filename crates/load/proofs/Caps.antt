@@ -56,10 +56,10 @@ module _ (rows : List ℤ) (x : ℕ) where
   unfolding baseOf
   base-none h q = rw (find-resource rows x, ← h, q)
 
-  pub base-some : {f : Found} {k : ℕ} {c r : ℤ} → foundOf f ≡ placeOf rows 11 x → f ≡ At k → SFits w64 c → c ≡ cell rows k 3
-      → r ≡ maxZ (toZ w64 (ofZ w64 c)) (pos 1) → r ≡ baseOf (sheet rows) x
+  pub base-some : {f : Found} {k : ℕ} {c r : ℤ} → r ≡ maxZ (toZ w64 (ofZ w64 c)) (pos 1) → c ≡ cell rows k 3 → f ≡ At k → foundOf f ≡ placeOf rows 11 x
+      → SFits w64 c → SFits w64 r → toZ w64 (ofZ w64 r) ≡ baseOf (sheet rows) x
   unfolding baseOf
-  base-some h q s e g = rw (find-resource rows x, ← h, q, ← e) (rw (toZ-ofZ s) at g)
+  base-some g e q h s t = toZ-ofZ t ∙ rw (find-resource rows x, ← h, q, ← e) (rw (toZ-ofZ s) at g)
 
   -- ---- the last constraint
 

@@ -11,7 +11,7 @@ use lib.Signed.{ltZ}
 use lib.ListN.{getD}
 use Rattle.loops.specs.Range.{fold, collect}
 use Rattle.loops.specs.Sums.{total, most}
-use Rattle.loops.proofs.RangeLaws.{fold-done}
+use Rattle.loops.proofs.RangeLaws.{fold-again, fold-done}
 use Rattle.loops.proofs.SumLaws.{total-append, most-append}
 use Rattle.load.specs.Load.{Booking, holds, taken, loadOf, peakOf}
 use Rattle.load.specs.inner.Lent.{lentAt, lent, Fit}
@@ -61,11 +61,16 @@ pub add-turn : (b : List ℕ) (t e k : ℕ) {r : ℕ} → r ≡ taken ltZ (pos t
 unfolding addHeld
 add-turn b t e k h = ap (λ x. e + x) h
 
-pub higher-turn : (b : List ℕ) (n e k : ℕ) {t l r : ℕ} → t ≡ getD b (3 * k + 0) 0 → l ≡ loadOf ltZ (lent b n) (pos t) → r ≡ max e l → r ≡ higher b n e k
+-- One start more. The place that was read is a premise by itself: two places are told apart at once, and what stands at them is not.
+pub higher-again : (b : List ℕ) (n k i : ℕ) {e t l r : ℕ} → r ≡ max e l → l ≡ loadOf ltZ (lent b n) (pos t) → t ≡ getD b i 0 → i ≡ 3 * k + 0 → e ≡ fold (higher b n) 0 k
+    → r ≡ fold (higher b n) 0 (k + 1)
 unfolding higher
-higher-turn b n e k s h q =
-    let z : 3 * k + 0 ≡ 3 * k = omega arith in
-    q ∙ ap (max e) (h ∙ ap (λ u. loadOf ltZ (lent b n) (pos u)) (s ∙ ap (λ i. getD b i 0) z))
+higher-again b n k i {e} {r = r} q h s z g = fold-again (higher b n) 0 k g turn
+  where
+    turn : r ≡ higher b n e k
+    turn =
+        let w : i ≡ 3 * k = omega arith in
+        q ∙ ap (max e) (h ∙ ap (λ u. loadOf ltZ (lent b n) (pos u)) (s ∙ ap (λ i. getD b i 0) w))
 
 -- ---- ends
 

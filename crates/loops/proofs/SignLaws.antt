@@ -28,9 +28,12 @@ module _ (z : ℤ) (f : SFits w64 z) where
   pub from-zero : ltZ (toZ w64 (ofZ w64 z)) (pos 0) ≡ false → (n : ℕ) × (z ≡ pos n)
   from-zero e = plain z (rw (toZ-ofZ f) at e)
 
-  -- what a cast to u64 asks
-  pub cast : ltZ (toZ w64 (ofZ w64 z)) (pos 0) ≡ false → T (nonNeg (toZ w64 (ofZ w64 z))) × Fits w64 (natAbs (toZ w64 (ofZ w64 z)))
-  cast e = let p = from-zero e in rw (toZ-ofZ f, p .1) (tt, record { fits = omega (arith, (rw (p .1) at f) .sfits) })
+  -- what a cast to u64 asks, in its two parts
+  pub cast-sign : ltZ (toZ w64 (ofZ w64 z)) (pos 0) ≡ false → T (nonNeg (toZ w64 (ofZ w64 z)))
+  cast-sign e = let p = from-zero e in rw (toZ-ofZ f, p .1) tt
+
+  pub cast-fits : ltZ (toZ w64 (ofZ w64 z)) (pos 0) ≡ false → Fits w64 (natAbs (toZ w64 (ofZ w64 z)))
+  cast-fits e = let p = from-zero e in rw (toZ-ofZ f, p .1) (record { fits = omega (arith, (rw (p .1) at f) .sfits) })
 
 -- a number of 63 bits can be negated
 pub negated-fits : (n : ℕ) → n < 2 ^ 63 → SFits w64 (negℤ (pos n))

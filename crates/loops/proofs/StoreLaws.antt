@@ -44,6 +44,10 @@ module _ {A : Type 0} where
   pub wrote-as : {l m : List A} {i j : ℕ} {a b : List A} → a ≡ b → Wrote l i m j a → Wrote l i m j b
   wrote-as {l = l} {m = m} {i = i} {j = j} e v = subst (λ (x : List A). Wrote l i m j x) e v
 
+  -- all that was written from the start on
+  pub wrote-there : {l m : List A} {j : ℕ} (a b : List A) → Wrote l 0 m j a → a ≡ b → m ≡ sets l 0 b
+  wrote-there a b v e = wrote-as e v .buffer
+
   pub wrote-then : {l m o : List A} {i j k : ℕ} (a b : List A) → Wrote l i m j a → Wrote m j o k b → Wrote l i o k (a ++ b)
   wrote-then {l = l} {m = m} {i = i} a b v w =
       let e = wrote-long v in

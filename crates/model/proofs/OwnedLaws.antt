@@ -9,6 +9,7 @@ use native.Mathlib.Decide.{ℕ-discrete}
 use borrow.Author.Tests.{eq-eqb, ne-eqb}
 use lib.Dec.{eqb}
 use lib.IntN.{ℤ}
+use Rattle.loops.proofs.BoolLaws.{and-left}
 use Rattle.rows.specs.Cells.{rowCount, num, is}
 use Rattle.sheet.specs.Places.{placeOf}
 use Rattle.sheet.specs.inner.Index.{orEnd}
@@ -61,10 +62,22 @@ module _ (rows : List ℤ) where
   unfolding ownerOf
   of-task x a id o q k = owned-by x 1 2 (λ j e. owns-at x 1 j o e) a id q k
 
-  -- the owner of a booking or span: what the lookup by id finds
+  -- the owner of a row that belongs to an activity, or to a resource: what the lookup by id finds
   pub own-activity : (x k : ℕ) → ownerKind x ≡ 2 → is rows k 0 x ≡ true → ownPlace rows k ≡ orEnd rows (placeOf rows 2 (num rows k 1))
   unfolding ownerOf
   own-activity x k o e = owns-at x 2 k o e
 
+  pub own-resource : (x k : ℕ) → ownerKind x ≡ 11 → is rows k 0 x ≡ true → ownPlace rows k ≡ orEnd rows (placeOf rows 11 (num rows k 1))
+  unfolding ownerOf
+  own-resource x k o e = owns-at x 11 k o e
+
   pub booking-owner : (k o : ℕ) → is rows k 0 23 ≡ true → placeOf rows 2 (num rows k 1) ≡ some o → o ≡ ownPlace rows k
   booking-owner k o h e = sym (own-activity 23 k (unfold ownerKind in refl) h ∙ ap (orEnd rows) e ∙ (unfold orEnd in refl))
+
+  pub owned-at : (o x k : ℕ) → is rows k 0 x ≡ true → ownPlace rows k ≡ o → ownedBy rows o x k ≡ true
+  unfolding ownedBy
+  owned-at o x k h e = rw (h) (eq-eqb (ownPlace rows k) o e)
+
+  pub owned-kind : (o x k : ℕ) → ownedBy rows o x k ≡ true → is rows k 0 x ≡ true
+  unfolding ownedBy
+  owned-kind o x k e = and-left (is rows k 0 x) (eqb (ownPlace rows k) o) e

@@ -27,7 +27,7 @@ use Rattle.owners.specs.inner.Owners.{ownerKind, ownerOf, ownerPlace, ownPlace,
 use Rattle.model.specs.Sheet.{sheet, rowAt}
 use Rattle.model.specs.inner.Records.{numAt, requirementOf}
 use Rattle.model.specs.Activity.{ResourceRequirement, requirementAt, namedFor, candidates}
-use Rattle.model.proofs.RowLaws.{kind-is}
+use Rattle.model.proofs.RowLaws.{kind-is, row-here, row-none}
 use Rattle.model.proofs.OwnedLaws.{of-activity}
 
 -- ---- number m of the places that pass
@@ -159,23 +159,22 @@ module _ (rows : List ℤ) where
       go false e = rw e
 
   module _ (q : ℕ) (l : q < rowCount rows) (h : is rows q 0 5 ≡ true) where
-    candidate-at : (k : ℕ)
-        → rowAt (sheet rows) 6
-        (λ k. given (eqb (numAt (sheet rows) k 1) (requirementOf rows q .activity) && eqb (numAt (sheet rows) k 2) (requirementOf rows q .place)) (numAt (sheet rows) k 3)) k
-        ≡ given (ownedBy rows q 6 k) (num rows k 3)
-    unfolding is
-    candidate-at k = rw (of-requirement 6 q (unfold ownerKind in refl) l h k) (go (is rows k 0 6) refl)
+    abbrev wanted : ℕ → List ℕ
+    wanted k = given (eqb (numAt (sheet rows) k 1) (requirementOf rows q .activity) && eqb (numAt (sheet rows) k 2) (requirementOf rows q .place)) (numAt (sheet rows) k 3)
+
+    -- a candidate of the requirement, or a skill that it asks for
+    pub wanted-at : (x : ℕ) → ownerKind x ≡ 5 → ((k : ℕ) → is rows k 0 x ≡ true → wanted k ≡ given (is rows k 1 (num rows q 1) && is rows k 2 (requirementOf rows q .place)) (num rows k 3))
+        → (k : ℕ) → rowAt (sheet rows) x wanted k ≡ given (ownedBy rows q x k) (num rows k 3)
+    wanted-at x o w k = rw (of-requirement x q o l h k) (go (is rows k 0 x) refl)
       where
-        go : (b : Bool) → is rows k 0 6 ≡ b
-            → rowAt (sheet rows) 6
-            (λ k. given (eqb (numAt (sheet rows) k 1) (requirementOf rows q .activity) && eqb (numAt (sheet rows) k 2) (requirementOf rows q .place)) (numAt (sheet rows) k 3)) k
-            ≡ given (is rows k 0 6 && (is rows k 1 (num rows q 1) && is rows k 2 (requirementOf rows q .place))) (num rows k 3)
-        go true e = rw (kind-is rows k 6 e)
-        go false e = rw e
+        go : (b : Bool) → is rows k 0 x ≡ b
+            → rowAt (sheet rows) x wanted k ≡ given (is rows k 0 x && (is rows k 1 (num rows q 1) && is rows k 2 (requirementOf rows q .place))) (num rows k 3)
+        go true e = row-here rows k x wanted e ∙ rw e (w k e)
+        go false e = row-none rows k x wanted e ∙ rw e
 
     pub candidates-are : candidates (sheet rows) (requirementOf rows q) ≡ collect (λ k. given (ownedBy rows q 6 k) (num rows k 3)) (rowCount rows)
     unfolding namedFor
-    candidates-are = collect-ext _ _ (rowCount rows) (λ k m. candidate-at k)
+    candidates-are = collect-ext _ _ (rowCount rows) (λ k m. wanted-at 6 (unfold ownerKind in refl) (λ j e. unfold is in rw (kind-is rows j 6 e)) k)
 
 -- ---- a list of what passes a test, place by place
 

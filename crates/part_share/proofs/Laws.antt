@@ -4,7 +4,7 @@ use Prim.Native.Nat.{ℕ, _+_, _*_, _/_, _%_, _≤_, _<_}
 use native.Mathlib.Nat.{mul-comm, mul-assoc, mul-left-comm, mul-add, mul-le-mul, add-div-right, div-div-eq-div-mul, div-lt-iff-lt-mul, div-le-self, mod-lt, div-add-mod', add-mul-div-right, mul-right-comm}
 use native.Mathlib.Omega.{arith}
 use borrow.Author.Tests.{eq-eqb, ne-eqb, le-leb, lt-leb}
-use mathlib.Core.Bool.{Bool, true, false, cond, _&&_}
+use mathlib.Core.Bool.{Bool, true, false, cond, _&&_, and-false}
 use mathlib.Core.Option.{none, some}
 use lib.Dec.{leb}
 use Rattle.rounding.specs.declared.Time.{Time}
@@ -141,10 +141,6 @@ last-false true true = refl
 last-false true false = refl
 last-false false b = refl
 
-middle-false : (a c : Bool) → (a && (false && c)) ≡ false
-middle-false true c = refl
-middle-false false c = refl
-
 module _ (ms work whole : ℕ) where
   pub beyond-ms : 4000000000000 < ms → TooLarge ≡ limited (shareWithin ms work whole)
   unfolding shareWithin
@@ -152,7 +148,7 @@ module _ (ms work whole : ℕ) where
 
   pub beyond-work : 4000000000000 < work → TooLarge ≡ limited (shareWithin ms work whole)
   unfolding shareWithin
-  beyond-work l = refused (leb ms 4000000000000) (leb work 4000000000000) (leb whole 4000000000000) (shareOf ms work whole) (rw (lt-leb work 4000000000000 l) (middle-false (leb ms 4000000000000) (leb whole 4000000000000)))
+  beyond-work l = refused (leb ms 4000000000000) (leb work 4000000000000) (leb whole 4000000000000) (shareOf ms work whole) (rw (lt-leb work 4000000000000 l) (and-false (leb ms 4000000000000)))
 
   pub beyond-whole : 4000000000000 < whole → TooLarge ≡ limited (shareWithin ms work whole)
   unfolding shareWithin

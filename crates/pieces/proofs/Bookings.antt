@@ -1,15 +1,14 @@
 -- The bookings of an activity, row by row along its chain. Assumes nothing.
-use Prim.Native.Nat.{ℕ, _<_}
+use Prim.Native.Nat.{ℕ}
 use mathlib.Core.Path.{_≡_, refl, _∙_}
 use mathlib.Core.Bool.{Bool, true, false, cond, _&&_}
 use mathlib.Core.List.{List, [], _∷_, _++_}
 use mathlib.Core.Option.{some}
-use native.Mathlib.Omega.{arith}
 use lib.Dec.{eqb}
 use lib.IntN.{ℤ}
 use Rattle.loops.specs.Lists.{given, keep}
 use Rattle.loops.specs.Range.{collect}
-use Rattle.loops.specs.inner.Chain.{only, Stands}
+use Rattle.loops.specs.inner.Chain.{only}
 use Rattle.loops.proofs.ListLaws.{keep-collect}
 use Rattle.loops.proofs.RangeLaws.{collect-ext}
 use Rattle.rows.specs.Cells.{rowCount, num, is}
@@ -20,13 +19,8 @@ use Rattle.model.specs.Schedule.{assignmentAt, assignmentsBelow, assignments, a
 use Rattle.model.proofs.RowLaws.{assignment-row, assignment-none}
 use Rattle.model.proofs.OwnedLaws.{of-activity}
 use Rattle.pieces.proofs.Companions.{booking}
-use Rattle.pieces.proofs.Chains.{owned-kind}
 
 module _ (rows : List ℤ) where
-  -- a loop along the bookings stands at one
-  pub stands-booked : (o : ℕ) {n N i : ℕ} → i < N → N ≡ n → Stands (ownedBy rows o 23) n i → is rows i 0 23 ≡ true
-  stands-booked o {n} {N} {i} l z a = owned-kind rows o 23 i (a .here (omega arith))
-
   module _ (o : ℕ) (q : placeOf rows 2 (num rows o 1) ≡ some o) where
     booked-at : (k : ℕ) → keep (λ a. eqb (a .activity) (num rows o 1)) (assignmentAt (sheet rows) k) ≡ only (ownedBy rows o 23) (λ k. booking rows k ∷ []) k
     unfolding only

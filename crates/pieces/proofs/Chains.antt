@@ -1,7 +1,7 @@
 -- The rows that name two things stand in the chain of their owner; a walk along it finds the first. Assumes nothing.
 use Prim.Native.Nat.{ℕ, _<_, _≤_}
 use mathlib.Core.Path.{_≡_, refl, sym, ap, ap₂, _∙_}
-use mathlib.Core.Bool.{Bool, true, false, not, _&&_, true≢false, and-false}
+use mathlib.Core.Bool.{Bool, true, false, not, _&&_, true≢false, and-false, and-true}
 use mathlib.Core.Option.{Option, none, some}
 use mathlib.Core.List.{List}
 use native.Mathlib.Omega.{arith}
@@ -14,16 +14,17 @@ use Rattle.loops.proofs.BoolLaws.{and-left, and-right}
 use Rattle.loops.proofs.SearchLaws.{any-none, any-hit, none-below, place-hit}
 use Rattle.loops.proofs.PlaceLaws.{found-at, place-none, none-before, any-less}
 use Rattle.rows.specs.Cells.{rowCount, num, is}
-use Rattle.sheet.specs.Places.{named, placeOf, activityPlace, resourcePlace}
+use Rattle.sheet.specs.Places.{named, placeOf}
 use Rattle.sheet.specs.Refusals.{isAbsent, lacks}
 use Rattle.sheet.specs.inner.Accepted.{Accepted}
 use Rattle.sheet.specs.inner.Index.{orEnd}
 use Rattle.sheet.specs.inner.Found.{foundOf}
 use Rattle.sheet.specs.declared.Found.{Found}
 use Rattle.sheet.specs.declared.Found.the-variants.{At, Nothing}
-use Rattle.sheet.proofs.Lookups.{is-num, placed}
-use Rattle.owners.specs.inner.Owners.{ownerKind, ownerOf, ownerPlace, ownPlace, ownedBy}
+use Rattle.sheet.proofs.Lookups.{is-num, found-some}
+use Rattle.owners.specs.inner.Owners.{ownerKind, ownPlace, ownedBy}
 use Rattle.model.proofs.Accepting.{has-owner}
+use Rattle.model.proofs.OwnedLaws.{own-activity, own-resource, owned-at}
 use Rattle.pieces.specs.inner.Bookings.{inPiece, sameBooking, firstOn, names, holdsFor, keyAt}
 
 -- a test that holds of rows of an owner only
@@ -35,19 +36,6 @@ blind-if p q h = record { still = λ k e. go k e (q k) refl }
     go k e false f = f
 
 module _ (rows : List ℤ) where
-  -- the owner of a row that belongs to an activity (kinds 9, 10, 23, ..), and to a resource (13)
-  pub own-activity : (x k : ℕ) → ownerKind x ≡ 2 → is rows k 0 x ≡ true → ownPlace rows k ≡ orEnd rows (activityPlace rows (num rows k 1))
-  unfolding ownPlace ownerPlace ownerOf
-  own-activity x k e h = rw (is-num rows k 0 x h, e)
-
-  pub own-resource : (x k : ℕ) → ownerKind x ≡ 11 → is rows k 0 x ≡ true → ownPlace rows k ≡ orEnd rows (resourcePlace rows (num rows k 1))
-  unfolding ownPlace ownerPlace ownerOf
-  own-resource x k e h = rw (is-num rows k 0 x h, e)
-
-  pub owned-at : (o x k : ℕ) → is rows k 0 x ≡ true → ownPlace rows k ≡ o → ownedBy rows o x k ≡ true
-  unfolding ownedBy
-  owned-at o x k h e = rw (h) (eq-eqb (ownPlace rows k) o e)
-
   module _ (x a b i : ℕ) (h : names rows x a b i ≡ true) where
     pub names-kind : is rows i 0 x ≡ true
     unfolding names
@@ -63,22 +51,26 @@ module _ (rows : List ℤ) where
   -- the rows of kind x that name a thing of kind y in column 1 belong to its row
   pub names-blind : (x y o a b : ℕ) → ((i : ℕ) → is rows i 0 x ≡ true → ownPlace rows i ≡ orEnd rows (placeOf rows y (num rows i 1))) → some o ≡ placeOf rows y a → Blind (ownedBy rows o x) (names rows x a b)
   names-blind x y o a b w p = blind-if _ _ λ i f.
-      owned-at o x i (names-kind x a b i f)
+      owned-at rows o x i (names-kind x a b i f)
       (w i (names-kind x a b i f) ∙ ap (λ z. orEnd rows (placeOf rows y z)) (names-first x a b i f) ∙ ap (orEnd rows) (sym p) ∙ (unfold orEnd in refl))
 
-  -- the companions of a resource, the timings of an activity
-  pub companions-blind : (o b : ℕ) {a a′ : ℕ} {f : Found} → f ≡ At o → foundOf f ≡ placeOf rows 11 a′ → a ≡ a′ → Blind (ownedBy rows o 13) (names rows 13 a b)
-  companions-blind o b q p e = rw e (names-blind 13 11 o _ b (λ i h. own-resource 13 i (unfold ownerKind in refl) h) (rw q at p))
+  -- the companions of a resource and the times from it, the timings of an activity
+  module _ (o b : ℕ) {a a′ : ℕ} {f : Found} (q : f ≡ At o) (p : foundOf f ≡ placeOf rows 11 a′) (e : a ≡ a′) where
+    resource-blind : (x : ℕ) → ownerKind x ≡ 11 → Blind (ownedBy rows o x) (names rows x a b)
+    resource-blind x k = rw e (names-blind x 11 o _ b (λ i h. own-resource rows x i k h) (sym (found-some q p)))
 
-  pub found-within : (x a : ℕ) {o : ℕ} {f : Found} → f ≡ At o → foundOf f ≡ placeOf rows x a → o ≤ rowCount rows
-  found-within x a {o} q p = omega (arith, placed rows x a o (sym (rw q at p)) .within)
+    pub companions-blind : Blind (ownedBy rows o 13) (names rows 13 a b)
+    companions-blind = resource-blind 13 (unfold ownerKind in refl)
+
+    pub moves-blind : Blind (ownedBy rows o 14) (names rows 14 a b)
+    moves-blind = resource-blind 14 (unfold ownerKind in refl)
 
   -- a test of a column against a number that was read
   pub read-is : (j c : ℕ) {v w : ℕ} {r b : Bool} → v ≡ w → r ≡ is rows j c v → r ≡ b → is rows j c w ≡ b
   read-is j c e q h = rw (← e) (sym q ∙ h)
 
   pub timings-blind : (x o b : ℕ) {a a′ : ℕ} → ownerKind x ≡ 2 → a ≡ a′ → some o ≡ placeOf rows 2 a′ → Blind (ownedBy rows o x) (names rows x a b)
-  timings-blind x o b k e p = rw e (names-blind x 2 o _ b (λ i h. own-activity x i k h) p)
+  timings-blind x o b k e p = rw e (names-blind x 2 o _ b (λ i h. own-activity rows x i k h) p)
 
   -- ---- the bookings of a piece
   module _ (k j : ℕ) (h : inPiece rows k j ≡ true) where
@@ -102,22 +94,14 @@ module _ (rows : List ℤ) where
 
   pub piece-owned : (k o : ℕ) → is rows k 0 23 ≡ true → o ≡ ownPlace rows k → (j : ℕ) → inPiece rows k j ≡ true → ownedBy rows o 23 j ≡ true
   piece-owned k o h p j f =
-      owned-at o 23 j (piece-kind k j f)
-      (own-activity 23 j (unfold ownerKind in refl) (piece-kind k j f)
-      ∙ ap (λ z. orEnd rows (activityPlace rows z)) (piece-activity k j f)
-      ∙ sym (own-activity 23 k (unfold ownerKind in refl) h)
+      owned-at rows o 23 j (piece-kind k j f)
+      (own-activity rows 23 j (unfold ownerKind in refl) (piece-kind k j f)
+      ∙ ap (λ z. orEnd rows (placeOf rows 2 z)) (piece-activity k j f)
+      ∙ sym (own-activity rows 23 k (unfold ownerKind in refl) h)
       ∙ sym p)
 
   pub piece-booking : (k j : ℕ) {r : Bool} → r ≡ inPiece rows k j → r ≡ true → is rows j 0 23 ≡ true
   piece-booking k j e h = piece-kind k j (sym e ∙ h)
-
-  pub owned-kind : (o x k : ℕ) → ownedBy rows o x k ≡ true → is rows k 0 x ≡ true
-  unfolding ownedBy
-  owned-kind o x k e = and-left (is rows k 0 x) (eqb (ownPlace rows k) o) e
-
-  -- a loop along the chain stands at a row of the kind
-  pub stands-kind : (o x : ℕ) {n N i : ℕ} → i < N → N ≡ n → Stands (ownedBy rows o x) n i → is rows i 0 x ≡ true
-  stands-kind o x {n} {N} {i} l z a = owned-kind o x i (a .here (omega arith))
 
 -- ---- a search along a chain
 
@@ -270,28 +254,16 @@ holds-past-first rows k j h = rw h
 
 -- ---- the three tests of `holdsFor`, as they are made: the resource is another, it has the companion, the piece is the same
 
-first-fails : (a b : Bool) → false ≡ (a && (false && b))
-first-fails true b = refl
-first-fails false b = refl
-
-second-fails : (a : Bool) → false ≡ (a && (true && false))
-second-fails true = refl
-second-fails false = refl
-
-both-hold : (a : Bool) → a ≡ (a && (true && true))
-both-hold true = refl
-both-hold false = refl
-
 module _ (rows : List ℤ) (k j : ℕ) {r : ℕ} {b : Bool} (n : r ≡ num rows k 3) (e : b ≡ is rows j 3 r) where
   pub holds-itself : b ≡ true → false ≡ holdsFor rows k j
   unfolding holdsFor
-  holds-itself t = rw (← n, ← e, t) (first-fails (inPiece rows k j) (anyBelow (names rows 13 (num rows j 3) r) (rowCount rows)))
+  holds-itself t = rw (← n, ← e, t) (sym (and-false (inPiece rows k j)))
 
   module _ {c : Bool} (f : b ≡ false) (g : c ≡ anyBelow (names rows 13 (num rows j 3) r) (rowCount rows)) where
     pub holds-no-companion : c ≡ false → false ≡ holdsFor rows k j
     unfolding holdsFor
-    holds-no-companion t = rw (← n, ← e, f, ← g, t) (second-fails (inPiece rows k j))
+    holds-no-companion t = rw (← n, ← e, f, ← g, t) (sym (and-false (inPiece rows k j)))
 
     pub holds-companion : {d : Bool} → c ≡ true → d ≡ inPiece rows k j → d ≡ holdsFor rows k j
     unfolding holdsFor
-    holds-companion t q = q ∙ rw (← n, ← e, f, ← g, t) (both-hold (inPiece rows k j))
+    holds-companion t q = q ∙ rw (← n, ← e, f, ← g, t) (sym (and-true (inPiece rows k j)))

@@ -11,7 +11,7 @@ use native.Mathlib.Numerals.{add-one}
 use lib.IntN.{ℤ, pos}
 use borrow.Author.Tests.{lt-ltb, le-ltb}
 use lib.ListN.{length, getD, take}
-use lib.Seq.{take-suc, take-all, sets}
+use lib.Seq.{take-suc, take-all}
 use Rattle.loops.proofs.StoreLaws.{wrote-as, wrote-then}
 use Rattle.loops.specs.Range.{collect}
 use mir.Syntax.{w64}
@@ -61,13 +61,9 @@ pub accepted-put : {l m₁ m₂ m₃ m : List ℕ} {j₁ j₂ j₃ j : ℕ} (n :
 unfolding printedAccepted
 accepted-put n found a b c d = wrote-then _ _ (wrote-then _ _ a b) (wrote-then _ _ c d)
 
--- all that is printed: where it ends, and what stands in the buffer
-module _ {l m : List ℕ} {r : ℕ} (xs ys : List ℕ) (v : Wrote l 0 m r xs) (e : xs ≡ ys) where
-  pub printed-end : r ≡ min (length ys) (length l)
-  printed-end = omega (arith, wrote-as e v .place)
-
-  pub printed-there : m ≡ sets l 0 ys
-  printed-there = wrote-as e v .buffer
+-- where all that is printed ends
+pub printed-end : {l m : List ℕ} {r : ℕ} (xs ys : List ℕ) → Wrote l 0 m r xs → xs ≡ ys → r ≡ min (length ys) (length l)
+printed-end xs ys v e = omega (arith, wrote-as e v .place)
 
 module _ (a : Answer) (found : List ℤ) where
   pub as-accepted : {n : ℕ} → a ≡ Accepted n → printedAccepted n found ≡ printed a found

@@ -4,7 +4,7 @@ use mathlib.Core.Path.{_≡_, refl, ap, _∙_}
 use mathlib.Core.Bool.{true, false}
 use mathlib.Core.List.{List, [], _∷_}
 use native.Mathlib.Omega.{arith}
-use lib.Dec.{T}
+use lib.Dec.{T, leb, leb→le}
 use lib.IntN.{ℤ, pos, negsuc, negℤ, natAbs, _+ℤ_, _-ℤ_, +ℤ-idl}
 use lib.Signed.{ltZ, nonNeg}
 use mir.Syntax.{w64}
@@ -13,7 +13,7 @@ use mir.Facts.{toZ-ofZ}
 use borrow.Author.Tests.{le-leb}
 use Rattle.loops.specs.inner.Wrote.{Wrote}
 use Rattle.loops.proofs.StoreLaws.{wrote-as, wrote-then}
-use Rattle.loops.proofs.SignLaws.{below-zero, from-zero, negated-fits, cast}
+use Rattle.loops.proofs.SignLaws.{below-zero, from-zero, negated-fits}
 use Rattle.printing.specs.Decimal.{decimal, spelling}
 
 neg-up : (m : ℕ) → negsuc m +ℤ pos 1 ≡ negℤ (pos m)
@@ -62,8 +62,8 @@ module _ (z : ℤ) (f : SFits w64 z) (e : ltZ (toZ w64 (ofZ w64 z)) (pos 0) ≡ 
   pub back-size : Fits w64 (natAbs (toZ w64 (ofZ w64 (back z))))
   back-size = rw back-read (record { fits = omega (arith, small) })
 
-  pub back-more : Fits w64 (natAbs (toZ w64 (ofZ w64 (back z))) + 1)
-  back-more = rw back-read (record { fits = omega (arith, small) })
+  pub back-more : (n : ℕ) → T (leb n (2 ^ 63)) → Fits w64 (natAbs (toZ w64 (ofZ w64 (back z))) + n)
+  back-more n t = let l = leb→le n (2 ^ 63) t in rw back-read (record { fits = omega (arith, small) })
 
   pub back-magnitude : natAbs (toZ w64 (ofZ w64 (back z))) + 1 ≡ natAbs z
   back-magnitude = rw back-read (omega (arith, ap natAbs is))
@@ -82,11 +82,3 @@ plain z f e n q = rw (q, toZ-ofZ f, from-zero z f e .1)
 
 pub wrote-plain : (z : ℤ) → SFits w64 z → ltZ (toZ w64 (ofZ w64 z)) (pos 0) ≡ false → {l o : List ℕ} {i k n : ℕ} → n ≡ natAbs (toZ w64 (ofZ w64 z)) → Wrote l i o k (decimal n) → Wrote l i o k (spelling z)
 wrote-plain z f e {n = n} q w = wrote-as (plain z f e n q) w
-
--- what a cast to u64 asks, in its two parts
-module _ (z : ℤ) (f : SFits w64 z) (e : ltZ (toZ w64 (ofZ w64 z)) (pos 0) ≡ false) where
-  pub cast-sign : T (nonNeg (toZ w64 (ofZ w64 z)))
-  cast-sign = cast z f e .0
-
-  pub cast-size : Fits w64 (natAbs (toZ w64 (ofZ w64 z)))
-  cast-size = cast z f e .1

@@ -9,7 +9,6 @@ use lib.Dec.{T}
 use lib.IntN.{ℤ, pos, negsuc, natAbs}
 use lib.Signed.{leZ, nonNeg}
 use lib.ListN.{length, take, drop, length-drop}
-use lib.Seq.{take-all}
 use mir.Syntax.{w64}
 use mir.Val.{Fits, SFits, toZ, ofZ}
 use mir.Facts.{toZ-ofZ}
@@ -48,10 +47,6 @@ module _ (got : ℤ) (f : SFits w64 got) where
   pub says-failed : (interrupted : Bool) → leZ (pos 0) (toZ w64 (ofZ w64 got)) ≡ false → interrupted ≡ false → Failed ≡ saidBy got interrupted
   unfolding saidBy
   says-failed interrupted e q = rw (below-zero got (rw (toZ-ofZ f) at e) .1, q) refl
-
--- what is left of a list after a place
-pub rest-is : (xs : List ℕ) (done : ℕ) → take (length xs - done) (drop done xs) ≡ drop done xs
-rest-is xs done = take-all (length xs - done) (drop done xs) (omega (arith, length-drop done xs))
 
 module _ (place : Place) (done : ℕ) (d : done ≡ place .done) where
   pub none-left : {answer : Answer} (size : ℕ) → answer ≡ unasked → size ≤ done → place .done ≤ size → place .done + answer .lent ≡ size

@@ -4,16 +4,16 @@ use mathlib.Core.Path.{_≡_, refl, sym, ap}
 use mathlib.Core.Bool.{Bool, true, false, cond}
 use mathlib.Core.List.{List}
 use native.Mathlib.Omega.{arith}
-use lib.Dec.{T, ltb}
+use lib.Dec.{ltb}
 use lib.ListN.{length, getD, List·getD-eq-default}
 use lib.IntN.{ℤ, pos, negsuc, natAbs}
-use lib.Signed.{ltZ, nonNeg}
+use lib.Signed.{ltZ}
 use mir.Syntax.{w64}
-use mir.Val.{Fits, SFits, toZ, ofZ}
+use mir.Val.{SFits, toZ, ofZ}
 use mir.Facts.{toZ-ofZ}
 use borrow.Author.Tests.{le-ltb}
 use Rattle.loops.specs.Numbers.{toNat}
-use Rattle.loops.proofs.SignLaws.{below-zero, from-zero, cast}
+use Rattle.loops.proofs.SignLaws.{below-zero, from-zero}
 use Rattle.rows.specs.Cells.{cell}
 
 -- past the end a cell is 0
@@ -44,13 +44,6 @@ module _ (z : ℤ) (f : SFits w64 z) where
 
   pub nat-bound : ltZ (toZ w64 (ofZ w64 z)) (pos 0) ≡ false → natAbs (toZ w64 (ofZ w64 z)) < 9223372036854775808
   nat-bound e = rw (nat-over e refl) (nat-held z f)
-
-  -- what a cast of it asks
-  pub cast-sign : ltZ (toZ w64 (ofZ w64 z)) (pos 0) ≡ false → T (nonNeg (toZ w64 (ofZ w64 z)))
-  cast-sign e = cast z f e .0
-
-  pub cast-fits : ltZ (toZ w64 (ofZ w64 z)) (pos 0) ≡ false → Fits w64 (natAbs (toZ w64 (ofZ w64 z)))
-  cast-fits e = cast z f e .1
 
   pub nat-read : {v : ℤ} {r : ℕ} → r ≡ toNat (toZ w64 (ofZ w64 z)) → z ≡ v → r ≡ toNat v
   nat-read e q = rw (toZ-ofZ f, q) at e

@@ -97,9 +97,21 @@ module _ (q : ℕ → Bool) (m : ℕ) where
 
 -- ---- a row that was found
 
+pub found-none : {f : Found} {x : Option ℕ} → f ≡ Nothing → foundOf f ≡ x → x ≡ none
+found-none q e = sym e ∙ ap foundOf q
+
+pub found-some : {f : Found} {x : Option ℕ} {k : ℕ} → f ≡ At k → foundOf f ≡ x → x ≡ some k
+found-some q e = sym e ∙ ap foundOf q
+
 module _ (rows : List ℤ) (x id : ℕ) {k : ℕ} where
+  pub place-kind : placeOf rows x id ≡ some k → is rows k 0 x ≡ true
+  place-kind e = num-is rows k 0 x (placed rows x id k e .kind)
+
+  pub place-within : placeOf rows x id ≡ some k → k < rowCount rows
+  place-within e = placed rows x id k e .within
+
   pub place-low : placeOf rows x id ≡ some k → k ≤ rowCount rows
-  place-low e = let w = placed rows x id k e .within in omega (arith, w)
+  place-low e = omega (arith, place-within e)
 
   pub found-low : {f : Found} → foundOf f ≡ placeOf rows x id → f ≡ At k → k ≤ rowCount rows
-  found-low e q = place-low (sym e ∙ ap foundOf q)
+  found-low e q = place-low (found-some q e)

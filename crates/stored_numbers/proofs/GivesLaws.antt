@@ -13,9 +13,10 @@ use lib.ListN.{length, take, drop}
 use Rattle.loops.specs.Lists.{each}
 use Rattle.loops.proofs.ListLaws.{each-ext}
 use Rattle.text_fields.specs.Parts.{untilByte, parts}
+use Rattle.text_fields.proofs.PartLaws.{parts-only}
 use Rattle.text_line.specs.Line.{rowOf}
 use Rattle.stored_lines.specs.inner.Line.{letter, count, piece, body}
-use Rattle.stored_lines.proofs.LineLaws.{first-more, first-last}
+use Rattle.stored_lines.proofs.LineLaws.{first-more}
 use Rattle.stored_numbers.specs.inner.Numbers.{times, numbersIn, numbersOf, expectedOf}
 use Rattle.stored_numbers.specs.inner.Gives.{pieceAs, lineGives}
 
@@ -26,7 +27,7 @@ module _ {B : Type 0} {l m o : List B} {i j k : ℕ} {all : List B} (b : ℕ) (r
     map-more h = yet-less (g f ∷ []) _ (yet-as (ap (map g) (first-more b rest f e h)) y) w
 
     pub map-last : length rest ≤ length f → Wrote l i o k all
-    map-last h = yet-last (g f ∷ []) (yet-as (ap (map g) (first-last b rest f e h)) y) w
+    map-last h = yet-last (g f ∷ []) (yet-as (ap (map g) (parts-only b rest f e h)) y) w
 
   module _ (g : List ℕ → List B) (y : Yet l i all m j (each g (parts b rest))) (w : Wrote m j o k (g f)) where
     pub each-more : length f < length rest → Yet l i all o k (each g (parts b (take (length rest - (length f + 1)) (drop (length f + 1) rest))))
@@ -35,7 +36,7 @@ module _ {B : Type 0} {l m o : List B} {i j k : ℕ} {all : List B} (b : ℕ) (r
 
     pub each-last : length rest ≤ length f → Wrote l i o k all
     unfolding each
-    each-last h = yet-last (g f) (yet-as (ap (each g) (first-last b rest f e h) ∙ append-nil (g f)) y) w
+    each-last h = yet-last (g f) (yet-as (ap (each g) (parts-only b rest f e h) ∙ append-nil (g f)) y) w
 
 -- a piece as a row, or as plain numbers
 module _ {l m : List ℤ} {i j : ℕ} (row : Bool) (s : List ℕ) where

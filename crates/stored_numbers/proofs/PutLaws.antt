@@ -40,9 +40,6 @@ module _ {A : Type 0} where
   pub told-all : {l m : List A} {n : ℕ} {r : Gathered} (xs ys : List A) → Wrote l 0 m n xs → xs ≡ ys → r ≡ gathered n (length m) → r ≡ gathered (length ys) (length l)
   told-all xs ys v e t = told-of ys (wrote-as e v) t
 
-  pub all-put : {l m : List A} {n : ℕ} (xs ys : List A) → Wrote l 0 m n xs → xs ≡ ys → m ≡ sets l 0 ys
-  all-put xs ys v e = wrote-as e v .buffer
-
   -- all is yet to be written; something of it is written; nothing is left
   pub yet-all : (l : List A) (at : ℕ) (all : List A) → at ≤ length l → Yet l at all l at all
   yet-all l at all h = record { place = refl; buffer = refl; long = refl; within = h }

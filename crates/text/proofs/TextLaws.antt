@@ -21,10 +21,12 @@ use Rattle.text_line.specs.declared.Line.{Line}
 use Rattle.text_line.specs.declared.Line.the-variants.{Row, Wrong}
 use Rattle.refusals.specs.declared.Answer.{Answer}
 use Rattle.refusals.specs.declared.Answer.the-variants.{Accepted, Refused}
+use Rattle.refusals.proofs.AnswerLaws.{not-both}
 use Rattle.rows.proofs.Tables.{width-most}
 use Rattle.text_line.proofs.LineLaws.{no-row}
 use Rattle.loops.proofs.StoreLaws.{sets-append}
-use Rattle.text_fields.proofs.PartLaws.{up-within, parts-last, parts-more, parts-first, tail-is}
+use Rattle.loops.proofs.ListLaws.{rest-is}
+use Rattle.text_fields.proofs.PartLaws.{parts-only, parts-more, parts-first}
 
 -- ---- a row has ten numbers
 
@@ -68,9 +70,6 @@ some-bytes : (l : List ℕ) → 0 < length l → isEmpty l ≡ false
 some-bytes [] h = absurd (omega arith)
 some-bytes (x ∷ l) h = refl
 
-no-accept : {k p n : ℕ} → Refused k p ≡ Accepted n → ⊥
-no-accept e = let z : _≡_ {A = ℕ} 0 1 = cc in omega arith
-
 module _ (text : List ℕ) (lent : ℕ) (rows₀ rows : List ℤ) (rest : List ℕ) (place : ℕ) (w : LinesRead text lent rows₀ rows rest place) where
   -- nothing is left
   pub end-answer : length rest ≤ 0 → Accepted place ≡ answerFrom lent 0 (parts 10 text)
@@ -83,16 +82,13 @@ module _ (text : List ℕ) (lent : ℕ) (rows₀ rows : List ℤ) (rest : List �
 
   module _ (l : List ℕ) (e : l ≡ untilByte 10 rest) where
     -- no line feed
-    open-parts : length rest ≤ length l → parts 10 rest ≡ l ∷ []
-    open-parts k = rw e (parts-last 10 rest (omega (arith, up-within 10 rest, ap length e)))
-
     pub open-answer : 0 < length rest → length rest ≤ length l → Refused 9 place ≡ answerFrom lent 0 (parts 10 text)
     unfolding answerFrom
-    open-answer h k = rw (open-parts k, some-bytes l (omega arith)) at (w .answer)
+    open-answer h k = rw (parts-only 10 rest l e k, some-bytes l (omega arith)) at (w .answer)
 
     pub open-rows : length rest ≤ length l → rows ≡ sets rows₀ 0 (rowsRead lent 0 (parts 10 text))
     unfolding rowsRead
-    open-rows k = rw (open-parts k) at (w .stores)
+    open-rows k = rw (parts-only 10 rest l e k) at (w .stores)
 
     module _ (h : length l < length rest) where
       -- the line and those after it
@@ -125,7 +121,7 @@ module _ (text : List ℕ) (lent : ℕ) (rows₀ rows : List ℤ) (rest : List �
           lines-more q k =
               let r = rowOf l in
               let i : (place + 1) * 10 ≡ place * 10 + length r = omega (arith, row-long l (sym j ∙ q)) in
-              rw (tail-is (length l + 1) rest)
+              rw (rest-is (length l + 1) rest)
               (record {
                 answer = rw (add-one place, opened .2) (rw (opened .1, sym j ∙ q, lt-ltb place lent k) at (w .answer));
                 stores =
@@ -147,7 +143,7 @@ accepted-rows lent p (l ∷ []) n h e = go (isEmpty l) e
   where
     go : (t : Bool) → cond t (Accepted p) (Refused 9 p) ≡ Accepted n → (p * 10 + 0 ≡ n * 10) × (n ≤ lent) × (_≡_ {A = List ℤ} [] [])
     go true e = let q : p ≡ n = cc in (omega arith, omega arith, refl)
-    go false e = absurd (no-accept e)
+    go false e = absurd (not-both (sym e))
 accepted-rows lent p (l ∷ m ∷ ls) n h e = go (lineOf l) refl (ltb p lent) refl e (accepted-rows lent (suc p) (m ∷ ls) n)
   where
     go : (x : Line) → lineOf l ≡ x → (t : Bool) → ltb p lent ≡ t → afterLine x p (cond t (answerFrom lent (suc p) (m ∷ ls)) (Refused 10 p)) ≡ Accepted n
@@ -157,8 +153,8 @@ accepted-rows lent p (l ∷ m ∷ ls) n h e = go (lineOf l) refl (ltb p lent) re
     go Row q true t e k =
         let w = k (ltb-true p lent t) e in
         (simp length-append (omega (arith, row-long l q, w .0)), w .1, ap (λ (zs : List ℤ). rowOf l ++ zs) (w .2))
-    go Row q false t e k = absurd (no-accept e)
-    go (Wrong i) q t u e k = absurd (no-accept e)
+    go Row q false t e k = absurd (not-both (sym e))
+    go (Wrong i) q t u e k = absurd (not-both (sym e))
 
 accepted-stored : (rows : List ℤ) (ps : List (List ℕ)) (n : ℕ) → answerFrom (length rows / 10) 0 ps ≡ Accepted n
     → sets rows 0 (rowsRead (length rows / 10) 0 ps) ≡ rowsOf ps ++ drop (10 * n) rows

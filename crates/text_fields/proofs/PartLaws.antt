@@ -1,12 +1,12 @@
 -- Laws of a text's parts. Assumes nothing.
-use Prim.Native.Nat.{ℕ, suc, _+_, _-_, _≤_, _<_}
+use Prim.Native.Nat.{ℕ, suc, _+_, _≤_, _<_}
 use mathlib.Core.Bool.{Bool, true, false, cond}
 use mathlib.Core.List.{List, [], _∷_, _++_, append-nil, append-assoc}
 use mathlib.Core.Path.{_≡_, refl, ap}
 use native.Mathlib.Omega.{arith}
 use native.Mathlib.Numerals.{add-one}
 use lib.Dec.{eqb}
-use lib.ListN.{length, getD, drop, take, drop-of-length-le, length-drop}
+use lib.ListN.{length, getD, drop, take, drop-of-length-le}
 use lib.Seq.{drop-cons, take-suc, take-all}
 use borrow.Author.Tests.{eq-eqb, ne-eqb}
 use Rattle.text_fields.specs.Parts.{untilByte, parts, onFirst}
@@ -47,6 +47,9 @@ parts-last b (x ∷ xs) h = go (eqb x b) h (parts-last b xs)
     go true e k = absurd (omega arith)
     go false e k = rw (k (omega arith))
 
+pub parts-only : (b : ℕ) (xs f : List ℕ) → f ≡ untilByte b xs → length xs ≤ length f → parts b xs ≡ f ∷ []
+parts-only b xs f e h = rw e (parts-last b xs (omega (arith, up-within b xs, rw e at h)))
+
 -- else what follows its end has the others
 pub parts-more : (b : ℕ) (xs : List ℕ) → length (untilByte b xs) < length xs → parts b xs ≡ untilByte b xs ∷ parts b (drop (length (untilByte b xs) + 1) xs)
 unfolding untilByte parts
@@ -58,10 +61,6 @@ parts-more b (x ∷ xs) h = go (eqb x b) h (parts-more b xs)
         → cond t ([] ∷ parts b xs) (onFirst x (parts b xs)) ≡ cond t [] (x ∷ untilByte b xs) ∷ parts b (drop (length (cond t [] (x ∷ untilByte b xs)) + 1) (x ∷ xs))
     go true e k = refl
     go false e k = rw (k (omega arith), add-one (length (untilByte b xs)), add-one (suc (length (untilByte b xs))))
-
--- what follows a place, as a part that goes to the end
-pub tail-is : (k : ℕ) (xs : List ℕ) → take (length xs - k) (drop k xs) ≡ drop k xs
-tail-is k xs = take-all (length xs - k) (drop k xs) (simp length-drop (omega arith))
 
 -- the parts begin with the first
 pub parts-first : (b : ℕ) (xs : List ℕ) → (ps : List (List ℕ)) × (parts b xs ≡ untilByte b xs ∷ ps)

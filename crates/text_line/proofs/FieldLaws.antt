@@ -13,10 +13,11 @@ use lib.ListN.{length, drop, take, set, length-set, length-drop}
 use lib.Seq.{sets}
 use lib.IntN.{ℤ}
 use Rattle.loops.specs.Lists.{allOf}
+use Rattle.loops.proofs.ListLaws.{rest-is}
 use Rattle.text_fields.specs.Parts.{untilByte}
 use Rattle.text_fields.specs.Spelling.{numberOf}
 use Rattle.text_line.specs.Line.{isNumber, valueOf, spelled, fieldsOf, held}
-use Rattle.text_fields.proofs.PartLaws.{up-within, parts-last, parts-more, tail-is}
+use Rattle.text_fields.proofs.PartLaws.{up-within, parts-last, parts-more}
 
 -- where j fields of the line were read to the rows from base on, good says that they are spelled right, and rest is left of the line
 pub record FieldsRead (line : List ℕ) (rows₀ : List ℤ) (base : ℕ) (rows : List ℤ) (rest : List ℕ) (j : ℕ) (good : Bool) : Type 0 where
@@ -52,7 +53,7 @@ module _ (line : List ℕ) (rows₀ : List ℤ) (base : ℕ) (rows : List ℤ) (
   fields-more h =
       let p = first-of-more rest f e h in
       let q : base + (j + 1) ≡ suc (base + j) = omega arith in
-      rw (stored, said, tail-is (length f + 1) rest)
+      rw (stored, said, rest-is (length f + 1) rest)
       (record {
         spelling = and-assoc good (isNumber (numberOf f)) (spelled (fieldsOf (drop (length f + 1) rest))) ∙ (rw p at (r .spelling));
         stores = rw q (rw p at (r .stores));

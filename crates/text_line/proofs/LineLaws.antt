@@ -31,7 +31,8 @@ fields-bad true kind n e = absurd (false≢true e)
 fields-bad false kind n e = refl
 
 pub fields-empty : (good : Bool) (kind : List ℕ) (n : ℕ) → length kind ≡ 0 → Wrong 9 ≡ byFields good kind n
-fields-empty good [] n e = rw (and-false good)
+fields-empty true [] n e = refl
+fields-empty false [] n e = refl
 fields-empty good (x ∷ kind) n e = absurd (omega arith)
 
 fields-kind : (good : Bool) (kind : List ℕ) (n : ℕ) → not good ≡ false → (length kind ≡ 0 → ⊥) → byKind (toNat (valueOf kind)) n ≡ byFields good kind n
@@ -51,14 +52,17 @@ module _ (good : Bool) (kind : List ℕ) (n : ℕ) {k : ℕ} {v : ℤ} {m : Numb
   pub kind-high : 24 < k → Wrong 2 ≡ byFields good kind n
   kind-high l = sym (rw (le-ltb k 25 (omega arith), and-false (ltb 0 k))) ∙ by-kind
 
-  counted : 1 ≤ k → k ≤ 24 → cond (eqb n (suc (width k))) Row (Wrong 9) ≡ byFields good kind n
-  counted a b = sym (rw (lt-ltb 0 k (omega arith), lt-ltb k 25 (omega arith))) ∙ by-kind
+-- and so does w, whether the line has its columns; the rarest premise stands first, so that a search ends where it is not found
+module _ (good : Bool) (kind : List ℕ) (n : ℕ) {w : Bool} {k : ℕ} (u : w ≡ eqb n (suc (width k))) {v : ℤ} (e : k ≡ toNat (toZ w64 (ofZ w64 v)))
+    {m : Number} (q : v ≡ held m) (r : m ≡ numberOf kind) (f : SFits w64 v) (g : not good ≡ false) (h : length kind ≡ 0 → ⊥) (a : 1 ≤ k) (b : k ≤ 24) where
+  counted : cond w Row (Wrong 9) ≡ byFields good kind n
+  counted = rw u (sym (rw (lt-ltb 0 k (omega arith), lt-ltb k 25 (omega arith))) ∙ by-kind good kind n g h f e q r)
 
-  pub kind-row : 1 ≤ k → k ≤ 24 → {w : Bool} → w ≡ eqb n (suc (width k)) → w ≡ true → Row ≡ byFields good kind n
-  kind-row a b u t = rw (← u, t) at counted a b
+  pub kind-row : w ≡ true → Row ≡ byFields good kind n
+  kind-row t = rw t at counted
 
-  pub kind-count : 1 ≤ k → k ≤ 24 → {w : Bool} → w ≡ eqb n (suc (width k)) → w ≡ false → Wrong 9 ≡ byFields good kind n
-  kind-count a b u t = rw (← u, t) at counted a b
+  pub kind-count : w ≡ false → Wrong 9 ≡ byFields good kind n
+  kind-count t = rw t at counted
 
 -- a field by what was read of it: what it holds, and whether it is spelled right as those before it are
 pub value-held : {n : Number} {z : ℤ} → n ≡ Value z → SFits w64 z → toZ w64 (ofZ w64 z) ≡ held n

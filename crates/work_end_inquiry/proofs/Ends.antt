@@ -35,7 +35,7 @@ use Rattle.sheet.specs.declared.Found.{Found}
 use Rattle.sheet.specs.declared.Found.the-variants.{At, Nothing}
 use Rattle.sheet.specs.inner.Found.{foundOf}
 use Rattle.sheet.specs.inner.Index.{Kinds}
-use Rattle.sheet.proofs.Lookups.{placed}
+use Rattle.sheet.proofs.Lookups.{placed, found-some, found-none}
 use Rattle.owners.specs.inner.Owners.{Owned}
 use Rattle.validation.specs.inner.Answer.{Indexing}
 use Rattle.validation.proofs.Order.{tables-of}
@@ -186,16 +186,13 @@ module _ (rows : List ℤ) where
 
   module _ (id : ℕ) {f : Found} (e : foundOf f ≡ placeOf rows 11 id) where
     pub laid-absent : {w : List ℕ} → f ≡ Nothing → refusalOf rows ≡ none → length w ≡ 2400 → Laid w w 0 0 (windows (sheet rows) 15 id)
-    laid-absent {w} g ok l = laid-none w l (sym (windows-none rows (accepted rows ok) id (sym e ∙ ap foundOf g)))
+    laid-absent {w} g ok l = laid-none w l (sym (windows-none rows (accepted rows ok) id (found-none g e)))
 
     pub laid-found : {o r : ℕ} {w w′ : List ℕ} → f ≡ At o → Laid w w′ 0 r (windows (sheet rows) 15 (num rows o 1)) → Laid w w′ 0 r (windows (sheet rows) 15 id)
-    laid-found {o} {r} {w} {w′} g h = subst (λ x. Laid w w′ 0 r (windows (sheet rows) 15 x)) (placed rows 11 id o (sym e ∙ ap foundOf g) .id-is) h
-
-    pub found-below : (o : ℕ) → f ≡ At o → o ≤ rowCount rows
-    found-below o g = omega (arith, placed rows 11 id o (sym e ∙ ap foundOf g) .within)
+    laid-found {o} {r} {w} {w′} g h = subst (λ x. Laid w w′ 0 r (windows (sheet rows) 15 x)) (placed rows 11 id o (found-some g e) .id-is) h
 
     pub found-holder : (o : ℕ) → f ≡ At o → Holder rows o 15
-    found-holder o g = inr (refl, found-self rows 11 id o (sym e ∙ ap foundOf g))
+    found-holder o g = inr (refl, found-self rows 11 id o (found-some g e))
 
 -- ---- the answers
 

@@ -1,5 +1,7 @@
+use Rattle.sheet.proofs.Lookups.{place-low}
+use Rattle.model.proofs.Standing.{stands-owned}
 use borrow.Author.Needs.{needs}
-use Rattle.candidates.proofs.Uses.{takes, takes-blind, takes-test, is-requirement, usage-most, activity-within, usage-here, usage-none}
+use Rattle.candidates.proofs.Uses.{takes, takes-blind, takes-test, usage-most, usage-here, usage-none}
 use Prim.Native.Nat.{_-_}
 use mathlib.Core.Path.{_≡_}
 use mathlib.Core.Option.{none}
@@ -22,13 +24,13 @@ row-count-requires : tie.Need-row-count-requires Inv-loop μ-loop
 row-count-requires c κs = search needs
 
 first-owned-requires : tie.Need-first-owned-requires Inv-loop μ-loop
-first-owned-requires c κs = search (needs, activity-within)
+first-owned-requires c κs = search (needs, place-low)
 
 loop-holds : tie.Need-loop-holds Inv-loop μ-loop
 loop-holds c = (search needs, seek-first _ (c .first-owned .ensures) (takes-blind _ _ _))
 
 is-candidate-requires : tie.Need-is-candidate-requires Inv-loop μ-loop
-is-candidate-requires c κs = search (needs, is-requirement)
+is-candidate-requires c κs = search (needs, stands-owned)
 
 num-at-requires : tie.Need-num-at-requires Inv-loop μ-loop
 num-at-requires c κs = search needs

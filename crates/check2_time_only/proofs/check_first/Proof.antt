@@ -1,16 +1,16 @@
+use Rattle.sheet.proofs.Lookups.{place-kind, place-within, place-low}
 use borrow.Author.Needs.{needs}
 use Rattle.check2_time_only.proofs.Told.{first-told}
-use Rattle.check2_time_only.proofs.Spans.{is-activity, is-below, up-to, own-windows}
-use lib.ListN.{length-replicate}
+use Rattle.check2_time_only.proofs.Spans.{own-windows}
 use Rattle.window_rows.proofs.WindowRows.{all-fit}
 use Rattle.check2_time_only.proofs.check_first.Statement.{statement}
 use Rattle.check2_time_only.proofs.check_first.Tie as tie
 
 gather-windows-requires : tie.Need-gather-windows-requires
-gather-windows-requires c κs = search (needs, up-to, own-windows, all-fit, length-replicate)
+gather-windows-requires c κs = search (needs, place-low, own-windows, all-fit)
 
 is-short-requires : tie.Need-is-short-requires
-is-short-requires c κs = search (needs, is-activity)
+is-short-requires c κs = search (needs, place-kind)
 
 is-outside-requires : tie.Need-is-outside-requires
 is-outside-requires c κs = search needs
@@ -22,7 +22,7 @@ is-early-requires : tie.Need-is-early-requires
 is-early-requires c κs = search needs
 
 task-release-requires : tie.Need-task-release-requires
-task-release-requires c κs = search (needs, is-below, is-activity)
+task-release-requires c κs = search (needs, place-within, place-kind)
 
 is-early-requires-2 : tie.Need-is-early-requires-2
 is-early-requires-2 c κs = search needs

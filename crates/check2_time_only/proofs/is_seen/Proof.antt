@@ -1,5 +1,6 @@
+use Rattle.sheet.proofs.Lookups.{place-low}
 use borrow.Author.Needs.{needs}
-use Rattle.check2_time_only.proofs.Spans.{up-to, spanned, spanned-blind, spanned-test, seen-hit, seen-none}
+use Rattle.check2_time_only.proofs.Spans.{spanned, spanned-blind, spanned-test, seen-hit, seen-none}
 use Prim.Native.Nat.{_-_}
 use mathlib.Core.Path.{_≡_}
 use mathlib.Core.Bool.{false}
@@ -21,7 +22,7 @@ num-at-requires : tie.Need-num-at-requires Inv-loop μ-loop
 num-at-requires c κs = search needs
 
 first-owned-requires : tie.Need-first-owned-requires Inv-loop μ-loop
-first-owned-requires c κs = (search needs, search (needs, up-to))
+first-owned-requires c κs = (search needs, search (needs, place-low))
 
 loop-holds : tie.Need-loop-holds Inv-loop μ-loop
 loop-holds c = (search needs, any-first _ (c .first-owned .ensures) (spanned-blind _ _))

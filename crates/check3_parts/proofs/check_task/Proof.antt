@@ -1,5 +1,5 @@
+use Rattle.model.proofs.Standing.{stands-owned}
 use Rattle.check3_parts.proofs.Whole.{activities-turn}
-use Rattle.check3_parts.proofs.Works.{kind-here}
 use borrow.Author.Needs.{needs}
 use Prim.Native.Nat.{_-_}
 use mathlib.Core.Path.{_≡_}
@@ -31,7 +31,7 @@ loop-holds : tie.Need-loop-holds Inv-loop μ-loop
 loop-holds c = (search needs, emit-first _ _ (c .first-owned .ensures) (silent-only _ _))
 
 check-activity-requires : tie.Need-check-activity-requires Inv-loop μ-loop
-check-activity-requires c κs = search (needs, kind-here)
+check-activity-requires c κs = search (needs, stands-owned)
 
 next-owned-requires : tie.Need-next-owned-requires Inv-loop μ-loop
 next-owned-requires c κs = search needs

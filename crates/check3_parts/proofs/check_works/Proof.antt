@@ -1,3 +1,4 @@
+use Rattle.model.proofs.Standing.{owned-here}
 use borrow.Author.Needs.{needs}
 use Prim.Native.Nat.{_-_}
 use mathlib.Core.Path.{_≡_}
@@ -8,7 +9,7 @@ use Rattle.owners.specs.inner.Owners.{ownedBy}
 use Rattle.findings.specs.inner.Sink.{sink, emit}
 use Rattle.findings.proofs.SinkLaws.{kept}
 use Rattle.findings.proofs.Reports.{emit-first, emit-next}
-use Rattle.check3_parts.proofs.Works.{worksAt, works-silent, owned-here, works-end}
+use Rattle.check3_parts.proofs.Works.{worksAt, works-silent, works-end}
 use Rattle.check3_parts.proofs.check_works.Statement.{statement}
 use Rattle.check3_parts.proofs.check_works.Tie as tie
 

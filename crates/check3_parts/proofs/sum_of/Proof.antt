@@ -1,4 +1,4 @@
-use Rattle.check3_parts.proofs.Works.{owned-here}
+use Rattle.model.proofs.Standing.{owned-here}
 use borrow.Author.Needs.{needs}
 use Prim.Native.Nat.{_*_, _-_, _≤_}
 use native.Mathlib.Omega.{arith}

@@ -1,9 +1,9 @@
+use Rattle.model.proofs.Standing.{stands-owned}
 use Rattle.loops.specs.inner.Chain.{Stands}
 use Rattle.rows.specs.Cells.{rowCount}
 use Rattle.owners.specs.inner.Owners.{ownedBy}
 use Prim.Native.Nat.{_-_}
 use Rattle.findings.specs.inner.Sink.{sink}
-use Rattle.check4_pieces.proofs.Along.{kind-here}
 use Rattle.check4_claims.proofs.Claiming.{Claiming, claiming-start, claiming-turn, claiming-left, claiming-wrote, claiming-kept}
 use borrow.Author.Needs.{needs}
 use Rattle.check4_claims.proofs.fill.Statement.{statement}
@@ -25,7 +25,7 @@ loop-holds : tie.Need-loop-holds Inv-loop μ-loop
 loop-holds c = search (needs, claiming-start)
 
 claim-at-requires : tie.Need-claim-at-requires Inv-loop μ-loop
-claim-at-requires c κs = search (needs, kind-here)
+claim-at-requires c κs = search (needs, stands-owned)
 
 next-owned-requires : tie.Need-next-owned-requires Inv-loop μ-loop
 next-owned-requires c κs = search needs

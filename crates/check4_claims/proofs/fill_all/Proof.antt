@@ -1,8 +1,8 @@
+use Rattle.model.proofs.Standing.{stands-owned}
 use Rattle.loops.specs.inner.Chain.{Stands}
 use Rattle.rows.specs.Cells.{rowCount}
 use Rattle.owners.specs.inner.Owners.{ownedBy}
 use Prim.Native.Nat.{_-_}
-use Rattle.check4_pieces.proofs.Along.{kind-here}
 use Rattle.findings.specs.inner.Sink.{sink}
 use Rattle.findings.proofs.SinkLaws.{kept}
 use Rattle.check4_claims.proofs.Claiming.{Filling, filling-start, filling-turn, filling-end}
@@ -29,7 +29,7 @@ loop-holds : tie.Need-loop-holds Inv-loop μ-loop
 loop-holds c = search (needs, filling-start)
 
 fill-requires : tie.Need-fill-requires Inv-loop μ-loop
-fill-requires c κs = search (needs, kind-here)
+fill-requires c κs = search (needs, stands-owned)
 
 next-owned-requires : tie.Need-next-owned-requires Inv-loop μ-loop
 next-owned-requires c κs = search needs

@@ -1,4 +1,4 @@
-use Rattle.loops.proofs.SignLaws.{cast}
+use Rattle.loops.proofs.SignLaws.{cast-sign, cast-fits}
 use borrow.Author.Needs.{needs}
 use Rattle.check5_capacity.proofs.Told.{below-zero, from-zero}
 use Rattle.check5_capacity.proofs.exceeds.Statement.{statement}
@@ -8,7 +8,7 @@ returns : tie.Need-returns
 returns c = search (needs, below-zero)
 
 cast-result : tie.Need-cast-result
-cast-result c = cast _ (c .before .fits .cap) (c .if1 .left)
+cast-result c = (search (needs, cast-sign), search (needs, cast-fits))
 
 returns-2 : tie.Need-returns-2
 returns-2 c = search (needs, from-zero)

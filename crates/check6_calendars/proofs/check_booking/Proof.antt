@@ -1,4 +1,4 @@
-use Rattle.check6_calendars.proofs.Plain.{place-told}
+use Rattle.sheet.proofs.Lookups.{found-some}
 use Rattle.owners.proofs.Links.{books}
 use Rattle.check6_calendars.proofs.Booking.{absent-told, external-told, resumable-known, plain-known}
 use Rattle.check6_calendars.proofs.Resumable.{lacks-resumable}
@@ -28,7 +28,7 @@ enum-told-2 : tie.Need-enum-told-2
 enum-told-2 c = search needs
 
 check-resource-requires : tie.Need-check-resource-requires
-check-resource-requires c κs = search (needs, place-told)
+check-resource-requires c κs = search (needs, found-some)
 
 same-length : tie.Need-same-length
 same-length c = search needs
@@ -49,7 +49,7 @@ returns-3 : tie.Need-returns-3
 returns-3 c = search (needs, resumable-known)
 
 check-plain-requires : tie.Need-check-plain-requires
-check-plain-requires c κs = search (needs, place-told)
+check-plain-requires c κs = search (needs, found-some)
 
 same-length-3 : tie.Need-same-length-3
 same-length-3 c = search needs

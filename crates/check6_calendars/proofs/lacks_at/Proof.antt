@@ -1,5 +1,5 @@
+use Rattle.sheet.proofs.Lookups.{found-some}
 use Rattle.loops.proofs.BranchLaws.{untold-yes}
-use Rattle.check6_calendars.proofs.Plain.{place-told}
 use Rattle.owners.proofs.Links.{books}
 use Rattle.check6_calendars.proofs.Resumable.{lacks-none, lacks-absent, lacks-external, lacks-plain, lacks-found}
 use borrow.Author.Needs.{needs}
@@ -40,7 +40,7 @@ is-at-requires-2 : tie.Need-is-at-requires-2
 is-at-requires-2 c κs = search needs
 
 lacks-time-requires : tie.Need-lacks-time-requires
-lacks-time-requires c κs = (search needs, search needs, search needs, search (needs, untold-yes), search place-told)
+lacks-time-requires c κs = (search needs, search needs, search needs, search (needs, untold-yes), search found-some)
 
 returns-4 : tie.Need-returns-4
 returns-4 c = search (needs, lacks-found, untold-yes)

@@ -16,7 +16,7 @@ add-calendar-requires : tie.Need-add-calendar-requires
 add-calendar-requires c κs = search (needs, last-windows, last-calendars, place-low, activity-holder)
 
 returns : tie.Need-returns
-returns c = search (needs, whole, last-calendars)
+returns c = search (whole, last-calendars)
 
 pub lay-calendars-spec : {M : Type 1} → statement M
 lay-calendars-spec =

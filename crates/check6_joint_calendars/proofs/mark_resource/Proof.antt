@@ -23,7 +23,7 @@ element-write-marks : tie.Need-element-write-marks
 element-write-marks c = search (needs, mark-low)
 
 returns-2 : tie.Need-returns-2
-returns-2 c = search (needs, mark-more)
+returns-2 c = search mark-more
 
 returns-3 : tie.Need-returns-3
 returns-3 c = search (needs, mark-past)

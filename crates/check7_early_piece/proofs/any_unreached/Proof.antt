@@ -1,3 +1,4 @@
+use Rattle.model.proofs.Standing.{owned-here}
 use borrow.Author.Needs.{needs}
 use mathlib.Core.Path.{_≡_}
 use mathlib.Core.Bool.{false, _&&_}
@@ -9,7 +10,7 @@ use Rattle.loops.proofs.Walks.{any-first, any-next, any-end}
 use Rattle.rows.specs.Cells.{rowCount, num}
 use Rattle.owners.specs.inner.Owners.{ownedBy}
 use Rattle.check7_early_piece.specs.inner.Reached.{unreachedAt}
-use Rattle.check7_early_piece.proofs.Judged.{judged-blind, judged-here, judged-not, stands-owned}
+use Rattle.check7_early_piece.proofs.Judged.{judged-blind, judged-here, judged-not}
 use Rattle.check7_early_piece.proofs.any_unreached.Statement.{statement}
 use Rattle.check7_early_piece.proofs.any_unreached.Tie as tie
 
@@ -29,7 +30,7 @@ loop-holds : tie.Need-loop-holds Inv-loop μ-loop
 loop-holds c = (search needs, any-first _ (c .first-owned .ensures) (judged-blind _ _ _ _))
 
 unreached-at-requires : tie.Need-unreached-at-requires Inv-loop μ-loop
-unreached-at-requires c κs = search (needs, stands-owned)
+unreached-at-requires c κs = search (needs, owned-here)
 
 returns : tie.Need-returns Inv-loop μ-loop
 returns c = search (needs, any-hit, judged-here)

@@ -1,4 +1,3 @@
-use Rattle.pieces.proofs.Chains.{stands-kind}
 use borrow.Author.Needs.{needs}
 use Prim.Native.Nat.{_-_}
 use mathlib.Core.Path.{_≡_}
@@ -13,6 +12,7 @@ use Rattle.check7_end_to_start.proofs.Told.{activityTold, activity-sile
 use Rattle.check7_end_to_start.proofs.check_all_predecessors.Statement.{statement}
 use Rattle.check7_end_to_start.proofs.check_all_predecessors.Tie as tie
 use Rattle.model.proofs.Accepting.{task-at}
+use Rattle.model.proofs.Standing.{stands-owned}
 
 abbrev Inv-loop : tie.InvT-loop
 Inv-loop rows kinds owned t out₀ n count m₀ i₀ out m i = Stands (ownedBy rows t 2) (rowCount rows) i × (sink out m ≡ emit (sink out₀ n) (collect (activityTold rows (num rows t 1)) i))
@@ -30,7 +30,7 @@ loop-holds : tie.Need-loop-holds Inv-loop μ-loop
 loop-holds c = (search needs, search (needs, emit-first, activity-silent, task-at))
 
 check-predecessors-requires : tie.Need-check-predecessors-requires Inv-loop μ-loop
-check-predecessors-requires c κs = search (needs, stands-kind)
+check-predecessors-requires c κs = search (needs, stands-owned)
 
 next-owned-requires : tie.Need-next-owned-requires Inv-loop μ-loop
 next-owned-requires c κs = search needs

@@ -1,3 +1,4 @@
+use Rattle.model.proofs.Standing.{stands-owned}
 use borrow.Author.Needs.{needs}
 use Prim.Native.Nat.{_-_, _≤_}
 use mathlib.Core.Path.{_≡_}
@@ -7,7 +8,6 @@ use Rattle.loops.specs.inner.Chain.{Stands, onlyAt}
 use Rattle.loops.proofs.Walks.{fold-first, fold-end, quiet-only, only-next}
 use Rattle.rows.specs.Cells.{rowCount}
 use Rattle.owners.specs.inner.Owners.{ownedBy}
-use Rattle.pieces.proofs.Bookings.{stands-booked}
 use Rattle.check7_transport.proofs.Longest.{fromStep, from-turn, from-is}
 use Rattle.check7_transport.proofs.moved_to.Statement.{statement}
 use Rattle.check7_transport.proofs.moved_to.Tie as tie
@@ -28,7 +28,7 @@ loop-holds : tie.Need-loop-holds Inv-loop μ-loop
 loop-holds c = (search needs, fold-first _ _ (c .first-owned .ensures) (quiet-only _ _), omega arith)
 
 transport-to-requires : tie.Need-transport-to-requires Inv-loop μ-loop
-transport-to-requires c κs = search (needs, stands-booked)
+transport-to-requires c κs = search (needs, stands-owned)
 
 longer-requires : tie.Need-longer-requires Inv-loop μ-loop
 longer-requires c κs = search needs

@@ -1,5 +1,6 @@
+use Rattle.pieces.proofs.Chains.{moves-blind}
 use Rattle.sheet.proofs.Lookups.{found-low}
-use Rattle.check7_transport.proofs.Moves.{moves-blind, move-is, no-move, move-most, unmoved}
+use Rattle.check7_transport.proofs.Moves.{move-is, no-move, move-most, unmoved}
 use borrow.Author.Needs.{needs}
 use Rattle.check7_transport.proofs.transport_to.Statement.{statement}
 use Rattle.check7_transport.proofs.transport_to.Tie as tie

@@ -1,6 +1,6 @@
+use Rattle.sheet.proofs.Lookups.{place-within}
 use Rattle.model.proofs.OwnedLaws.{booking-owner}
 use Rattle.derived_times.proofs.Derivation.{duration-found}
-use Rattle.derived_times.proofs.Parts.{activity-within}
 use borrow.Author.Needs.{needs}
 use Rattle.derived_times.proofs.duration_on.Statement.{statement}
 use Rattle.derived_times.proofs.duration_on.Tie as tie
@@ -9,7 +9,7 @@ piece-at-requires : tie.Need-piece-at-requires
 piece-at-requires c κs = search needs
 
 timed-of-requires : tie.Need-timed-of-requires
-timed-of-requires c κs = search (needs, activity-within, booking-owner)
+timed-of-requires c κs = search (needs, place-within, booking-owner)
 
 num-at-requires : tie.Need-num-at-requires
 num-at-requires c κs = search needs

@@ -1,4 +1,5 @@
-use Rattle.derived_times.proofs.Parts.{activity-below, whole-found, unsplit-found, piece-found, work-amount, whole-amount}
+use Rattle.sheet.proofs.Lookups.{place-low}
+use Rattle.derived_times.proofs.Parts.{whole-found, unsplit-found, piece-found, work-amount, whole-amount}
 use borrow.Author.Needs.{needs}
 use Rattle.derived_times.proofs.piece_at.Statement.{statement}
 use Rattle.derived_times.proofs.piece_at.Tie as tie
@@ -13,7 +14,7 @@ returns : tie.Need-returns
 returns c = (search (needs, whole-found), tt)
 
 find-owned-requires : tie.Need-find-owned-requires
-find-owned-requires c κs = search (needs, activity-below)
+find-owned-requires c κs = search (needs, place-low)
 
 enum-known-i : tie.Need-enum-known-i
 enum-known-i c = search needs

@@ -1,6 +1,6 @@
+use Rattle.sheet.proofs.Lookups.{found-none, found-some}
 use Rattle.loops.proofs.BranchLaws.{told}
 use Rattle.owners.proofs.Links.{books}
-use Rattle.derived_times.proofs.Parts.{found-none, found-some}
 use Rattle.derived_times.proofs.Refusing.{rest-most, rest-known, rest-unknown, rest-none}
 use borrow.Author.Needs.{needs}
 use Rattle.derived_times.proofs.rest_at.Statement.{statement}

@@ -1,7 +1,8 @@
+use Rattle.sheet.proofs.Lookups.{found-none, found-low}
 use Rattle.loops.proofs.BranchLaws.{told}
 use borrow.Author.Tests.{not-true, not-false}
 use Rattle.owners.proofs.Links.{books}
-use Rattle.derived_times.proofs.Parts.{found-none, found-below, found-blind, kind-9, kind-10, row-none, row-unknown, row-earlier}
+use Rattle.derived_times.proofs.Parts.{found-blind, kind-9, kind-10, row-none, row-unknown, row-earlier}
 use borrow.Author.Needs.{needs}
 use Rattle.derived_times.proofs.timing_row.Statement.{statement}
 use Rattle.derived_times.proofs.timing_row.Tie as tie
@@ -31,10 +32,10 @@ num-at-requires-2 : tie.Need-num-at-requires-2
 num-at-requires-2 c κs = search needs
 
 find-naming-requires : tie.Need-find-naming-requires
-find-naming-requires c κs = search (needs, found-below, found-blind, kind-9)
+find-naming-requires c κs = search (needs, found-low, found-blind, kind-9)
 
 find-naming-requires-2 : tie.Need-find-naming-requires-2
-find-naming-requires-2 c κs = search (needs, found-below, found-blind, kind-10)
+find-naming-requires-2 c κs = search (needs, found-low, found-blind, kind-10)
 
 earlier-requires : tie.Need-earlier-requires
 earlier-requires c κs = search needs

@@ -1,6 +1,4 @@
-use borrow.Author.Needs.{needs}
 use Rattle.load.proofs.Caps.{base-none, base-some}
-use mir.Facts.{toZ-ofZ}
 use borrow.Author.Needs.{needs, sfits-of}
 use Rattle.load.proofs.base_of.Statement.{statement}
 use Rattle.load.proofs.base_of.Tie as tie
@@ -24,7 +22,7 @@ greater-of-requires : tie.Need-greater-of-requires
 greater-of-requires c κs = search needs
 
 returns-2 : tie.Need-returns-2
-returns-2 c = search (needs, toZ-ofZ, sfits-of, base-some)
+returns-2 c = search (base-some, sfits-of)
 
 pub base-of-spec : {M : Type 1} → statement M
 base-of-spec =

@@ -43,11 +43,11 @@ element-copy-out-result c = search needs
 
 returns-2 : tie.Need-returns-2
 unfolding taken
-returns-2 c = search (needs, le-ltb, lt-ltb)
+returns-2 c = search (le-ltb, lt-ltb)
 
 returns-3 : tie.Need-returns-3
 unfolding taken
-returns-3 c = search (needs, le-ltb)
+returns-3 c = search le-ltb
 
 pub held-at-spec : {M : Type 1} → statement M
 held-at-spec =

@@ -1,4 +1,4 @@
-use Rattle.rows.proofs.Signs.{cast-sign, cast-fits}
+use Rattle.loops.proofs.SignLaws.{cast-sign, cast-fits}
 use borrow.Author.Needs.{needs}
 use Rattle.pieces.proofs.Indices.{low, sum-fits, sum-sign, sum-held, sum-key, up-fits, up-key}
 use Rattle.pieces.proofs.index_key.Statement.{statement}

@@ -1,4 +1,5 @@
-use Rattle.pieces.proofs.Chains.{companions-blind, no-companions, found-within, none-named, any-named}
+use Rattle.sheet.proofs.Lookups.{found-low}
+use Rattle.pieces.proofs.Chains.{companions-blind, no-companions, none-named, any-named}
 use borrow.Author.Needs.{needs}
 use Rattle.pieces.proofs.is_companion.Statement.{statement}
 use Rattle.pieces.proofs.is_companion.Tie as tie
@@ -19,7 +20,7 @@ num-at-requires : tie.Need-num-at-requires
 num-at-requires c κs = search needs
 
 find-naming-requires : tie.Need-find-naming-requires
-find-naming-requires c κs = search (needs, found-within, companions-blind)
+find-naming-requires c κs = search (needs, found-low, companions-blind)
 
 enum-told-2 : tie.Need-enum-told-2
 enum-told-2 c = search needs

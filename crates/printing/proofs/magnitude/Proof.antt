@@ -1,4 +1,5 @@
-use Rattle.printing.proofs.SignLaws.{up-fits, back-fits, back-more, back-magnitude, cast-sign, cast-size, back-sign, back-size}
+use Rattle.loops.proofs.SignLaws.{cast-sign, cast-fits}
+use Rattle.printing.proofs.SignLaws.{up-fits, back-fits, back-more, back-magnitude, back-sign, back-size}
 use borrow.Author.Needs.{needs}
 use Rattle.printing.proofs.magnitude.Statement.{statement}
 use Rattle.printing.proofs.magnitude.Tie as tie
@@ -13,13 +14,13 @@ cast-result : tie.Need-cast-result
 cast-result c = (search back-sign, search back-size)
 
 add-result-2 : tie.Need-add-result-2
-add-result-2 c = search (needs, back-more)
+add-result-2 c = search (back-more, tt)
 
 returns : tie.Need-returns
-returns c = search (needs, back-magnitude)
+returns c = search back-magnitude
 
 cast-result-2 : tie.Need-cast-result-2
-cast-result-2 c = (search cast-sign, search cast-size)
+cast-result-2 c = (search cast-sign, search cast-fits)
 
 returns-2 : tie.Need-returns-2
 returns-2 c = search needs

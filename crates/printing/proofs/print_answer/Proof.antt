@@ -1,4 +1,5 @@
-use Rattle.printing.proofs.PutLaws.{printed-end, printed-there, as-accepted, as-refused}
+use Rattle.loops.proofs.StoreLaws.{wrote-there}
+use Rattle.printing.proofs.PutLaws.{printed-end, as-accepted, as-refused}
 use borrow.Author.Needs.{needs}
 use Rattle.printing.proofs.print_answer.Statement.{statement}
 use Rattle.printing.proofs.print_answer.Tie as tie
@@ -19,13 +20,13 @@ same-length : tie.Need-same-length
 same-length c = search needs
 
 returns : tie.Need-returns
-returns c = (search (needs, printed-end, as-accepted), search (needs, printed-there, as-accepted))
+returns c = (search (needs, printed-end, as-accepted), search (needs, wrote-there, as-accepted))
 
 same-length-2 : tie.Need-same-length-2
 same-length-2 c = search needs
 
 returns-2 : tie.Need-returns-2
-returns-2 c = (search (needs, printed-end, as-refused), search (needs, printed-there, as-refused))
+returns-2 c = (search (needs, printed-end, as-refused), search (needs, wrote-there, as-refused))
 
 pub print-answer-spec : {M : Type 1} → statement M
 print-answer-spec =

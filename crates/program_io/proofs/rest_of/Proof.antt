@@ -1,5 +1,5 @@
+use Rattle.loops.proofs.ListLaws.{rest-is}
 use borrow.Author.Needs.{needs}
-use Rattle.program_io.proofs.Answers.{rest-is}
 use Rattle.program_io.proofs.rest_of.Statement.{statement}
 use Rattle.program_io.proofs.rest_of.Tie as tie
 

@@ -1,4 +1,4 @@
-use Rattle.derived_times.proofs.Parts.{found-some}
+use Rattle.sheet.proofs.Lookups.{found-some}
 use Rattle.loops.proofs.BranchLaws.{told}
 use Rattle.owners.proofs.Links.{books}
 use borrow.Author.Needs.{needs}

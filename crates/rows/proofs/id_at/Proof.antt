@@ -1,4 +1,5 @@
-use Rattle.rows.proofs.Signs.{cast-sign, cast-fits, nat-under, nat-over, nat-bound}
+use Rattle.loops.proofs.SignLaws.{cast-sign, cast-fits}
+use Rattle.rows.proofs.Signs.{nat-under, nat-over, nat-bound}
 use native.Mathlib.Omega.{arith}
 use borrow.Author.Needs.{needs}
 use Rattle.rows.proofs.id_at.Statement.{statement}

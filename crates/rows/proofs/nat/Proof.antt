@@ -1,5 +1,6 @@
+use Rattle.loops.proofs.SignLaws.{cast-sign, cast-fits}
 use borrow.Author.Needs.{needs}
-use Rattle.rows.proofs.Signs.{cast-sign, cast-fits, nat-under, nat-over}
+use Rattle.rows.proofs.Signs.{nat-under, nat-over}
 use Rattle.rows.proofs.nat.Statement.{statement}
 use Rattle.rows.proofs.nat.Tie as tie
 

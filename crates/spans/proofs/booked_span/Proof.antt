@@ -43,7 +43,7 @@ loop-less : tie.Need-loop-less Inv-loop μ-loop
 loop-less c = search needs
 
 loop-again : tie.Need-loop-again Inv-loop μ-loop
-loop-again c = search (needs, fold-next, widen-quiet, widen-here, spanMeant)
+loop-again c = search (needs, fold-next, widen-quiet, widen-here)
 
 returns : tie.Need-returns Inv-loop μ-loop
 returns c = search (needs, fold-end)

@@ -1,4 +1,4 @@
-use Rattle.rows.proofs.Signs.{cast-sign, cast-fits}
+use Rattle.loops.proofs.SignLaws.{cast-sign, cast-fits}
 use borrow.Author.Needs.{needs}
 use borrow.Author.Needs.{needs}
 use Rattle.spans.proofs.Instants.{read-none, read-some}

@@ -1,4 +1,5 @@
-use Rattle.stored_numbers.proofs.PutLaws.{told-all, all-put}
+use Rattle.loops.proofs.StoreLaws.{wrote-there}
+use Rattle.stored_numbers.proofs.PutLaws.{told-all}
 use borrow.Author.Needs.{needs}
 use Rattle.stored_bytes.proofs.gather_bytes.Statement.{statement}
 use Rattle.stored_bytes.proofs.gather_bytes.Tie as tie
@@ -13,7 +14,7 @@ same-length : tie.Need-same-length
 same-length c = search needs
 
 returns : tie.Need-returns
-returns c = (search (needs, told-all), search (needs, all-put))
+returns c = (search (needs, told-all), search (needs, wrote-there))
 
 pub gather-bytes-spec : {M : Type 1} → statement M
 gather-bytes-spec = tie.close (tie.spec put-texts-requires told-requires same-length returns)

@@ -1,5 +1,5 @@
+use Rattle.loops.proofs.ListLaws.{rest-is}
 use Rattle.stored_lines.proofs.FormLaws.{none-after}
-use Rattle.text_fields.proofs.PartLaws.{tail-is}
 use borrow.Author.Needs.{needs}
 use Rattle.stored_lines.proofs.after.Statement.{statement}
 use Rattle.stored_lines.proofs.after.Tie as tie
@@ -17,7 +17,7 @@ part-result-end : tie.Need-part-result-end
 part-result-end c = search needs
 
 returns : tie.Need-returns
-returns c = search (needs, tail-is)
+returns c = search (needs, rest-is)
 
 slice-aggregate-result : tie.Need-slice-aggregate-result
 slice-aggregate-result c = search needs

@@ -1,5 +1,6 @@
+use Rattle.loops.proofs.StoreLaws.{wrote-there}
 use Rattle.stored_numbers.proofs.GivesLaws.{body-numbers}
-use Rattle.stored_numbers.proofs.PutLaws.{told-all, all-put}
+use Rattle.stored_numbers.proofs.PutLaws.{told-all}
 use borrow.Author.Needs.{needs}
 use Rattle.stored_numbers.proofs.judging_numbers.Statement.{statement}
 use Rattle.stored_numbers.proofs.judging_numbers.Tie as tie
@@ -17,7 +18,7 @@ same-length : tie.Need-same-length
 same-length c = search needs
 
 returns : tie.Need-returns
-returns c = (search (needs, told-all, body-numbers), search (needs, all-put, body-numbers))
+returns c = (search (needs, told-all, body-numbers), search (needs, wrote-there, body-numbers))
 
 pub judging-numbers-spec : {M : Type 1} → statement M
 judging-numbers-spec =

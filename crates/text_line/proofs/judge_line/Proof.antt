@@ -28,10 +28,10 @@ has-width-requires : tie.Need-has-width-requires
 has-width-requires c κs = search needs
 
 returns-5 : tie.Need-returns-5
-returns-5 c = search (needs, kind-row)
+returns-5 c = search kind-row
 
 returns-6 : tie.Need-returns-6
-returns-6 c = search (needs, kind-count)
+returns-6 c = search kind-count
 
 pub judge-line-spec : {M : Type 1} → statement M
 judge-line-spec =

@@ -1,5 +1,6 @@
+use Rattle.sheet.proofs.Lookups.{found-low}
 use Rattle.window_rows.proofs.WindowRows.{all-fit}
-use Rattle.work_end_inquiry.proofs.Ends.{laid-absent, laid-found, found-below, found-holder}
+use Rattle.work_end_inquiry.proofs.Ends.{laid-absent, laid-found, found-holder}
 use borrow.Author.Needs.{needs}
 use Rattle.work_end_inquiry.proofs.resource_windows.Statement.{statement}
 use Rattle.work_end_inquiry.proofs.resource_windows.Tie as tie
@@ -17,7 +18,7 @@ returns : tie.Need-returns
 returns c = search (needs, laid-absent)
 
 gather-windows-requires : tie.Need-gather-windows-requires
-gather-windows-requires c κs = search (needs, found-below, found-holder, all-fit)
+gather-windows-requires c κs = search (needs, found-low, found-holder, all-fit)
 
 returns-2 : tie.Need-returns-2
 returns-2 c = search (needs, laid-found)
