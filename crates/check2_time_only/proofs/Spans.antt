@@ -4,7 +4,7 @@ use mathlib.Core.Path.{_≡_, refl, ap, ap₂, sym, _∙_}
 use mathlib.Core.Bool.{Bool, true, false, cond, not, _&&_, _||_, or-false}
 use mathlib.Core.List.{List}
 use mathlib.Core.Logic.{inl}
-use mathlib.Core.Option.{Option, none, some}
+use mathlib.Core.Option.{none, some}
 use native.Mathlib.Omega.{arith}
 use native.Mathlib.Decide.{ℕ-discrete}
 use borrow.Author.Tests.{eq-eqb, ne-eqb}
@@ -18,6 +18,7 @@ use Rattle.loops.proofs.RangeLaws.{collect-ext}
 use Rattle.loops.proofs.SearchLaws.{any-hit}
 use Rattle.loops.proofs.PlaceLaws.{any-same, any-less}
 use Rattle.loops.proofs.NumberLaws.{eqb-swap}
+use Rattle.loops.proofs.OrderedLaws.{none-some}
 use Rattle.rows.specs.Cells.{rowCount, num, is}
 use Rattle.sheet.specs.declared.Found.{Found}
 use Rattle.sheet.specs.declared.Found.the-variants.{At, Nothing}
@@ -55,14 +56,11 @@ module _ (rows : List ℤ) (a : ℕ) (q : placeOf rows 2 (num rows a 1) ≡ some
 -- ---- the activity of a span
 
 module _ (rows : List ℤ) (k : ℕ) (h : is rows k 0 24 ≡ true) where
-  no-row : (a : ℕ) → _≡_ {A = Option ℕ} none (some a) → ⊥
-  no-row a e = let z : _≡_ {A = ℕ} 0 1 = cc in omega arith
-
   pub unknown : {g : Found} → g ≡ Nothing → foundOf g ≡ placeOf rows 2 (num rows k 1) → Known rows k Nothing
   unknown z q = record {
     means = unfold known in rw (find-activity rows (num rows k 1), sym q ∙ ap foundOf z);
-    place = λ j w. absurd (no-row j w);
-    free = λ j w. absurd (no-row j w);
+    place = λ j w. absurd (none-some w);
+    free = λ j w. absurd (none-some w);
   }
 
   pub linked-self : {a : ℕ} {g : Found} → g ≡ At a → foundOf g ≡ placeOf rows 2 (num rows k 1) → placeOf rows 2 (num rows a 1) ≡ some a
@@ -94,8 +92,8 @@ module _ (rows : List ℤ) (k : ℕ) (h : is rows k 0 24 ≡ true) where
       let w : (isEmpty (requirements (sheet rows) (num rows a 1)) && eqb (num rows a 2) (num rows k 2)) ≡ false = rw (← u, ← y) (ap₂ _&&_ b c) in
       record {
         means = sym (rw (known-is a q, w));
-        place = λ j i. absurd (no-row j i);
-        free = λ j i. absurd (no-row j i);
+        place = λ j i. absurd (none-some i);
+        free = λ j i. absurd (none-some i);
       }
 
   pub known-held : {a : ℕ} {f : Bool} {x : Found} → x ≡ At a → foundOf x ≡ placeOf rows 2 (num rows k 1)
@@ -104,8 +102,8 @@ module _ (rows : List ℤ) (k : ℕ) (h : is rows k 0 24 ≡ true) where
       let w : isEmpty (requirements (sheet rows) (num rows a 1)) ≡ false = sym u ∙ b in
       record {
         means = sym (rw (known-is a (sym e ∙ ap foundOf z), w));
-        place = λ j i. absurd (no-row j i);
-        free = λ j i. absurd (no-row j i);
+        place = λ j i. absurd (none-some i);
+        free = λ j i. absurd (none-some i);
       }
 
 -- ---- spans of an activity that holds no resource

@@ -13,6 +13,7 @@ use Rattle.loops.specs.Search.{orElse, first}
 use Rattle.loops.proofs.BoolLaws.{and-right, neither-right}
 use Rattle.loops.proofs.SearchLaws.{first-hit}
 use Rattle.loops.proofs.PlaceLaws.{or-none-left, or-none-right, first-none, if-none}
+use Rattle.loops.proofs.OrderedLaws.{none-some}
 use Rattle.rows.specs.Cells.{rowCount, num}
 use Rattle.sheet.specs.inner.Index.{Shaped, Kinds}
 use Rattle.owners.specs.inner.Owners.{Linked, Owned}
@@ -63,13 +64,10 @@ shaped rows q f =
 
 -- ---- the answers of `index`
 
-some-none : (x : Refusal) → some x ≡ none → ⊥
-some-none x e = let z : _≡_ {A = ℕ} 0 1 = cc in omega arith
-
 pub refused : (rows : List ℤ) (v : Verdict) (k l o : List ℕ) {a b : ℕ} → v ≡ Refused a b → verdictOf v ≡ shapeRefusal rows → Indexing rows k l o v k l o
 refused rows v k l o q e = record {
   verdict = ends (shapeRefusal rows) (linkRefusal rows) q e ∙ sym (in-two rows);
-  tables = λ z. absurd (some-none _ (sym (ap verdictOf q) ∙ e ∙ z));
+  tables = λ z. absurd (none-some (sym (sym (ap verdictOf q) ∙ e ∙ z)));
   kept = λ z. (refl, refl, refl);
 }
 
