@@ -12,11 +12,12 @@ use Rattle.loops.proofs.ListLaws.{head-collect}
 use Rattle.loops.proofs.PlaceLaws.{any-same}
 use Rattle.rows.specs.Cells.{rowCount, num, is}
 use Rattle.sheet.specs.Places.{placeOf}
+use Rattle.sheet.proofs.Lookups.{is-num}
 use Rattle.owners.specs.inner.Owners.{ownerKind, ownedBy}
 use Rattle.model.specs.Sheet.{sheet, rowAt}
 use Rattle.model.specs.inner.Records.{numAt, intAt}
 use Rattle.model.specs.Activity.{Split, split}
-use Rattle.model.proofs.RowLaws.{kind-is, row-none, row-here}
+use Rattle.model.proofs.RowLaws.{row-none, row-here}
 use Rattle.model.proofs.OwnedLaws.{of-activity}
 
 some-either : {A : Type 0} (x y : Option A) → isSome (orElse x y) ≡ (isSome x || isSome y)
@@ -41,7 +42,7 @@ module _ (rows : List ℤ) (a : ℕ) where
     where
       go : (b : Bool) → is rows k 0 4 ≡ b → isSome (head (rowAt (sheet rows) 4 splitAt k)) ≡ (is rows k 0 4 && is rows k 1 (num rows a 1))
       go true h =
-          rw (row-here rows k 4 splitAt h, h, kind-is rows k 4 h)
+          rw (row-here rows k 4 splitAt h, h, is-num rows k 0 4 h)
           (unfold is in given-some (eqb (num rows k 1) (num rows a 1)) _)
       go false h = rw (row-none rows k 4 splitAt h, h)
 

@@ -23,10 +23,10 @@ use Rattle.rows.specs.Class.{n-c}
 use Rattle.rows.specs.Ranges.{inClass}
 use Rattle.sheet.specs.inner.Accepted.{Accepted}
 use Rattle.sheet.specs.Places.{placeOf}
+use Rattle.sheet.proofs.Lookups.{is-num}
 use Rattle.owners.specs.inner.Owners.{ownerKind, ownedBy}
 use Rattle.model.specs.Sheet.{sheet}
 use Rattle.model.specs.Activity.{ResourceRequirement, requirementAt, requirements}
-use Rattle.model.proofs.RowLaws.{kind-is}
 use Rattle.model.proofs.OwnedLaws.{of-activity}
 use Rattle.model.proofs.Accepting.{in-class}
 use Rattle.model.proofs.Standing.{stands-owned}
@@ -126,7 +126,7 @@ module _ (rows : List ℤ) (a : ℕ) where
       go : (b : Bool) → is rows k 0 5 ≡ b
           → foldl _+ℤ_ c (map (λ q. q .quantity) (requirementAt (sheet rows) (num rows a 1) k))
           ≡ cond (is rows k 0 5 && is rows k 1 (num rows a 1)) (c +ℤ cell rows k 3) c
-      go true h = rw (h, kind-is rows k 5 h) (folded (eqb (num rows k 1) (num rows a 1)) _ c)
+      go true h = rw (h, is-num rows k 0 5 h) (folded (eqb (num rows k 1) (num rows a 1)) _ c)
       go false h = rw h
 
   pub sum-told : {x : ℤ} → placeOf rows 2 (num rows a 1) ≡ some a → x ≡ fold (onlyAt (ownedBy rows a 5) (addAt rows)) (pos 0) (rowCount rows) → x ≡ quantities rows a

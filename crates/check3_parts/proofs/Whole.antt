@@ -24,13 +24,14 @@ use Rattle.sheet.specs.inner.Accepted.{Accepted}
 use Rattle.sheet.specs.inner.Found.{foundOf}
 use Rattle.sheet.specs.declared.Found.{Found}
 use Rattle.sheet.specs.declared.Found.the-variants.{At, Nothing}
+use Rattle.sheet.proofs.Lookups.{is-num}
 use Rattle.owners.specs.inner.Owners.{ownerKind, ownedBy}
 use Rattle.model.specs.Sheet.{number, nothing, sheet, rowAt}
 use Rattle.model.specs.inner.Records.{numAt, intAt, activityOf}
 use Rattle.model.specs.inner.Indexed.{Indexed}
 use Rattle.model.specs.Activity.{Split, split}
 use Rattle.model.specs.Schedule.{Part, Assignment, asPart, assignmentAt, assignmentsBelow, assignments, assignmentsForActivityAll}
-use Rattle.model.proofs.RowLaws.{kind-is, assignment-row, assignment-none}
+use Rattle.model.proofs.RowLaws.{assignment-row, assignment-none}
 use Rattle.model.proofs.Accepting.{accepted, activity-at}
 use Rattle.model.proofs.OwnedLaws.{of-activity}
 use Rattle.model.proofs.Tasks.{tasks-by-rows}
@@ -66,11 +67,11 @@ module _ (rows : List ℤ) (acc : Accepted rows) where
 
     part-row : (k : ℕ) → k < rowCount rows → is rows k 0 23 ≡ true
         → option (asPart (sheet rows .cell k 7) (sheet rows .cell k 8)) [] (λ p. p ∷ []) ≡ given (not (isNone (cell rows k 7))) (partOf rows k)
-    part-row k m e = rw (kind-is rows k 23 e) (booked-part (cell rows k 7) (cell rows k 8) (both-parts rows acc k m e))
+    part-row k m e = rw (is-num rows k 0 23 e) (booked-part (cell rows k 7) (cell rows k 8) (both-parts rows acc k m e))
 
     whole-row : (k : ℕ) → k < rowCount rows → is rows k 0 23 ≡ true
         → not (isSome (asPart (sheet rows .cell k 7) (sheet rows .cell k 8))) ≡ not (not (isNone (cell rows k 7)))
-    whole-row k m e = rw (kind-is rows k 23 e) (booked-whole (cell rows k 7) (cell rows k 8) (both-parts rows acc k m e))
+    whole-row k m e = rw (is-num rows k 0 23 e) (booked-whole (cell rows k 7) (cell rows k 8) (both-parts rows acc k m e))
 
     same-activity : (k : ℕ) → eqb (num rows k 1) (num rows o 1) ≡ (true && is rows k 1 (num rows o 1))
     unfolding is
@@ -133,7 +134,7 @@ module _ (rows : List ℤ) (acc : Accepted rows) where
     split-at k = rw (of-activity rows 4 o (num rows o 1) (unfold ownerKind in refl) (activity-at rows acc o l h) k) (go (is rows k 0 4) refl)
       where
         go : (b : Bool) → is rows k 0 4 ≡ b → head (splitAt k) ≡ someIf (is rows k 0 4 && is rows k 1 (num rows o 1)) (splitOf rows k)
-        go true e = rw (kind-is rows k 4 e) (head-given (eqb (num rows k 1) (num rows o 1)) (splitOf rows k))
+        go true e = rw (is-num rows k 0 4 e) (head-given (eqb (num rows k 1) (num rows o 1)) (splitOf rows k))
         go false e = rw e
 
     split-is : split (sheet rows) (num rows o 1) ≡ option (firstPlace (ownedBy rows o 4) (rowCount rows)) none (λ k. some (splitOf rows k))

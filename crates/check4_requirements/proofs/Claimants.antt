@@ -33,7 +33,7 @@ use Rattle.model.specs.inner.Records.{numAt, requirementOf, resourceOf}
 use Rattle.model.specs.Resource.{resourceAt, resources, listed, skills, companions}
 use Rattle.model.specs.Activity.{namedFor, requiredSkills, isCandidate}
 use Rattle.model.specs.Schedule.{skillMismatch, requirementUnfilled}
-use Rattle.model.proofs.RowLaws.{kind-is, row-none, row-here, resource-row, resource-none}
+use Rattle.model.proofs.RowLaws.{row-none, row-here, resource-row, resource-none}
 use Rattle.model.proofs.Accepting.{has-owner, one-row}
 use Rattle.model.proofs.OwnedLaws.{of-resource}
 use Rattle.model.proofs.Requiring.{wanted-at}
@@ -96,7 +96,7 @@ module _ (rows : List ℤ) (acc : Accepted rows) where
 
   has-skill : (r v : ℕ) → among v (skills (sheet rows) r) ≡ option (placeOf rows 11 r) false (λ a. hasSkill rows a v)
   unfolding lacks
-  has-skill r v = ap (among v) (listed-along 12 (unfold ownerKind in refl) (λ k. refl) (λ v k e. rw (kind-is rows k 12 e)) r) ∙ go (placeOf rows 11 r)
+  has-skill r v = ap (among v) (listed-along 12 (unfold ownerKind in refl) (λ k. refl) (λ v k e. rw (is-num rows k 0 12 e)) r) ∙ go (placeOf rows 11 r)
     where
       go : (y : Option ℕ) → among v (option y [] (λ a. along rows a 12 2)) ≡ option y false (λ a. hasSkill rows a v)
       go none = unfold anyOf in refl
@@ -104,14 +104,14 @@ module _ (rows : List ℤ) (acc : Accepted rows) where
 
   pub companions-along : (r : ℕ) → companions (sheet rows) r ≡ option (placeOf rows 11 r) [] (λ a. along rows a 13 2)
   unfolding lacks
-  companions-along r = listed-along 13 (unfold ownerKind in refl) (λ k. refl) (λ v k e. rw (kind-is rows k 13 e)) r
+  companions-along r = listed-along 13 (unfold ownerKind in refl) (λ k. refl) (λ v k e. rw (is-num rows k 0 13 e)) r
 
   -- ---- one requirement
 
   module _ (q : ℕ) (l : q < rowCount rows) (h : is rows q 0 5 ≡ true) where
     required-along : requiredSkills (sheet rows) (requirementOf rows q) ≡ along rows q 7 3
     unfolding namedFor
-    required-along = collect-ext _ _ (rowCount rows) (λ k m. wanted-at rows q l h 7 (unfold ownerKind in refl) (λ j e. unfold is in rw (kind-is rows j 7 e)) k) ∙ given-only (ownedBy rows q 7) (λ k. num rows k 3) (rowCount rows)
+    required-along = collect-ext _ _ (rowCount rows) (λ k m. wanted-at rows q l h 7 (unfold ownerKind in refl) (λ j e. unfold is in rw (is-num rows j 0 7 e)) k) ∙ given-only (ownedBy rows q 7) (λ k. num rows k 3) (rowCount rows)
 
     lacking-along : (r : ℕ) → lacking (sheet rows) (requirementOf rows q) r ≡ lackingOf rows q r
     unfolding lacking lackingFor

@@ -20,6 +20,7 @@ use Rattle.loops.proofs.Walks.{collect-next}
 use Rattle.calendar.specs.Clock.{clock}
 use Rattle.rows.specs.Cells.{rowCount, cell, num, is}
 use Rattle.sheet.specs.Places.{ofKind, placeOf}
+use Rattle.sheet.proofs.Lookups.{is-num}
 use Rattle.owners.specs.inner.Owners.{ownerKind, ownedBy}
 use Rattle.findings.specs.declared.Violation.{Violation}
 use Rattle.findings.specs.inner.Sink.{Sink, emit}
@@ -31,7 +32,7 @@ use Rattle.model.specs.Resource.{listed}
 use Rattle.model.specs.Activity.{Activity, activityAt, activities, activitiesOf, predecessors}
 use Rattle.model.specs.Constraint.{constraintAt, constraints}
 use Rattle.model.specs.Schedule.{precedenceViolation}
-use Rattle.model.proofs.RowLaws.{kind-is, row-none, row-here, activity-row, activity-none}
+use Rattle.model.proofs.RowLaws.{row-none, row-here, activity-row, activity-none}
 use Rattle.model.proofs.OwnedLaws.{of-activity, of-task}
 use Rattle.model.proofs.ConstraintLaws.{precedence-row, by-constraint}
 use Rattle.definition.specs.ActivitySpan as page
@@ -93,7 +94,7 @@ module _ (rows : List ℤ) (id : ℕ) where
       go : (b : Bool) → is rows k 0 8 ≡ b
           → each (λ p. endToStart clock (sheet rows) p id (pos 0)) (rowAt (sheet rows) 8 (λ k. given (eqb (numAt (sheet rows) k 1) id) (numAt (sheet rows) k 2)) k)
           ≡ cond (is rows k 0 8 && is rows k 1 id) (endToStart clock (sheet rows) (num rows k 2) id (pos 0)) []
-      go true h = rw (row-here rows k 8 (λ k. given (eqb (numAt (sheet rows) k 1) id) (numAt (sheet rows) k 2)) h, h, kind-is rows k 8 h) (one (eqb (num rows k 1) id) (num rows k 2))
+      go true h = rw (row-here rows k 8 (λ k. given (eqb (numAt (sheet rows) k 1) id) (numAt (sheet rows) k 2)) h, h, is-num rows k 0 8 h) (one (eqb (num rows k 1) id) (num rows k 2))
       go false h = rw (row-none rows k 8 (λ k. given (eqb (numAt (sheet rows) k 1) id) (numAt (sheet rows) k 2)) h, h)
 
   pub predecessors-told : (s : Sink) {s′ : Sink} → s′ ≡ emit s (collect predecessorAt (rowCount rows)) → s′ ≡ emit s (each (λ p. endToStart clock (sheet rows) p id (pos 0)) (predecessors (sheet rows) id))

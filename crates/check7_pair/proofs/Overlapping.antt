@@ -25,6 +25,7 @@ use Rattle.sheet.specs.inner.Accepted.{Accepted}
 use Rattle.sheet.specs.declared.Found.{Found}
 use Rattle.sheet.specs.declared.Found.the-variants.{At, Nothing}
 use Rattle.sheet.specs.inner.Found.{foundOf}
+use Rattle.sheet.proofs.Lookups.{is-num}
 use Rattle.owners.specs.inner.Owners.{ownerKind, ownPlace, ownedBy}
 use Rattle.calendar.specs.Clock.{clock}
 use Rattle.overlap.specs.declared.Overlap.{Overlap}
@@ -34,7 +35,7 @@ use Rattle.overlap.proofs.Laws.{bits-share}
 use Rattle.model.specs.Sheet.{sheet, rowAt}
 use Rattle.model.specs.inner.Records.{numAt, intAt}
 use Rattle.model.specs.Activity.{overlap}
-use Rattle.model.proofs.RowLaws.{kind-is, row-none, row-here}
+use Rattle.model.proofs.RowLaws.{row-none, row-here}
 use Rattle.model.proofs.Accepting.{at-most, in-class}
 use Rattle.model.proofs.OwnedLaws.{of-activity}
 
@@ -48,7 +49,7 @@ module _ (rows : List ℤ) (o id : ℕ) where
   lap-at q k = rw (of-activity rows 3 o id (unfold ownerKind in refl) q k) (go (is rows k 0 3) refl)
     where
       go : (b : Bool) → is rows k 0 3 ≡ b → head (rowAt (sheet rows) 3 lap k) ≡ someIf (is rows k 0 3 && is rows k 1 id) (overlapOf (num rows k 2) (cell rows k 3))
-      go true h = unfold is in (rw (row-here rows k 3 lap h, h, kind-is rows k 3 h) (head-given (eqb (num rows k 1) id) (overlapOf (num rows k 2) (cell rows k 3))))
+      go true h = unfold is in (rw (row-here rows k 3 lap h, h, is-num rows k 0 3 h) (head-given (eqb (num rows k 1) id) (overlapOf (num rows k 2) (cell rows k 3))))
       go false h = rw (row-none rows k 3 lap h, h)
 
   overlap-is : placeOf rows 2 id ≡ some o → overlap (sheet rows) id ≡ option (firstPlace (ownedBy rows o 3) (rowCount rows)) none (λ k. some (overlapOf (num rows k 2) (cell rows k 3)))

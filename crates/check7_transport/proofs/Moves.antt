@@ -17,10 +17,11 @@ use Rattle.sheet.specs.inner.Accepted.{Accepted}
 use Rattle.sheet.specs.declared.Found.{Found}
 use Rattle.sheet.specs.declared.Found.the-variants.{At, Nothing}
 use Rattle.sheet.specs.inner.Found.{foundOf}
+use Rattle.sheet.proofs.Lookups.{is-num}
 use Rattle.model.specs.Sheet.{sheet, rowAt}
 use Rattle.model.specs.inner.Records.{numAt}
 use Rattle.model.specs.Resource.{transportTo}
-use Rattle.model.proofs.RowLaws.{kind-is, row-none, row-here}
+use Rattle.model.proofs.RowLaws.{row-none, row-here}
 use Rattle.model.proofs.Accepting.{at-most, has-owner}
 use Rattle.model.proofs.Finds.{first-same, first-placed}
 use Rattle.pieces.specs.inner.Bookings.{names}
@@ -36,7 +37,7 @@ module _ (rows : List ℤ) where
     move-at k = go (is rows k 0 14) refl
       where
         go : (c : Bool) → is rows k 0 14 ≡ c → head (rowAt (sheet rows) 14 move k) ≡ someIf (names rows 14 a b k) (num rows k 3)
-        go true h = unfold names is in (rw (row-here rows k 14 move h, h, kind-is rows k 14 h) (head-given (eqb (num rows k 1) a && eqb (num rows k 2) b) (num rows k 3)))
+        go true h = unfold names is in (rw (row-here rows k 14 move h, h, is-num rows k 0 14 h) (head-given (eqb (num rows k 1) a && eqb (num rows k 2) b) (num rows k 3)))
         go false h = unfold names in (rw (row-none rows k 14 move h, h))
 
     -- what the search finds

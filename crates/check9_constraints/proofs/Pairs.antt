@@ -27,6 +27,7 @@ use Rattle.sheet.specs.declared.Found.the-variants.{At, Nothing}
 use Rattle.sheet.specs.inner.Found.{foundOf}
 use Rattle.sheet.specs.inner.Kept.{IsRow, Kept}
 use Rattle.sheet.proofs.Keeping.{Keeping, keeping-turn, kept-at}
+use Rattle.sheet.proofs.Lookups.{is-num}
 use Rattle.findings.specs.declared.Violation.{Violation}
 use Rattle.findings.specs.inner.Sink.{Sink, emit}
 use Rattle.findings.proofs.SinkLaws.{emit-none}
@@ -36,7 +37,7 @@ use Rattle.model.specs.inner.Records.{numAt}
 use Rattle.model.specs.Resource.{listed}
 use Rattle.model.specs.Constraint.{constraintAt, members}
 use Rattle.model.specs.Schedule.{Assignment, asPart, assignmentAt, assignmentsBelow, assignments, assignmentsForActivityAll, capacityExceeded}
-use Rattle.model.proofs.RowLaws.{kind-is, assignment-row, assignment-none}
+use Rattle.model.proofs.RowLaws.{assignment-row, assignment-none}
 use Rattle.model.proofs.ConstraintLaws.{overlap-row}
 use Rattle.definition.specs.CheckConstraints.{firstOn, overlapping, checkOverlaps, checkConstraint, checkConstraintAt}
 use Rattle.check9_constraints.specs.inner.Bookings.{bookedOn, memberBooking, overlapAt, pairAt, pairsAt}
@@ -184,7 +185,7 @@ module _ (rows : List ℤ) where
         go : (b : Bool) → is rows k 0 22 ≡ b
             → each (firstOn clock (sheet rows) r) (rowAt (sheet rows) 22 (λ j. given (eqb (numAt (sheet rows) j 1) p) (numAt (sheet rows) j 2)) k)
             ≡ one rows r (booked (memberBooking rows p r k))
-        go true h = rw (kind-is rows k 22 h) (two (eqb (num rows k 1) p))
+        go true h = rw (is-num rows k 0 22 h) (two (eqb (num rows k 1) p))
         go false h = rw h (unfold each in refl)
 
     bookings : each (firstOn clock (sheet rows) r) (members (sheet rows) p) ≡ collect (λ k. one rows r (booked (memberBooking rows p r k))) (rowCount rows)

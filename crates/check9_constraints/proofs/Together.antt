@@ -18,12 +18,12 @@ use Rattle.loops.proofs.RangeLaws.{fold-ext}
 use Rattle.calendar.specs.Clock.{clock}
 use Rattle.rows.specs.Cells.{rowCount, num, is}
 use Rattle.sheet.specs.Places.{ofKind}
+use Rattle.sheet.proofs.Lookups.{is-num}
 use Rattle.model.specs.Sheet.{sheet, rowAt}
 use Rattle.model.specs.inner.Records.{numAt}
 use Rattle.model.specs.Resource.{listed}
 use Rattle.model.specs.Constraint.{constraintAt, members}
 use Rattle.model.specs.Schedule.{synchronizeViolation}
-use Rattle.model.proofs.RowLaws.{kind-is}
 use Rattle.model.proofs.ConstraintLaws.{synchronize-row}
 use Rattle.definition.specs.ActivitySpan.{Span, activitySpan}
 use Rattle.definition.specs.CheckRequirements.{sameTime}
@@ -130,7 +130,7 @@ module _ (rows : List ℤ) (p : ℕ) where
       go : (b : Bool) → is rows k 0 22 ≡ b
           → foldl (step rows spanOf) z (rowAt (sheet rows) 22 (λ j. given (eqb (numAt (sheet rows) j 1) p) (numAt (sheet rows) j 2)) k)
           ≡ cond (is rows k 0 22) (withMember rows p z k) z
-      go true h = rw (kind-is rows k 22 h) (given-step (eqb (num rows k 1) p) z (num rows k 2))
+      go true h = rw (is-num rows k 0 22 h) (given-step (eqb (num rows k 1) p) z (num rows k 2))
       go false h = rw h
 
   all-members : fold (onlyAt (ofKind rows 22) (withMember rows p)) empty (rowCount rows) ≡ foldl (step rows spanOf) empty (members (sheet rows) p)

@@ -17,11 +17,12 @@ use Rattle.loops.proofs.ListLaws.{head-collect, head-given}
 use Rattle.loops.proofs.PlaceLaws.{found-at}
 use Rattle.rows.specs.Cells.{rowCount, cell, num, is}
 use Rattle.sheet.specs.Places.{named, placeOf}
+use Rattle.sheet.proofs.Lookups.{is-num}
 use Rattle.resource_timing.specs.declared.ResourceTiming.the-variants.{Speed, Duration}
 use Rattle.model.specs.Sheet.{sheet, rowAt}
 use Rattle.model.specs.inner.Records.{numAt, intAt}
 use Rattle.model.specs.Activity.{Split, split, timingAt, timing}
-use Rattle.model.proofs.RowLaws.{kind-is, row-none, row-here}
+use Rattle.model.proofs.RowLaws.{row-none, row-here}
 use Rattle.pieces.specs.inner.Bookings.{names}
 use Rattle.derived_times.specs.inner.Rows.{columnsOf, timedBy, timingOf, earlierOf}
 
@@ -42,7 +43,7 @@ module _ (rows : List ℤ) where
   split-is x = head-of (named rows 4 x) splitOf _ (rowCount rows) (λ k. at k (is rows k 0 4) refl)
     where
       at : (k : ℕ) (b : Bool) → is rows k 0 4 ≡ b → head (rowAt (sheet rows) 4 (split-row x) k) ≡ someIf (named rows 4 x k) (splitOf k)
-      at k true h = rw (row-here rows k 4 (split-row x) h, kind-is rows k 4 h) (unfold named is in (rw h (head-given (eqb (num rows k 1) x) (splitOf k))))
+      at k true h = rw (row-here rows k 4 (split-row x) h, is-num rows k 0 4 h) (unfold named is in (rw h (head-given (eqb (num rows k 1) x) (splitOf k))))
       at k false h = rw (row-none rows k 4 (split-row x) h) (unfold named in (rw h))
 
   -- ---- timings
@@ -51,8 +52,8 @@ module _ (rows : List ℤ) where
   timing-row a r k = go (is rows k 0 9) (is rows k 0 10) refl refl
     where
       go : (b c : Bool) → is rows k 0 9 ≡ b → is rows k 0 10 ≡ c → head (timingAt (sheet rows) a r k) ≡ someIf (timedBy rows a r k) (timingOf rows k)
-      go true c h g = unfold timingAt timedBy timingOf names is in (rw (kind-is rows k 9 h) (given-head (eqb (num rows k 1) a && eqb (num rows k 2) r) (Speed (ofBits binary64 (num rows k 3))) ∙ ap (λ b. someIf b (Speed (ofBits binary64 (num rows k 3)))) (sym (or-false (eqb (num rows k 1) a && eqb (num rows k 2) r)))))
-      go false true h g = unfold timingAt timedBy timingOf names is in (rw (kind-is rows k 10 g) (head-given (eqb (num rows k 1) a && eqb (num rows k 2) r) (Duration (columnsOf rows k 3))))
+      go true c h g = unfold timingAt timedBy timingOf names is in (rw (is-num rows k 0 9 h) (given-head (eqb (num rows k 1) a && eqb (num rows k 2) r) (Speed (ofBits binary64 (num rows k 3))) ∙ ap (λ b. someIf b (Speed (ofBits binary64 (num rows k 3)))) (sym (or-false (eqb (num rows k 1) a && eqb (num rows k 2) r)))))
+      go false true h g = unfold timingAt timedBy timingOf names is in (rw (is-num rows k 0 10 g) (head-given (eqb (num rows k 1) a && eqb (num rows k 2) r) (Duration (columnsOf rows k 3))))
       go false false h g = unfold timingAt timedBy timingOf names is in (rw (h, g))
 
   pub timing-is : (a r : ℕ) → timing (sheet rows) a r ≡ option (firstPlace (timedBy rows a r) (rowCount rows)) none (λ i. some (timingOf rows i))

@@ -29,7 +29,7 @@ use Rattle.sheet.specs.inner.Index.{orEnd, storedPlace}
 use Rattle.sheet.specs.inner.Kept.{IsRow}
 use Rattle.sheet.specs.inner.Accepted.{Accepted}
 use Rattle.sheet.specs.Refusals.{lacks}
-use Rattle.sheet.proofs.Lookups.{placed, found-some, found-none, place-kind}
+use Rattle.sheet.proofs.Lookups.{is-num, placed, found-some, found-none, place-kind}
 use Rattle.sheet.proofs.Keeping.{Keeping, keeping-start, keeping-turn, keeping-end, kept-at}
 use Rattle.owners.specs.inner.Owners.{ownerKind, ownedBy}
 use Rattle.resource_timing.specs.declared.ActivityDuration.{ActivityDuration}
@@ -41,7 +41,6 @@ use Rattle.resource_timing.specs.inner.Limits.{TimingAmounts}
 use Rattle.model.specs.Sheet.{sheet}
 use Rattle.model.specs.Activity.{split, pieceOf}
 use Rattle.model.specs.inner.Records.{activityOf}
-use Rattle.model.proofs.RowLaws.{kind-is}
 use Rattle.model.proofs.Accepting.{at-most, has-owner}
 use Rattle.model.proofs.OwnedLaws.{of-activity}
 use Rattle.pieces.specs.inner.Bookings.{names}
@@ -83,7 +82,7 @@ module _ (rows : List ℤ) where
   -- ---- the part
 
   pub part-none : (k : ℕ) → is rows k 0 23 ≡ true → isNone (cell rows k 7) ≡ true → partAt rows k ≡ none
-  part-none k h e = rw (kind-is rows k 23 h, e)
+  part-none k h e = rw (is-num rows k 0 23 h, e)
 
   both : (a b : Bool) → Bool·beq a b ≡ true → a ≡ false → b ≡ false
   both true b e f = absurd (true≢false f)
@@ -94,7 +93,7 @@ module _ (rows : List ℤ) where
       → partAt rows k ≡ some (record { index = cell rows k 7; work = num rows k 8 })
   part-some acc k l h e =
       let f : isNone (cell rows k 8) ≡ false = both (isNone (cell rows k 7)) (isNone (cell rows k 8)) (both-parts rows acc k l h) e in
-      rw (kind-is rows k 23 h, e, f)
+      rw (is-num rows k 0 23 h, e, f)
 
   -- ---- the piece
 

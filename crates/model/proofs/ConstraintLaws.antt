@@ -5,30 +5,30 @@ use mathlib.Core.Bool.{Bool, true, false}
 use mathlib.Core.List.{List, [], _∷_}
 use lib.IntN.{ℤ, pos}
 use Rattle.rows.specs.Cells.{cell, num, is}
+use Rattle.sheet.proofs.Lookups.{is-num}
 use Rattle.model.specs.Sheet.{sheet}
 use Rattle.model.specs.Constraint.{Constraint, precedence, capacity, timeWindow, noOverlap, synchronize, constraintAt}
-use Rattle.model.proofs.RowLaws.{kind-is}
 
 module _ (rows : List ℤ) (k : ℕ) where
   pub precedence-row : is rows k 0 17 ≡ true → constraintAt (sheet rows) k ≡ precedence (num rows k 1) (num rows k 2) (cell rows k 3) ∷ []
   unfolding constraintAt
-  precedence-row h = rw (kind-is rows k 17 h)
+  precedence-row h = rw (is-num rows k 0 17 h)
 
   pub capacity-row : is rows k 0 18 ≡ true → constraintAt (sheet rows) k ≡ capacity (num rows k 1) (cell rows k 2) ∷ []
   unfolding constraintAt
-  capacity-row h = rw (kind-is rows k 18 h)
+  capacity-row h = rw (is-num rows k 0 18 h)
 
   pub window-row : is rows k 0 19 ≡ true → constraintAt (sheet rows) k ≡ timeWindow (num rows k 1) (pos (num rows k 2)) (pos (num rows k 3)) ∷ []
   unfolding constraintAt
-  window-row h = rw (kind-is rows k 19 h)
+  window-row h = rw (is-num rows k 0 19 h)
 
   pub overlap-row : is rows k 0 20 ≡ true → constraintAt (sheet rows) k ≡ noOverlap (num rows k 1) ∷ []
   unfolding constraintAt
-  overlap-row h = rw (kind-is rows k 20 h)
+  overlap-row h = rw (is-num rows k 0 20 h)
 
   pub synchronize-row : is rows k 0 21 ≡ true → constraintAt (sheet rows) k ≡ synchronize ∷ []
   unfolding constraintAt
-  synchronize-row h = rw (kind-is rows k 21 h)
+  synchronize-row h = rw (is-num rows k 0 21 h)
 
   other-row : is rows k 0 17 ≡ false → is rows k 0 18 ≡ false → is rows k 0 19 ≡ false → is rows k 0 20 ≡ false → is rows k 0 21 ≡ false
       → constraintAt (sheet rows) k ≡ []

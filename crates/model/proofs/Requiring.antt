@@ -27,7 +27,7 @@ use Rattle.owners.specs.inner.Owners.{ownerKind, ownerOf, ownerPlace, ownPlace,
 use Rattle.model.specs.Sheet.{sheet, rowAt}
 use Rattle.model.specs.inner.Records.{numAt, requirementOf}
 use Rattle.model.specs.Activity.{ResourceRequirement, requirementAt, namedFor, candidates}
-use Rattle.model.proofs.RowLaws.{kind-is, row-here, row-none}
+use Rattle.model.proofs.RowLaws.{row-here, row-none}
 use Rattle.model.proofs.OwnedLaws.{of-activity}
 
 -- ---- number m of the places that pass
@@ -67,7 +67,7 @@ module _ (rows : List ℤ) where
     where
       go : (b : Bool) → is rows k 0 5 ≡ b
           → countOf (eqb a) (rowAt (sheet rows) 5 (λ j. numAt (sheet rows) j 1 ∷ []) k) ≡ cond (is rows k 0 5 && is rows k 1 a) 1 0
-      go true h = rw (kind-is rows k 5 h, eqb-swap a (num rows k 1)) (units (eqb (num rows k 1) a))
+      go true h = rw (is-num rows k 0 5 h, eqb-swap a (num rows k 1)) (units (eqb (num rows k 1) a))
         where
           units : (b : Bool) → cond b 1 0 + 0 ≡ cond b 1 0
           units true = refl
@@ -86,7 +86,7 @@ module _ (rows : List ℤ) where
 
   pub requirement-row : (a k : ℕ) → is rows k 0 5 ≡ true → requirementAt (sheet rows) a k ≡ given (is rows k 1 a) (requirementOf rows k)
   unfolding requirementAt is
-  requirement-row a k h = rw (kind-is rows k 5 h) (go (ℕ-discrete (num rows k 1) a))
+  requirement-row a k h = rw (is-num rows k 0 5 h) (go (ℕ-discrete (num rows k 1) a))
     where
       go : Dec (num rows k 1 ≡ a)
           → given (eqb (num rows k 1) a)
@@ -174,7 +174,7 @@ module _ (rows : List ℤ) where
 
     pub candidates-are : candidates (sheet rows) (requirementOf rows q) ≡ collect (λ k. given (ownedBy rows q 6 k) (num rows k 3)) (rowCount rows)
     unfolding namedFor
-    candidates-are = collect-ext _ _ (rowCount rows) (λ k m. wanted-at 6 (unfold ownerKind in refl) (λ j e. unfold is in rw (kind-is rows j 6 e)) k)
+    candidates-are = collect-ext _ _ (rowCount rows) (λ k m. wanted-at 6 (unfold ownerKind in refl) (λ j e. unfold is in rw (is-num rows j 0 6 e)) k)
 
 -- ---- a list of what passes a test, place by place
 

@@ -5,8 +5,8 @@ use mathlib.Core.Bool.{true, false}
 use mathlib.Core.List.{List, [], _∷_}
 use lib.Dec.{eqb}
 use lib.IntN.{ℤ, pos}
-use borrow.Author.Tests.{eqb-true}
 use Rattle.rows.specs.Cells.{cell, num, is}
+use Rattle.sheet.proofs.Lookups.{is-num}
 use Rattle.model.specs.Sheet.{sheet, rowAt}
 use Rattle.model.specs.inner.Records.{maybeAt}
 use Rattle.model.specs.Task.{taskAt}
@@ -15,10 +15,6 @@ use Rattle.model.specs.Resource.{resourceAt}
 use Rattle.model.specs.Schedule.{assignmentAt, spanAt, asPart}
 
 module _ (rows : List ℤ) (k : ℕ) where
-  pub kind-is : (x : ℕ) → is rows k 0 x ≡ true → num rows k 0 ≡ x
-  unfolding is
-  kind-is x h = eqb-true (num rows k 0) x h
-
   -- a row of another kind
   pub row-none : {A : Type 0} (x : ℕ) (f : ℕ → List A) → is rows k 0 x ≡ false → rowAt (sheet rows) x f k ≡ []
   unfolding is
@@ -31,7 +27,7 @@ module _ (rows : List ℤ) (k : ℕ) where
   pub task-row : is rows k 0 1 ≡ true
       → taskAt (sheet rows) k ≡ record { id = num rows k 1; deadline = maybeAt rows k 2; release = maybeAt rows k 3 } ∷ []
   unfolding taskAt
-  task-row h = rw (kind-is 1 h)
+  task-row h = rw (is-num rows k 0 1 h)
 
   pub task-none : is rows k 0 1 ≡ false → taskAt (sheet rows) k ≡ []
   unfolding taskAt is
@@ -48,7 +44,7 @@ module _ (rows : List ℤ) (k : ℕ) where
         release = maybeAt rows k 8;
       } ∷ []
   unfolding activityAt
-  activity-row h = rw (kind-is 2 h)
+  activity-row h = rw (is-num rows k 0 2 h)
 
   pub activity-none : is rows k 0 2 ≡ false → activityAt (sheet rows) k ≡ []
   unfolding activityAt is
@@ -57,7 +53,7 @@ module _ (rows : List ℤ) (k : ℕ) where
   pub resource-row : is rows k 0 11 ≡ true
       → resourceAt (sheet rows) k ≡ record { id = num rows k 1; type = num rows k 2; capacity = cell rows k 3 } ∷ []
   unfolding resourceAt
-  resource-row h = rw (kind-is 11 h)
+  resource-row h = rw (is-num rows k 0 11 h)
 
   pub resource-none : is rows k 0 11 ≡ false → resourceAt (sheet rows) k ≡ []
   unfolding resourceAt is
@@ -75,7 +71,7 @@ module _ (rows : List ℤ) (k : ℕ) where
         part = asPart (sheet rows .cell k 7) (sheet rows .cell k 8);
       } ∷ []
   unfolding assignmentAt
-  assignment-row h = rw (kind-is 23 h)
+  assignment-row h = rw (is-num rows k 0 23 h)
 
   pub assignment-none : is rows k 0 23 ≡ false → assignmentAt (sheet rows) k ≡ []
   unfolding assignmentAt is
@@ -84,7 +80,7 @@ module _ (rows : List ℤ) (k : ℕ) where
   pub span-row : is rows k 0 24 ≡ true
       → spanAt (sheet rows) k ≡ record { activity = num rows k 1; task = num rows k 2; start = pos (num rows k 3); end = pos (num rows k 4) } ∷ []
   unfolding spanAt
-  span-row h = rw (kind-is 24 h)
+  span-row h = rw (is-num rows k 0 24 h)
 
   pub span-none : is rows k 0 24 ≡ false → spanAt (sheet rows) k ≡ []
   unfolding spanAt is

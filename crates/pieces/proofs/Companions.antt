@@ -24,11 +24,12 @@ use Rattle.rows.specs.Ranges.{isNone, inClass}
 use Rattle.sheet.specs.Places.{ofKind}
 use Rattle.sheet.specs.Refusals.{halfPart}
 use Rattle.sheet.specs.inner.Accepted.{Accepted}
+use Rattle.sheet.proofs.Lookups.{is-num}
 use Rattle.model.specs.Sheet.{sheet, rowAt}
 use Rattle.model.specs.inner.Records.{numAt}
 use Rattle.model.specs.Resource.{listed, companions}
 use Rattle.model.specs.Schedule.{Assignment, asPart, assignmentAt, assignmentsBelow, assignments}
-use Rattle.model.proofs.RowLaws.{kind-is, row-none, row-here, assignment-row, assignment-none}
+use Rattle.model.proofs.RowLaws.{row-none, row-here, assignment-row, assignment-none}
 use Rattle.definition.specs.Pieces.{indexOf, sameIndex, ofPiece, heldAmong, assignedWith, isHeld}
 use Rattle.pieces.specs.inner.Bookings.{keyAt, inPiece, names, holdsFor}
 use Rattle.pieces.specs.inner.Held.{heldAt, Held}
@@ -56,7 +57,7 @@ module _ (rows : List ℤ) where
 
   module _ (acc : Accepted rows) where
     pub index-class : (k : ℕ) → is rows k 0 23 ≡ true → inClass n?-c (cell rows k 7) ≡ true
-    index-class k h = rw (kind-is rows k 23 h) at (acc .columns k 7)
+    index-class k h = rw (is-num rows k 0 23 h) at (acc .columns k 7)
 
     pub both-parts : (k : ℕ) → k < rowCount rows → is rows k 0 23 ≡ true → Bool·beq (isNone (cell rows k 7)) (isNone (cell rows k 8)) ≡ true
     unfolding halfPart
@@ -64,7 +65,7 @@ module _ (rows : List ℤ) where
 
     -- the index of a booking's part is that of column 7
     pub booked-index : (k : ℕ) → k < rowCount rows → is rows k 0 23 ≡ true → indexOf (booking k .part) ≡ indexIn (cell rows k 7)
-    booked-index k l h = rw (kind-is rows k 23 h) (index-in (cell rows k 7) (cell rows k 8) (both-parts k l h))
+    booked-index k l h = rw (is-num rows k 0 23 h) (index-in (cell rows k 7) (cell rows k 8) (both-parts k l h))
 
     pub same-index : (j k : ℕ) → j < rowCount rows → k < rowCount rows → is rows j 0 23 ≡ true → is rows k 0 23 ≡ true
         → sameIndex (indexOf (booking j .part)) (indexOf (booking k .part)) ≡ eqb (keyAt rows j) (keyAt rows k)
@@ -92,7 +93,7 @@ module _ (rows : List ℤ) where
 
       at : (i : ℕ) (b : Bool) → is rows i 0 13 ≡ b
           → anyOf (eqb r) (rowAt (sheet rows) 13 (λ k. given (eqb (numAt (sheet rows) k 1) p) (numAt (sheet rows) k 2)) i) ≡ names rows 13 p r i
-      at i true h = unfold names is in (rw (row-here rows i 13 (λ k. given (eqb (numAt (sheet rows) k 1) p) (numAt (sheet rows) k 2)) h, h, kind-is rows i 13 h) (pick (eqb (num rows i 1) p) (num rows i 2)))
+      at i true h = unfold names is in (rw (row-here rows i 13 (λ k. given (eqb (numAt (sheet rows) k 1) p) (numAt (sheet rows) k 2)) h, h, is-num rows i 0 13 h) (pick (eqb (num rows i 1) p) (num rows i 2)))
       at i false h = unfold names anyOf in (rw (row-none rows i 13 (λ k. given (eqb (numAt (sheet rows) k 1) p) (numAt (sheet rows) k 2)) h, h))
 
   test-is : (k c v : ℕ) → eqb (num rows k c) v ≡ is rows k c v

@@ -22,11 +22,12 @@ use Rattle.rows.specs.Cells.{rowCount, num, is}
 use Rattle.sheet.specs.inner.Accepted.{Accepted}
 use Rattle.sheet.specs.Places.{placeOf}
 use Rattle.sheet.specs.Refusals.{lacks}
+use Rattle.sheet.proofs.Lookups.{is-num}
 use Rattle.owners.specs.inner.Owners.{ownedBy}
 use Rattle.model.specs.Sheet.{sheet, with2, rowAt}
 use Rattle.model.specs.inner.Records.{numAt, timeAt}
 use Rattle.model.specs.Resource.{windows}
-use Rattle.model.proofs.RowLaws.{kind-is, row-none, row-here}
+use Rattle.model.proofs.RowLaws.{row-none, row-here}
 use Rattle.model.proofs.Accepting.{has-owner}
 use Rattle.window_rows.specs.inner.Laid.{windowHere}
 
@@ -68,10 +69,10 @@ module _ (rows : List ℤ) where
     all-rows = collect-ext _ _ (rowCount rows) (λ k l. at-row k)
 
   pub resource-windows : (id : ℕ) → windows (sheet rows) 15 id ≡ collect (windowNaming 15 id) (rowCount rows)
-  resource-windows id = all-rows 15 id (λ k h. rw (kind-is rows k 15 h) (pick (eqb (num rows k 1) id) (windowRow k)))
+  resource-windows id = all-rows 15 id (λ k h. rw (is-num rows k 0 15 h) (pick (eqb (num rows k 1) id) (windowRow k)))
 
   pub activity-windows : (id : ℕ) → windows (sheet rows) 16 id ≡ collect (windowNaming 16 id) (rowCount rows)
-  activity-windows id = all-rows 16 id (λ k h. rw (kind-is rows k 16 h) (pick (eqb (num rows k 1) id) (windowRow k)))
+  activity-windows id = all-rows 16 id (λ k h. rw (is-num rows k 0 16 h) (pick (eqb (num rows k 1) id) (windowRow k)))
 
   -- a resource that is not in the sheet has no windows
   module _ (acc : Accepted rows) (id : ℕ) (q : placeOf rows 11 id ≡ none) where
