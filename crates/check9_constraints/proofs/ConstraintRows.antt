@@ -29,10 +29,6 @@ use Rattle.spans.specs.declared.ActivitySpan.the-variants.{Between, Nowhere}
 use Rattle.spans.specs.inner.Activities.{spanMeant}
 use Rattle.check9_constraints.specs.inner.Outside.{outsideAt}
 
--- what the branch that is taken says of the test; the branch first, since it alone says which test is meant
-pub tested : {r b v : Bool} → r ≡ v → r ≡ b → b ≡ v
-tested f e = sym e ∙ f
-
 module _ (rows : List ℤ) (k : ℕ) where
   reported : (x : Option (Span ℤ)) (test : Span ℤ → Bool) (f : Violation) → option x [] (λ y. given (test y) f) ++ [] ≡ given (option x false test) f
   reported none test f = refl

@@ -14,7 +14,8 @@ use Rattle.rows.specs.Cells.{rowCount, num, is}
 use Rattle.sheet.specs.Places.{placeOf}
 use Rattle.sheet.specs.inner.Index.{orEnd}
 use Rattle.sheet.proofs.Lookups.{is-num, Named, placed}
-use Rattle.owners.specs.inner.Owners.{ownerKind, ownerOf, ownerPlace, ownPlace, ownedBy}
+use Rattle.owners.specs.inner.Owners.{ownerKind, ownerOf, ownPlace, ownedBy}
+use Rattle.owners.proofs.Tables.{own-at}
 
 module _ (rows : List ℤ) where
   -- the place that a number stands for is that of the id's row
@@ -44,8 +45,7 @@ module _ (rows : List ℤ) where
         go false e = rw e
 
   owns-at : (x y k : ℕ) → ownerKind x ≡ y → is rows k 0 x ≡ true → ownPlace rows k ≡ orEnd rows (ownerOf rows y k)
-  unfolding ownPlace ownerPlace
-  owns-at x y k o e = rw (is-num rows k 0 x e, o)
+  owns-at x y k o e = sym (own-at rows k {kind = x} (sym (is-num rows k 0 x e)) refl y o)
 
   -- rows of an activity: overlap 3, split 4, requirement 5, predecessor 8, speed 9, fixed timing 10, window 16, booking 23, span 24
   pub of-activity : (x a id : ℕ) → ownerKind x ≡ 2 → placeOf rows 2 id ≡ some a → (k : ℕ) → ownedBy rows a x k ≡ (is rows k 0 x && is rows k 1 id)

@@ -10,7 +10,7 @@ use lib.IntN.{ℤ, pos, negsuc, subℕ, negℤ, _+ℤ_, _-ℤ_, natAbs}
 use lib.Signed.{mag}
 use mir.Syntax.{w64}
 use mir.Val.{Fits, SFits, toZ, ofZ}
-use mir.Facts.{toZ-ofZ}
+use mir.Facts.{toZ-pos, toZ-ofZ}
 use lib.Pow.{pow-pos, pow-mono}
 use lib.Ieee.{Float, nan, inf, fin, Format, binary64, prec, emax, low, up, down, odd, units, round, mul, ofInt, lt, le, toUnsigned, neg, ofFields, ofBits}
 use lib.Ieee.Fits.{down-pos, round-is}
@@ -317,19 +317,16 @@ pub sum-mag : (a : ℕ) (z : ℤ) → mag (pos a +ℤ z) ≤ a + natAbs z
 sum-mag a (pos b) = omega arith
 sum-mag a (negsuc b) = mag-sub a (suc b)
 
-pub pos-back : (n : ℕ) → n < 2 ^ 63 → toZ w64 n ≡ pos n
-pos-back n h = rw (lt-ltb n (2 ^ 63) h)
-
 -- an operand as the machine reads it back
 module _ (end : ℕ) (lag : ℤ) (h : end ≤ 4000000000000) (k : natAbs lag ≤ 4000000000000) (f : SFits w64 lag) where
   sum-fits : SFits w64 (pos end +ℤ lag)
   sum-fits = let m = sum-mag end lag in record { sfits = omega arith }
 
   pub end-fits : SFits w64 (toZ w64 end +ℤ toZ w64 (ofZ w64 lag))
-  end-fits = rw (pos-back end (omega arith), toZ-ofZ f) sum-fits
+  end-fits = rw (toZ-pos w64 {n = end} (omega arith), toZ-ofZ f) sum-fits
 
   pub end-is : toZ w64 (ofZ w64 (toZ w64 end +ℤ toZ w64 (ofZ w64 lag))) ≡ pos end +ℤ lag
-  end-is = rw (pos-back end (omega arith), toZ-ofZ f) (toZ-ofZ sum-fits)
+  end-is = rw (toZ-pos w64 {n = end} (omega arith), toZ-ofZ f) (toZ-ofZ sum-fits)
 
 pub new-is : (bits : ℕ) (lag : ℤ) {x : Float} → x ≡ ofBits binary64 bits → SFits w64 lag
     → _≡_ {A = Overlap} (record { «start_after» = x; «finish_after_ms» = toZ w64 (ofZ w64 lag) }) (overlapOf bits lag)

@@ -1,4 +1,4 @@
-use Rattle.check9_constraints.proofs.ConstraintRows.{tested, none-told}
+use Rattle.check9_constraints.proofs.ConstraintRows.{none-told}
 use borrow.Author.Needs.{needs}
 use Rattle.check9_constraints.proofs.check_constraint.Statement.{statement}
 use Rattle.check9_constraints.proofs.check_constraint.Tie as tie
@@ -7,7 +7,7 @@ is-at-requires : tie.Need-is-at-requires
 is-at-requires c κs = search needs
 
 check-window-requires : tie.Need-check-window-requires
-check-window-requires c κs = (search needs, search tested)
+check-window-requires c κs = (search needs, cc)
 
 same-length : tie.Need-same-length
 same-length c = search needs
@@ -19,7 +19,7 @@ is-at-requires-2 : tie.Need-is-at-requires-2
 is-at-requires-2 c κs = search needs
 
 check-overlaps-requires : tie.Need-check-overlaps-requires
-check-overlaps-requires c κs = (search needs, search tested, search needs)
+check-overlaps-requires c κs = (search needs, cc, search needs)
 
 same-length-2 : tie.Need-same-length-2
 same-length-2 c = search needs
@@ -31,7 +31,7 @@ is-at-requires-3 : tie.Need-is-at-requires-3
 is-at-requires-3 c κs = search needs
 
 check-synchronize-requires : tie.Need-check-synchronize-requires
-check-synchronize-requires c κs = (search needs, search tested, search needs, search needs)
+check-synchronize-requires c κs = (search needs, cc, search needs, search needs)
 
 same-length-3 : tie.Need-same-length-3
 same-length-3 c = search needs

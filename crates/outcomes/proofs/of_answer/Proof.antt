@@ -1,14 +1,8 @@
-use Rattle.outcomes.specs.declared.Outcome.{Outcome}
-use Rattle.refusals.specs.declared.Answer.{Answer}
-use mathlib.Core.Path.{sym, ap, _∙_, _≡_}
 use Rattle.outcomes.specs.Outcome.{ofAnswer}
+use Rattle.outcomes.proofs.Known.{by-case}
 use borrow.Author.Needs.{needs}
 use Rattle.outcomes.proofs.of_answer.Statement.{statement}
 use Rattle.outcomes.proofs.of_answer.Tie as tie
-
--- an answer's numbers are those of the variant that it is
-by-variant : {r : Outcome} (a x : Answer) → a ≡ x → r ≡ ofAnswer x → r ≡ ofAnswer a
-by-variant a x e h = h ∙ sym (ap ofAnswer e)
 
 enum-known-answer : tie.Need-enum-known-answer
 enum-known-answer c = search needs
@@ -23,10 +17,10 @@ numbered-requires-2 : tie.Need-numbered-requires-2
 numbered-requires-2 c κs = search needs
 
 returns : tie.Need-returns
-returns c = search (needs, by-variant)
+returns c = search (needs, by-case ofAnswer)
 
 returns-2 : tie.Need-returns-2
-returns-2 c = search (needs, by-variant)
+returns-2 c = search (needs, by-case ofAnswer)
 
 pub of-answer-spec : {M : Type 1} → statement M
 of-answer-spec =

@@ -1,15 +1,9 @@
-use Rattle.outcomes.specs.declared.WorkEndOutcome.{WorkEndOutcome}
-use Rattle.work_end_inquiry.specs.declared.InquiryAnswer.{InquiryAnswer}
-use mathlib.Core.Path.{sym, ap, _∙_, _≡_}
 use Rattle.work_end_inquiry.specs.Inquiry.{outcomeOf}
 use Rattle.outcomes.specs.Outcome.{ofInquiry}
+use Rattle.outcomes.proofs.Known.{by-case}
 use borrow.Author.Needs.{needs}
 use Rattle.outcomes.proofs.of_inquiry.Statement.{statement}
 use Rattle.outcomes.proofs.of_inquiry.Tie as tie
-
--- an answer's numbers are those of the variant that it is
-by-variant : {r : WorkEndOutcome} (a x : InquiryAnswer) → a ≡ x → r ≡ ofInquiry (outcomeOf x) → r ≡ ofInquiry (outcomeOf a)
-by-variant a x e h = h ∙ sym (ap (λ (y : InquiryAnswer). ofInquiry (outcomeOf y)) e)
 
 enum-known-a : tie.Need-enum-known-a
 enum-known-a c = search needs
@@ -33,16 +27,16 @@ enum-known-a-2 : tie.Need-enum-known-a-2
 enum-known-a-2 c = search needs
 
 returns : tie.Need-returns
-returns c = search (needs, by-variant)
+returns c = search (needs, by-case (λ a. ofInquiry (outcomeOf a)))
 
 returns-2 : tie.Need-returns-2
-returns-2 c = search (needs, by-variant)
+returns-2 c = search (needs, by-case (λ a. ofInquiry (outcomeOf a)))
 
 returns-3 : tie.Need-returns-3
-returns-3 c = search (needs, by-variant)
+returns-3 c = search (needs, by-case (λ a. ofInquiry (outcomeOf a)))
 
 returns-4 : tie.Need-returns-4
-returns-4 c = search (needs, by-variant)
+returns-4 c = search (needs, by-case (λ a. ofInquiry (outcomeOf a)))
 
 pub of-inquiry-spec : {M : Type 1} → statement M
 of-inquiry-spec =

@@ -1,15 +1,9 @@
-use Rattle.outcomes.specs.declared.Outcome.{Outcome}
-use Rattle.refusals.specs.declared.Verdict.{Verdict}
-use mathlib.Core.Path.{sym, ap, _∙_, _≡_}
 use Rattle.refusals.specs.Refusals.{verdictOf}
 use Rattle.outcomes.specs.Outcome.{ofRefusal}
+use Rattle.outcomes.proofs.Known.{by-case}
 use borrow.Author.Needs.{needs}
 use Rattle.outcomes.proofs.of_verdict.Statement.{statement}
 use Rattle.outcomes.proofs.of_verdict.Tie as tie
-
--- a verdict's numbers are those of the variant that it is
-by-variant : {r : Outcome} (v x : Verdict) → v ≡ x → r ≡ ofRefusal (verdictOf x) → r ≡ ofRefusal (verdictOf v)
-by-variant v x e h = h ∙ sym (ap (λ (y : Verdict). ofRefusal (verdictOf y)) e)
 
 enum-told : tie.Need-enum-told
 enum-told c = search needs
@@ -24,10 +18,10 @@ numbered-requires-2 : tie.Need-numbered-requires-2
 numbered-requires-2 c κs = search needs
 
 returns : tie.Need-returns
-returns c = search (needs, by-variant)
+returns c = search (needs, by-case (λ v. ofRefusal (verdictOf v)))
 
 returns-2 : tie.Need-returns-2
-returns-2 c = search (needs, by-variant)
+returns-2 c = search (needs, by-case (λ v. ofRefusal (verdictOf v)))
 
 pub of-verdict-spec : {M : Type 1} → statement M
 of-verdict-spec =
