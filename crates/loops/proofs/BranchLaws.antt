@@ -9,11 +9,11 @@ use Rattle.loops.specs.Search.{orElse, someIf}
 
 -- ---- what a call gave, r, tells of what it is, b
 
-pub told : {r b v : Bool} → r ≡ b → r ≡ v → b ≡ v
-told e f = sym e ∙ f
-
 pub matched : {A : Type 0} {x y z : A} → x ≡ y → x ≡ z → y ≡ z
 matched e f = sym e ∙ f
+
+pub told : {r b v : Bool} → r ≡ b → r ≡ v → b ≡ v
+told = matched
 
 pub untold-yes : {r b : Bool} → r ≡ b → not r ≡ false → b ≡ true
 untold-yes {r} e f = sym e ∙ not-false r f
