@@ -62,7 +62,7 @@ extern "C" {
 #endif
 
 /* The product, raised with every delivery; and the rules, raised with every change after which some input is answered otherwise. */
-#define HUTCH_VERSION "1.0.0"
+#define HUTCH_VERSION "1.1.0"
 #define HUTCH_RULES 1
 
 /* An empty column. */
@@ -171,7 +171,8 @@ struct hutch_outcome sheet_read_text(const uint8_t *text, size_t length, int64_t
 struct hutch_outcome sheet_validate(const int64_t *rows, size_t length);
 
 /* THE CALL. Checks the week that the rows describe, and writes what is wrong with it to the lent numbers, four for each finding:
-   those of check 1 first, and so on to check 9. Only the order among the findings of check 5 is left open.
+   those of check 1 first, and so on to check 9; those of check 5 stand in the order of the rows in which their resources are booked
+   first. So equal rows give equal findings, number for number.
    Accepted: `place` is the count of findings, and the first 4 * place of the lent numbers hold them; 0: the week can be released.
    Refused: 1 to 7. Refusal 7 does not say how many there are: lend more. */
 struct hutch_outcome sheet_check_schedule(const int64_t *rows, size_t length, int64_t *findings, size_t room);

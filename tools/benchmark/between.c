@@ -4,7 +4,7 @@
 
    CALL is sheet_check_schedule or sheet_read_text. Reads lines "GROUP|NAME|N N ..", or, of texts, "GROUP|NAME|TEXT" with a semicolon for each line feed. Writes
    for each a line "GROUP|NAME|ROWS|NUMBER|PLACE|ROUNDS|OLD|NEW|OLD AGAIN|ANSWERS": the medians in nanoseconds, the number and the place that the
-   old one answers, and of the answers `same`, `order` (the same but for the order of check 5's lines) or what differs. The sheets of the group `once` come first and are run one after the other, each once in a round; any other is run alone,
+   old one answers, and of the answers `same` or what differs. The sheets of the group `once` come first and are run one after the other, each once in a round; any other is run alone,
    round after round. LAYOUT is a number that decides which comes first and how far apart they lie: at a distance of, say, 128 KiB two copies of the same code
    teach each other's branches to the processor, and the third one looks slower by up to a fifth. */
 #include <dlfcn.h>
@@ -15,7 +15,7 @@
 #include <sys/mman.h>
 #include <time.h>
 
-enum { ARMS = 3, ORDERS = 6, ROOM = 800000, LINE = 4, ROW = 10, PAGE = 4096, APART = 4096 };
+enum { ARMS = 3, ORDERS = 6, ROOM = 800000, ROW = 10, PAGE = 4096, APART = 4096 };
 
 static const double LONG_NS = 1e6;   /* a call that takes longer is timed by the processor time of the thread: it may be interrupted */
 static const double BUDGET_NS = 4e8; /* how long the rounds of a sheet may take together, once each arm was at each place */
@@ -141,32 +141,15 @@ static struct outcome answer(call *arm, const struct sheet *s, int64_t *to) {
     return arm(s->lent, s->length, to, ROOM);
 }
 
-static int by_numbers(const void *a, const void *b) {
-    const int64_t *x = a, *y = b;
-    for (int i = 0; i < LINE; i++)
-        if (x[i] != y[i]) return x[i] < y[i] ? -1 : 1;
-    return 0;
-}
-
-/* Sorts each run of lines of check 5. */
-static void sort_check_5(int64_t *list, uint64_t count) {
-    for (uint64_t from = 0, to; from < count; from = to) {
-        for (to = from; to < count && list[LINE * to] == 5; to++) continue;
-        qsort(list + LINE * from, to - from, LINE * sizeof *list, by_numbers);
-        if (to == from) to++;
-    }
-}
-
 static void print_answers(struct outcome a, struct outcome b) {
     if (a.number != b.number || a.place != b.place) {
         printf("answers %lu, %lu and %lu, %lu\n", a.number, a.place, b.number, b.place);
     } else if (!memcmp(written, other, sizeof written)) {
         puts("same");
     } else {
-        if (!of_texts && !a.number && a.place <= ROOM / LINE) sort_check_5(written, a.place), sort_check_5(other, a.place);
         size_t i = 0;
-        while (i < ROOM && written[i] == other[i]) i++;
-        i == ROOM ? puts("order") : printf("the lent number at %zu: %ld and %ld\n", i, written[i], other[i]);
+        while (written[i] == other[i]) i++;
+        printf("the lent number at %zu: %ld and %ld\n", i, written[i], other[i]);
     }
 }
 

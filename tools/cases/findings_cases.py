@@ -3,7 +3,7 @@
 
     findings_cases.py [FOLDER]            the list anew
     findings_cases.py --keep [FOLDER]     the stored sheets as they are, with the answers of today's reference; prints the cases whose
-                                          answers changed. A sheet of findings_named.py that is not stored yet is added at the end
+                                          answers changed. A sheet of findings_named.py, or for the order of check 5, that is not stored yet is added at the end
 
 The findings are those of the reference, compiled unchanged; the refusals 1 to 6 and the room (7) are those of the second
 reading of the rules. For the sheets of findings_named.py the findings were written down by hand too, and the reference
@@ -25,6 +25,7 @@ from reading import CAP, NONE, bits_of
 
 SEVERITY = {1: 80, 2: 90, 3: 95, 4: 85, 5: 70, 6: 95, 7: 75, 8: 75, 9: 95, 10: 90, 11: 90}
 ROOM = 8000
+ORDERED = 44  # sheets for the order of check 5's lines
 
 
 def numbers_of(lines):
@@ -150,6 +151,27 @@ def shifts(c):
                 c.case(f"{remark}, shifted by {by}", reading.shifted(numbers, by), room)
 
 
+def orders_of(numbers, answer):
+    """The overloaded resources of a sheet: by the row of the first booking, which is promised; and by id, by the time of
+    that booking, by the earliest booking, by the row of the last booking."""
+    rows = [r for r in reading.rows_of(numbers) if r[0] == 23]
+    over = sorted(int(f.split(",")[2]) for f in answer.split()[2:] if f.startswith("5,"))
+    on = {x: [(place, r[4]) for place, r in enumerate(rows) if r[3] == x] for x in over}
+    keys = [lambda x: on[x][0][0], lambda x: x, lambda x: on[x][0][1], lambda x: min(t for _, t in on[x]), lambda x: on[x][-1][0]]
+    return [sorted(over, key=key) for key in keys]
+
+
+def ordered():
+    """Sheets with three or more overloaded resources of which every other order differs from the promised one."""
+    pool = [generate.flat(generate.overloaded(random.Random(f"stored overloaded {number}"))) for number in range(400)]
+    found = []
+    for number, (numbers, answer) in enumerate(zip(pool, answering.answers([" ".join(map(str, numbers)) for numbers in pool]), strict=True)):
+        by_row, *others = orders_of(numbers, answer)
+        if len(by_row) >= 3 and by_row not in others and others[0] not in others[1:]:
+            found.append((f"overloaded {number}: " + " ".join(map(str, by_row)), numbers))
+    return found[:ORDERED]
+
+
 def stored(folder):
     """The cases that are stored, by file: remark, numbers, room, and the judged line."""
     files = sorted((f for f in os.listdir(folder) if f.startswith("findings-")), key=lambda f: int(f[9:-4]))
@@ -159,9 +181,10 @@ def stored(folder):
 def keep(folder):
     files, hand = stored(folder), {remark: (numbers_of(lines), said(findings)) for remark, lines, findings in NAMED + LATER}
     known = {remark for cases in files.values() for remark, *_ in cases}
-    files[list(files)[-1]] += [(remark, numbers, [ROOM], None) for remark, (numbers, _) in hand.items() if remark not in known]
-    changed, written = [], {}
-    for file, cases in files.items():
+    added = [(remark, numbers) for remark, (numbers, _) in hand.items()] + ordered()
+    files[list(files)[-1]] += [(remark, numbers, [ROOM], None) for remark, numbers in added if remark not in known]
+    changed, written = [], []
+    for cases in files.values():
         c = Calls()
         for remark, numbers, judged, _ in cases:
             numbers, expected = hand.get(remark, (numbers, None))
@@ -171,10 +194,8 @@ def keep(folder):
             lines = [[int(x) for x in line[1:].split(b",")] for line in text.split(b"\n") if line[:1] in (b"e", b"C")]
             if [x for times, *finding in lines[:-1] for x in finding * times] != expected or lines[-1] != judged:
                 changed.append(remark)
-        written[file] = b"".join(made)
-    for file, text in written.items():  # all or none: where a sheet stops the run, the next one still lists every change
-        with open(os.path.join(folder, file), "wb") as out:
-            out.write(text)
+        written += made
+    listing.write(folder, "findings", written)  # all or none: where a sheet stops the run, the next one still lists every change
     print(f"{sum(map(len, files.values()))} cases, {len(changed)} changed or new" + "".join(f"\n  {remark}" for remark in changed))
 
 
@@ -186,6 +207,8 @@ def main(folder):
     seen = drawn(c)
     shifts(c)
     named(c, LATER)
+    for remark, numbers in ordered():
+        c.case(remark, numbers)
     cases = list(c.cases())
     listing.write(folder, "findings", cases)
     print(f"{len(cases)} cases; drawn, by check and type: " + ", ".join(f"{'.'.join(p)} {n}" for p, n in sorted(seen.items())))

@@ -1,5 +1,5 @@
 """Sheets made by hand for the points at which a check can go wrong, each with the findings that the rules and the Rust
-give it, written down by hand: CHECK.TYPE.ENTITY, in order (check 5's in the order of resources). findings_cases.py holds
+give it, written down by hand: CHECK.TYPE.ENTITY, in order (check 5's by the rows of first bookings). findings_cases.py holds
 the reference to them.
 
 Activity 10 of task 1 takes 10 ms on resource 5; 11 is a second activity of that task, 12 one of task 2.
@@ -181,7 +181,7 @@ NAMED = [
     ("the usage by candidates", [TASK, TEN, "5,10,8,1,9", NEEDS, "6,10,0,5", MACHINE, BOOKED], "4.6.10 5.2.5"),
     ("an external booking uses 1", [TASK, TEN, "5,10,7,1,2", "11,5,7,2", BOOKED, "23,99,9,5,9,10,0,,"], "5.2.5"),
     ("a known activity on what it needs not uses 1", SHOP + ["11,6,8,1", "23,10,1,6,0,10,0,,", "5,10,7,0,5"], "4.6.10"),
-    ("two resources over", ["23,9,9,5,0,10,0,,", "23,9,9,5,0,10,0,,", "23,9,9,4,0,10,0,,", "23,9,9,4,0,10,0,,"], "5.2.4 5.2.5"),
+    ("two resources over", ["23,9,9,5,0,10,0,,", "23,9,9,5,0,10,0,,", "23,9,9,4,0,10,0,,", "23,9,9,4,0,10,0,,"], "5.2.5 5.2.4"),
     ("a resource over twice is one finding", ["11,5,7,1", "23,9,9,5,0,10,0,,", "23,9,9,5,0,10,0,,", "23,9,9,5,20,30,0,,", "23,9,9,5,20,30,0,,"], "5.2.5"),
     # 6 check_calendars
     ("in a window", DONE + ["15,5,0,0,10"], ""),
@@ -324,4 +324,8 @@ LATER = [
     # 7 check_precedence
     ("each piece just in time for its own transport", TWO_STEPS + ["11,8,7,1", "14,5,6,1", "14,5,8,5", "4,11,2,0,0", BOOKED, "23,11,1,6,11,16,0,0,5",
                                                                   "23,11,1,8,15,20,0,1,5"], ""),
+    # 5 check_capacity
+    ("three resources over, by row, not by id, time, last booking or first load",
+     ["23,90,9,5,30,30,0,,", "23,90,9,9,10,20,0,,", "23,90,9,2,20,30,0,,", "23,91,9,2,20,30,0,,", "23,91,9,9,10,20,0,,", "23,91,9,5,40,50,0,,", "23,92,9,5,40,50,0,,"],
+     "5.2.5 5.2.9 5.2.2"),
 ]

@@ -108,6 +108,17 @@ def within(line, room):
     return refusal(7, 0) if word == "accepted" and int(count) > room // 4 else line
 
 
+def by_first_booking(sheet, line):
+    """The reference's line with check 5's findings, whose order the reference leaves open, in ours: by the row of each
+    resource's first booking, whatever that booking's time, and also where it adds no load."""
+    words = line.split()
+    at = [i for i, word in enumerate(words) if words[0] == "accepted" and word.startswith("5,")]
+    if len(at) > 1:
+        booked = [r[3] for r in reading.rows_of(sheet) if r[0] == 23]
+        words[at[0] : at[-1] + 1] = sorted(words[at[0] : at[-1] + 1], key=lambda word: booked.index(int(word.split(",")[2])))
+    return " ".join(words)
+
+
 def answers(lines, program=None):
     """The answers to cases, in their order."""
     found = [own_answer(*split_case(line)) for line in lines]
@@ -115,5 +126,6 @@ def answers(lines, program=None):
     if asked:
         lines = by_reference([found[at][0] for at in asked], program or build())
         for at, line in zip(asked, lines, strict=True):
-            found[at] = within(line, found[at][1])
+            sheet, room = found[at]
+            found[at] = within(by_first_booking(sheet, line), room)
     return found

@@ -781,8 +781,29 @@ def meeting(rng):
     return mixed(rng, rows)
 
 
+def overloaded(rng):
+    """Several resources, most of them overloaded, whose order by row, by id, by time and by last booking differ."""
+    resources = rng.sample(range(40), rng.randint(3, 7))
+    rows = [row(1, 1, NONE, NONE), row(2, 10, 1, 0, 0, 5, 0, 0, NONE)]
+    rows += [row(11, r, 7, rng.choice([1, 1, 1, 2, 0, -4])) for r in rng.sample(resources, rng.randint(1, len(resources)))]
+    known = [r[1] for r in rows if r[0] == 11]
+    rows.append(row(5, 10, 7, 1, rng.choice([0, 1, 1, 2, 5])))
+    if rng.random() < 0.4:
+        rows.append(row(18, rng.choice(resources), rng.choice([0, -1, 1, 2])))
+    bookings = []
+    for r in resources:
+        at = rng.randint(0, 60)
+        for _ in range(rng.choice([2, 2, 3, 3, 4])):
+            start = at + rng.randint(0, 3)
+            bookings.append(row(23, rng.choice([10, 10, 99]), rng.choice([1, 9]), r, start, start + rng.choice([4, 6, 10, 0, -1]) if start else 4, 0, NONE, NONE))
+    rng.shuffle(bookings)
+    if known and rng.random() < 0.5:  # a first booking that adds no load
+        bookings.insert(0, row(23, 99, 9, rng.choice(resources), 70, 70, 0, NONE, NONE))
+    return mixed(rng, rows + bookings) if rng.random() < 0.5 else rows + bookings
+
+
 SHAPES = [(small, 36), (middle, 8), (day, 16), (week, 3), (full, 0.6), (crowd, 0.4), (resumable, 12), (parted, 14), (spread, 6), (stretched, 4),
-          (meeting, 16)]
+          (meeting, 16), (overloaded, 5)]
 
 
 def sheet(rng):

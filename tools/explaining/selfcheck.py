@@ -2,7 +2,7 @@
 
 The examples, and N generated sheets of each of three families (sheets, broken, texts of tools/differential/generate.py), go through
 the program; what it answers is explained. It is looked whether
-  - each finding has a reason, each reason a finding, and the tool's own list is the program's, line for line (check 5's in any order);
+  - each finding has a reason, each reason a finding, and the tool's own list is the program's, line for line;
   - the figures imply the finding: the comparison that decides its cause is there, each comparison holds, each figure that is said
     to stand in a row stands there in its column, each sum is that of its parts, what was worked out is in the words, and times that
     are needed or worked are those of tools/differential/reading.py;
@@ -83,13 +83,8 @@ def judge_findings(tally, name, text, explanation):
     for reason in explanation.spare:
         tally.fault(name, f"no finding of the program for {reason.key}, {reason.cause}")
     own = [reason.key for reason in checks.reasons(Sheet(numbers))]
-    if collected(own) != collected([finding[:3] for finding in explanation.answer.findings]):
+    if own != [finding[:3] for finding in explanation.answer.findings]:
         tally.fault(name, "the tool's own list is not the program's")
-
-
-def collected(keys):
-    """The list with check 5's lines, which may stand in any order, sorted."""
-    return [key for key in keys if key[0] < 5] + sorted(key for key in keys if key[0] == 5) + [key for key in keys if key[0] > 5]
 
 
 def not_implied(reason, lines):

@@ -28,7 +28,7 @@ use core::slice::ChunksExact;
 compile_error!("libhutchdecade.a is for x86-64 with the System V calling convention");
 
 /// The version of the product.
-pub const VERSION: &str = "1.0.0";
+pub const VERSION: &str = "1.1.0";
 /// The revision of the rules: raised with every change after which some input is answered otherwise.
 pub const RULES: u32 = 1;
 /// An empty column.
@@ -261,7 +261,8 @@ impl Finding {
     }
 }
 
-/// The findings of an accepted sheet, in the lent numbers.
+/// The findings of an accepted sheet, in the lent numbers: those of check 1 first, and so on to check 9; those of check 5 stand in the
+/// order of the rows in which their resources are booked first. So equal rows give equal findings, one by one.
 #[derive(Debug, Clone)]
 #[must_use = "a week without findings is released"]
 pub struct Findings<'a>(ChunksExact<'a, i64>);

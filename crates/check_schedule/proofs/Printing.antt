@@ -25,20 +25,20 @@ use Rattle.text_fields.specs.Parts.{parts}
 use Rattle.text.specs.Text.{answerFrom, answerOf, rowsOf, rowsAfter}
 use Rattle.refusals.specs.declared.Answer.{Answer}
 use Rattle.refusals.specs.declared.Answer.the-variants.{Accepted, Refused}
-use Rattle.text.proofs.TextLaws.{accepted-rows}
 use Rattle.refusals.specs.Refusals.{Refusal}
-use Rattle.refusals.proofs.AnswerLaws.{same-count, not-both}
+use Rattle.refusals.proofs.AnswerLaws.{no-accept}
+use Rattle.text.proofs.TextLaws.{accepted-rows}
 use Rattle.findings.specs.Findings.{flat}
 use Rattle.findings.proofs.SinkLaws.{flat-length}
 use Rattle.definition.specs.CheckSchedule.{findings}
 use Rattle.feasibility.specs.Refusals.{sheetRefusal, refusal}
-use Rattle.feasibility.specs.Call.{Ended, Checked}
-use Rattle.feasibility.proofs.Calls.{length-listed}
+use Rattle.refusals.specs.Lending.{answered, lentAfter}
+use Rattle.feasibility.specs.Call.{checkAnswer, findingsAfter}
 use Rattle.printing.specs.Decimal.{decimal}
 use Rattle.printing.specs.NumberLines.{numberLine, lineAt, numberLines}
 use Rattle.printing.specs.Printed.{acceptedWord, printedRefused, printedAccepted, printed}
 use Rattle.printing.proofs.FitLaws.{Small, accepted-fits, refused-fits}
-use Rattle.check_schedule.specs.Program.{PrintedBy, PrintedSheet, PrintedText}
+use Rattle.check_schedule.specs.Program.{printedSheet, printedText}
 
 -- ---- numbers of 64 bits
 
@@ -87,65 +87,50 @@ module _ (xs ys : List ℤ) where
 
 -- ---- a sheet
 
--- the findings, handed on
-pub checked-kept : {rows before found found′ : List ℤ} {a : Answer} → found′ ≡ found → Checked rows before a found → Checked rows before a found′
-checked-kept {rows = rows} {before = before} {a = a} p c = subst (Checked rows before a) (sym p) c
+-- as many as are lent
+abbrev pub Few : Answer → Type 0
+Few (Accepted n) = n ≤ 2000
+Few (Refused number place) = Unit {0}
 
-few : (rows : List ℤ) → refusal rows 2000 ≡ none → length (findings rows) ≤ 2000
+few : (rows : List ℤ) (o : Option Refusal) → refusal rows 2000 ≡ o → Few (answered o (length (findings rows)))
 unfolding refusal
-few rows e = omega (arith, ltb-false 2000 (length (findings rows)) (if-none (ltb 2000 (length (findings rows))) _ (or-none-right (sheetRefusal rows) _ e)))
+few rows none e =
+    omega (arith, ltb-false 2000 (length (findings rows)) (if-none (ltb 2000 (length (findings rows))) _ (or-none-right (sheetRefusal rows) _ e)))
+few rows (some x) e = tt
 
-module _ (rows before : List ℤ) (room : 8000 ≡ length before) where
-  entry : {r : _} {found : List ℤ} → Checked rows before r found → Ended (refusal rows 2000) rows before r found
-  entry {r} {found} c =
-      let e : length before / 4 ≡ 2000 = omega arith in
-      subst (λ k. Ended (refusal rows k) rows before r found) e (c .ended)
+fits : (a : Answer) (found : List ℤ) → Small found → Bounded a → Few a → length (printed a found) ≤ 168030
+fits (Accepted n) found s b f = accepted-fits found s n f
+fits (Refused number place) found s b f = omega (arith, refused-fits number place (b .0) (b .1))
 
-  module _ (o : List ℕ) (long : length o ≡ 168030) {o′ : List ℕ} {r : ℕ} where
-    accepted-by : (t : Option Refusal) (n : ℕ) (found : List ℤ) → (t ≡ none → length (findings rows) ≤ 2000)
-        → Ended t rows before (Accepted n) found
-        → Small found
-        → r ≡ min (length (printedAccepted n found)) (length o) → o′ ≡ sets o 0 (printedAccepted n found)
-        → (r ≤ 168030) × PrintedBy t rows (take r o′)
-    accepted-by (some x) n found h e f q s = absurd (not-both (e .answered))
-    accepted-by none n found h e f q s =
-        let z : n ≡ length (findings rows) = same-count (e .counted) in
-        let d = stands o (printedAccepted n found) long (accepted-fits found f n (omega (arith, h refl))) q s in
-        let l : length (flat (e .lines)) ≡ 4 * n = flat-length (e .lines) ∙ ap (λ m. 4 * m) (length-listed rows (e .lines) (e .listed) ∙ sym z) in (
-          d .within,
-          record {
-            lines = e .lines;
-            listed = e .listed;
-            printed = d .first ∙ ap (printedAccepted n) (e .buffer) ∙ accepted-first (flat (e .lines)) _ n l ∙ ap (λ m. printedAccepted m (flat (e .lines))) z;
-          },
-        )
+as-written : (rows before : List ℤ) (o : Option Refusal)
+    → printed (answered o (length (findings rows))) (lentAfter o (flat (findings rows)) before) ≡ printed (answered o (length (findings rows))) (flat (findings rows))
+as-written rows before none = accepted-first (flat (findings rows)) _ (length (findings rows)) (flat-length (findings rows))
+as-written rows before (some x) = refl
 
-    refused-by : (t : Option Refusal) (number place : ℕ) (found : List ℤ)
-        → Ended t rows before (Refused number place) found
-        → number < 2 ^ 64 → place < 2 ^ 64
-        → r ≡ min (length (printedRefused number place)) (length o) → o′ ≡ sets o 0 (printedRefused number place)
-        → (r ≤ 168030) × PrintedBy t rows (take r o′)
-    refused-by none number place found e h l q s = absurd (not-both (sym (e .counted)))
-    refused-by (some x) number place found e h l q s =
-        let d = stands o (printedRefused number place) long (omega (arith, refused-fits number place h l)) q s in
-        let a : number ≡ x .number = cc (e .answered) in
-        let b : place ≡ x .place = cc (e .answered) in
-        (d .within, d .first ∙ λ i. printedRefused (a i) (b i))
+-- the call's buffer, lent, is handed on as found
+module _ (rows before : List ℤ) (room : 8000 ≡ length before) (o : List ℕ) (long : length o ≡ 168030) {o′ : List ℕ} {r : ℕ}
+    (a : Answer) (p : a ≡ checkAnswer rows (length before / 4)) (lent found : List ℤ) (q : lent ≡ findingsAfter rows before) (same : found ≡ lent)
+    (small : Small found) (bounded : Bounded a) (told : r ≡ min (length (printed a found)) (length o)) (put : o′ ≡ sets o 0 (printed a found)) where
+  two-thousand : length before / 4 ≡ 2000
+  two-thousand = omega arith
 
-    by-answer : (t : Option Refusal) (a : Answer) (found : List ℤ) → (t ≡ none → length (findings rows) ≤ 2000)
-        → Ended t rows before a found → Small found → Bounded a
-        → r ≡ min (length (printed a found)) (length o) → o′ ≡ sets o 0 (printed a found)
-        → (r ≤ 168030) × PrintedBy t rows (take r o′)
-    by-answer t (Accepted n) found h e f b q s = accepted-by t n found h e f q s
-    by-answer t (Refused number place) found h e f b q s = refused-by t number place found e (b .0) (b .1) q s
+  answer : a ≡ answered (refusal rows 2000) (length (findings rows))
+  unfolding checkAnswer
+  answer = rw two-thousand at p
 
-    module _ (a : Answer) (found : List ℤ) (c : Checked rows before a found) (f : Small found) (b : Bounded a)
-        (q : r ≡ min (length (printed a found)) (length o)) (s : o′ ≡ sets o 0 (printed a found)) where
-      pub sheet-within : r ≤ 168030
-      sheet-within = by-answer (refusal rows 2000) a found (few rows) (entry c) f b q s .0
+  left : found ≡ lentAfter (refusal rows 2000) (flat (findings rows)) before
+  unfolding findingsAfter
+  left = same ∙ (rw two-thousand at q)
 
-      pub sheet-printed : PrintedSheet rows (take r o′)
-      sheet-printed = record { by-table = by-answer (refusal rows 2000) a found (few rows) (entry c) f b q s .1 }
+  stood-sheet : Stands (printed a found) r o′
+  stood-sheet = stands o (printed a found) long (fits a found small bounded (subst Few (sym answer) (few rows (refusal rows 2000) refl))) told put
+
+  pub sheet-within : r ≤ 168030
+  sheet-within = stood-sheet .within
+
+  pub sheet-printed : take r o′ ≡ printedSheet rows
+  unfolding printedSheet checkAnswer
+  sheet-printed = stood-sheet .first ∙ (λ i. printed (answer i) (left i)) ∙ as-written rows before (refusal rows 2000)
 
 -- ---- a text
 
@@ -161,8 +146,9 @@ module _ (text : List ℕ) (lent : List ℤ) (room : 8000 ≡ length lent) {a : 
     pub refused-within : r ≤ 168030
     refused-within = stood .within
 
-    pub text-refused : PrintedText text (take r o′)
-    text-refused = let z : answerOf text 800 ≡ Refused number place = sym answer-is ∙ e in record { by-answer = rw z (stood .first) }
+    pub text-refused : take r o′ ≡ printedText text
+    unfolding printedText
+    text-refused = let z : answerOf text 800 ≡ Refused number place = sym answer-is ∙ e in rw z (stood .first)
 
   -- the rows of an accepted text
   rows-are : (n : ℕ) → answerOf text 800 ≡ Accepted n → (length (rowsOf (parts 10 text)) ≡ 10 * n) × (n ≤ 800)
@@ -170,7 +156,7 @@ module _ (text : List ℕ) (lent : List ℤ) (room : 8000 ≡ length lent) {a : 
   rows-are n e = go (ltb 65536 (length text)) e
     where
       go : (t : Bool) → cond t (Refused 8 0) (answerFrom 800 0 (parts 10 text)) ≡ Accepted n → (length (rowsOf (parts 10 text)) ≡ 10 * n) × (n ≤ 800)
-      go true e = let z : _≡_ {A = ℕ} 0 1 = cc in absurd (omega arith)
+      go true e = absurd (no-accept e)
       go false e = let w = accepted-rows 800 0 (parts 10 text) n (omega arith) e in (omega (arith, w .0), w .1)
 
   -- up to ten numbers of each of them lie within the rows lent
@@ -188,12 +174,13 @@ module _ (text : List ℕ) (lent : List ℤ) (room : 8000 ≡ length lent) {a : 
     rows-first rows l = sym (length-take-le (m * n) rows (rows-within rows l))
 
   pub text-accepted : {rows : List ℤ} {n : ℕ} (bytes : List ℕ) → rows ≡ rowsAfter (answerOf text (length lent / 10)) text lent → a ≡ Accepted n
-      → PrintedSheet (take (10 * n) rows) bytes → PrintedText text bytes
+      → bytes ≡ printedSheet (take (10 * n) rows) → bytes ≡ printedText text
+  unfolding printedText
   text-accepted {n = n} bytes e q p =
       let z : answerOf text 800 ≡ Accepted n = sym answer-is ∙ q in
       let w : answerOf text (length lent / 10) ≡ Accepted n = sym told ∙ q in
       let first : take (10 * n) _ ≡ rowsOf (parts 10 text) = ap (take (10 * n)) (rw w at e) ∙ take-at (rowsOf (parts 10 text)) _ (10 * n) (rows-are n z .0) in
-      record { by-answer = rw z (subst (λ (l : List ℤ). PrintedSheet l bytes) first p) }
+      rw z (p ∙ ap printedSheet first)
 
 -- ---- the program's buffers
 

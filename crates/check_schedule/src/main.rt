@@ -2,7 +2,7 @@
 ghost use mathlib.Core.Path.{_≡_};
 ghost use Prim.Native.Nat.{_≤_};
 ghost use lib.ListN.{length, take};
-ghost use Rattle.check_schedule.specs.Program.{PrintedSheet, PrintedText};
+ghost use Rattle.check_schedule.specs.Program.{printedSheet, printedText};
 use program_io::Input;
 use refusals::Answer;
 
@@ -38,7 +38,7 @@ fn kept(numbers: [i64; 8000]) -> [i64; 8000]
 fn print_sheet(rows: &[i64], out: &mut [u8]) -> usize
     requires { ⌜ length (now out) ≡ 168030 ⌝ }
     ensures { λ r. ⌜ r ≤ 168030 ⌝ }
-    ensures { λ r. ⌜ PrintedSheet (now (rows .entry)) (take r (now (out .exit))) ⌝ }
+    ensures { λ r. ⌜ take r (now (out .exit)) ≡ printedSheet (now (rows .entry)) ⌝ }
 {
     let mut found = numbers();
     let answer = feasibility::check_schedule(rows, &mut found);
@@ -50,7 +50,7 @@ fn print_sheet(rows: &[i64], out: &mut [u8]) -> usize
 fn print_text(text: &[u8], out: &mut [u8]) -> usize
     requires { ⌜ length (now out) ≡ 168030 ⌝ }
     ensures { λ r. ⌜ r ≤ 168030 ⌝ }
-    ensures { λ r. ⌜ PrintedText (now (text .entry)) (take r (now (out .exit))) ⌝ }
+    ensures { λ r. ⌜ take r (now (out .exit)) ≡ printedText (now (text .entry)) ⌝ }
 {
     let mut rows = numbers();
     let read = text::read_text(text, &mut rows);

@@ -1,4 +1,5 @@
--- Check 5: `check_capacity` of scheduler/feasibility.rs. The Rust leaves the order of the resources open; here it is that of their first bookings.
+-- Check 5: `check_capacity` of scheduler/feasibility.rs. The Rust leaves the order of the resources open; here it is that of the
+-- rows of their first bookings.
 use Prim.Native.Nat.{ℕ}
 use mathlib.Core.List.{List}
 use lib.IntN.{pos}

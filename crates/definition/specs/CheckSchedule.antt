@@ -15,15 +15,17 @@ use Rattle.definition.specs.CheckDeadlines.{checkDeadlines}
 use Rattle.definition.specs.CheckConstraints.{checkConstraints}
 
 module _ {T : Type 0} (K : Clock T) (s : Sheet T) where
-  -- checks 1 to 4, and 6 to 9
-  unfoldable pub beforeCapacity : List Violation
-  beforeCapacity = checkAssignments K s ++ checkTimeOnly K s ++ checkParts s ++ checkRequirements K s
-
-  unfoldable pub afterCapacity : List Violation
-  afterCapacity = checkCalendars K s ++ checkPrecedence K s ++ checkDeadlines K s ++ checkConstraints K s
-
   unfoldable pub checkSchedule : List Violation
-  checkSchedule = beforeCapacity ++ checkCapacity K s ++ afterCapacity
+  checkSchedule =
+      checkAssignments K s
+      ++ checkTimeOnly K s
+      ++ checkParts s
+      ++ checkRequirements K s
+      ++ checkCapacity K s
+      ++ checkCalendars K s
+      ++ checkPrecedence K s
+      ++ checkDeadlines K s
+      ++ checkConstraints K s
 
 -- the findings of a sheet that is lent as rows
 unfoldable pub findings : List ℤ → List Violation

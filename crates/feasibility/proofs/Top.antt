@@ -1,7 +1,7 @@
 -- The ways in which the call ends, from what its passes over the checks ensure. Assumes nothing.
 use Prim.Native.Nat.{ℕ, _*_, _/_, _^_, _<_, _≤_}
 use mathlib.Core.Path.{_≡_, refl, ap, sym, _∙_}
-use mathlib.Core.List.{List, _++_}
+use mathlib.Core.List.{List, _++_, append-assoc}
 use mathlib.Core.Option.{none, some}
 use native.Mathlib.Omega.{arith}
 use native.Mathlib.Nat.{mul-comm}
@@ -9,7 +9,6 @@ use lib.IntN.{ℤ}
 use lib.ListN.{length, take, drop}
 use lib.Seq.{take-at}
 use borrow.Author.Tests.{lt-ltb, le-ltb}
-use Rattle.calendar.specs.Clock.{clock}
 use Rattle.findings.specs.declared.Violation.{Violation}
 use Rattle.findings.specs.Findings.{flat}
 use Rattle.findings.specs.inner.Sink.{Sink, sink, emit}
@@ -28,83 +27,88 @@ use Rattle.derived_times.specs.Times.{timeRefusal}
 use Rattle.derived_times.specs.inner.Needs.{Times, Needs}
 use Rattle.derived_times.proofs.Refusing.{needs-of}
 use Rattle.model.specs.inner.Indexed.{Indexed}
+use Rattle.calendar.specs.Clock.{clock}
 use Rattle.model.specs.Sheet.{sheet}
 use Rattle.definition.specs.CheckCapacity.{checkCapacity}
 use Rattle.definition.specs.CheckSchedule.{checkSchedule, findings}
+use Rattle.feasibility.specs.inner.Order.{beforeCapacity, afterCapacity}
+use Rattle.refusals.specs.declared.Answer.{Answer}
 use Rattle.refusals.specs.declared.Answer.the-variants.{Accepted as Call·Accepted, Refused as Call·Refused}
 use Rattle.feasibility.specs.Refusals.{sheetRefusal, refusal}
-use Rattle.feasibility.specs.Call.{Listed, Checked}
+use Rattle.feasibility.specs.Call.{checkAnswer, findingsAfter}
 
 -- checks that run one after the other have reported their findings one after the other
-pub in-turn-3 : (a b c : List Violation) (s s₁ s₂ : Sink) {s₃ : Sink} → s₃ ≡ emit s₂ c → s₂ ≡ emit s₁ b → s₁ ≡ emit s a → s₃ ≡ emit s (a ++ b ++ c)
-in-turn-3 a b c s s₁ s₂ r q p = emit-then (a ++ b) c s (emit-then a b s p q) r
+in-turn-3 : (a b c : List Violation) (s s₁ s₂ : Sink) {s₃ : Sink} → s₁ ≡ emit s a → s₂ ≡ emit s₁ b → s₃ ≡ emit s₂ c → s₃ ≡ emit s (a ++ b ++ c)
+in-turn-3 a b c s s₁ s₂ p q r = emit-then (a ++ b) c s (emit-then a b s p q) r
 
-pub in-turn : (a b c d : List Violation) (s s₁ s₂ s₃ : Sink) {s₄ : Sink} → s₄ ≡ emit s₃ d → s₃ ≡ emit s₂ c → s₂ ≡ emit s₁ b → s₁ ≡ emit s a
+pub in-turn : (a b c d : List Violation) (s s₁ s₂ s₃ : Sink) {s₄ : Sink} → s₁ ≡ emit s a → s₂ ≡ emit s₁ b → s₃ ≡ emit s₂ c → s₄ ≡ emit s₃ d
     → s₄ ≡ emit s (a ++ b ++ c ++ d)
-in-turn a b c d s s₁ s₂ s₃ t r q p = emit-then (a ++ b ++ c) d s (in-turn-3 a b c s s₁ s₂ r q p) t
+in-turn a b c d s s₁ s₂ s₃ p q r t = emit-then (a ++ b ++ c) d s (in-turn-3 a b c s s₁ s₂ p q r) t
 
--- the definition's own order is one that the call may write
-in-order : (rows : List ℤ) → Listed rows (findings rows)
-unfolding findings checkSchedule
-in-order rows = record { capacity = checkCapacity clock (sheet rows); places = refl; often = λ f. refl; whole = refl }
+-- the nine, in their three parts
+parts : (rows : List ℤ) → beforeCapacity rows ++ checkCapacity clock (sheet rows) ++ afterCapacity rows ≡ findings rows
+unfolding findings checkSchedule beforeCapacity afterCapacity
+parts rows = simp append-assoc refl
+
+pub all-in-turn : (rows : List ℤ) (s s₁ s₂ : Sink) {s₃ : Sink} → s₁ ≡ emit s (beforeCapacity rows) → s₂ ≡ emit s₁ (checkCapacity clock (sheet rows))
+    → s₃ ≡ emit s₂ (afterCapacity rows)
+    → s₃ ≡ emit s (findings rows)
+all-in-turn rows s s₁ s₂ p q r = in-turn-3 _ _ _ s s₁ s₂ p q r ∙ ap (emit s) (parts rows)
+
+-- the call on these rows, lent the buffer o, answers so and leaves the buffer o′
+abbrev pub Ends : List ℤ → List ℤ → Answer → List ℤ → Type 0
+Ends rows o answer o′ = (answer ≡ checkAnswer rows (length o / 4)) × (o′ ≡ findingsAfter rows o)
 
 module _ (rows o : List ℤ) where
   -- refused by 1 to 6
-  refused-sheet : (e : Refusal) → sheetRefusal rows ≡ some e → Checked rows o (Call·Refused (e .number) (e .place)) o
-  unfolding refusal
-  refused-sheet e h = record { ended = rw h (record { answered = refl; unchanged = refl }) }
+  refused-sheet : (e : Refusal) → sheetRefusal rows ≡ some e → Ends rows o (Call·Refused (e .number) (e .place)) o
+  unfolding refusal checkAnswer findingsAfter
+  refused-sheet e h = (rw h, rw h)
 
-  module _ (passed : sheetRefusal rows ≡ none) (o₀ : List ℤ) where
-    pub accepted-all : {x o₁ o′ : List ℤ} {k n : ℕ} {r : Handed} → length o < 2 ^ 60 → sink x k ≡ emit (sink o₀ 0) (findings rows)
-        → r ≡ handed (length o / 4) (length x / 4) k → o₁ ≡ afterHanding r (k * 4) x o → r ≡ Longer → sink o′ n ≡ emit (sink o₁ 0) (findings rows)
-        → Checked rows o (Call·Accepted n) o′
-    unfolding refusal
-    accepted-all {x = x} {k = k} short counted told left longer again =
-        let ran = again ∙ ap (λ l. emit (sink l 0) (findings rows)) (left ∙ ap (λ h. afterHanding h (k * 4) x o) longer) in
-        let fits : k ≤ length o / 4 = is-longer (length o / 4) (length x / 4) k told longer in
-        let h : length (findings rows) ≤ length o / 4 = omega (arith, count-fits o₀ (findings rows) counted) in
-        let whole = ran ∙ emit-whole o (findings rows) (omega arith) short in
-        record {
-          ended = rw (passed, le-ltb (length o / 4) (length (findings rows)) h)
-              (record {
-                lines = findings rows;
-                listed = in-order rows;
-                counted = ap (λ s. Call·Accepted (s .count)) whole;
-                buffer = ap (λ s. s .buf) whole ∙ ap (λ m. flat (findings rows) ++ drop m o) (mul-comm (length (findings rows)) 4);
-              });
-        }
+  module _ (passed : sheetRefusal rows ≡ none) where
+    -- not refused: the count, and the buffer that holds the list
+    accepted : {o′ : List ℤ} {n : ℕ} → length (findings rows) ≤ length o / 4 → n ≡ length (findings rows)
+        → o′ ≡ flat (findings rows) ++ drop (4 * length (findings rows)) o
+        → Ends rows o (Call·Accepted n) o′
+    unfolding refusal checkAnswer findingsAfter
+    accepted h p q =
+        rw (passed, le-ltb (length o / 4) (length (findings rows)) h)
+        (ap Call·Accepted p, q ∙ ap (λ m. flat (findings rows) ++ drop m o) (sym (flat-length (findings rows))))
 
-    -- the first pass held them all, and they were copied
-    pub accepted-copy : {x o′ : List ℤ} {k : ℕ} {r : Handed} → length o < 2 ^ 60 → length o₀ ≡ 4096 → sink x k ≡ emit (sink o₀ 0) (findings rows)
-        → r ≡ handed (length o / 4) (length x / 4) k → o′ ≡ afterHanding r (k * 4) x o → r ≡ Over → Checked rows o (Call·Accepted k) o′
-    unfolding refusal
-    accepted-copy {x = x} {k = k} short room ran told left over =
-        let fs : List Violation = findings rows in
-        let fits = is-over (length o / 4) (length x / 4) k told over in
-        let n : k ≡ length fs = omega (arith, count-fits o₀ fs ran, fits .0) in
-        let h : length fs ≤ length o / 4 = omega (arith, fits .0) in
-        let held : length x ≡ 4096 = kept o₀ 0 (findings rows) ran ∙ room in
-        let whole : x ≡ flat fs ++ drop (length fs * 4) o₀ = ap (λ s. s .buf) (ran ∙ emit-whole o₀ fs (omega (arith, fits .1)) (omega arith)) in
-        let end : 4 * length fs ≡ k * 4 = omega arith in
-        let first : take (k * 4) x ≡ flat fs = ap (take (k * 4)) whole ∙ take-at (flat fs) _ (k * 4) (flat-length fs ∙ end) in
-        let copied = left ∙ ap (λ h. afterHanding h (k * 4) x o) over in
-        record {
-          ended = rw (passed, le-ltb (length o / 4) (length fs) h)
-              (record {
-                lines = fs;
-                listed = in-order rows;
-                counted = ap Call·Accepted n;
-                buffer = copied ∙ ap (λ l. l ++ drop (k * 4) o) first ∙ ap (λ m. flat fs ++ drop m o) (sym end);
-              });
-        }
+    module _ (o₀ : List ℤ) where
+      pub accepted-all : {x o₁ o′ : List ℤ} {k n : ℕ} {r : Handed} → length o < 2 ^ 60 → sink x k ≡ emit (sink o₀ 0) (findings rows)
+          → r ≡ handed (length o / 4) (length x / 4) k → o₁ ≡ afterHanding r (k * 4) x o → r ≡ Longer → sink o′ n ≡ emit (sink o₁ 0) (findings rows)
+          → Ends rows o (Call·Accepted n) o′
+      accepted-all {x = x} {k = k} short counted told left longer again =
+          let ran = again ∙ ap (λ l. emit (sink l 0) (findings rows)) (left ∙ ap (λ h. afterHanding h (k * 4) x o) longer) in
+          let fits : k ≤ length o / 4 = is-longer (length o / 4) (length x / 4) k told longer in
+          let h : length (findings rows) ≤ length o / 4 = omega (arith, count-fits o₀ (findings rows) counted) in
+          let whole = ran ∙ emit-whole o (findings rows) (omega arith) short in
+          accepted h (ap (λ s. s .count) whole)
+          (ap (λ s. s .buf) whole ∙ ap (λ m. flat (findings rows) ++ drop m o) (mul-comm (length (findings rows)) 4))
 
-    pub refused-full : {x o′ : List ℤ} {k : ℕ} {r : Handed} → length o < 2 ^ 60 → sink x k ≡ emit (sink o₀ 0) (findings rows)
-        → r ≡ handed (length o / 4) (length x / 4) k → o′ ≡ afterHanding r (k * 4) x o → r ≡ Full → Checked rows o (Call·Refused 7 0) o′
-    unfolding refusal
-    refused-full {x = x} {k = k} short counted told left full =
-        let over : length o / 4 < k = is-full (length o / 4) (length x / 4) k told full in
-        let h : length o / 4 < length (findings rows) = omega (arith, count-fits o₀ (findings rows) counted) in
-        record { ended = rw (passed, lt-ltb (length o / 4) (length (findings rows)) h) (record { answered = refl; unchanged = left ∙ ap (λ h. afterHanding h (k * 4) x o) full }) }
+      -- the first pass held them all, and they were copied
+      pub accepted-copy : {x o′ : List ℤ} {k : ℕ} {r : Handed} → length o < 2 ^ 60 → length o₀ ≡ 4096 → sink x k ≡ emit (sink o₀ 0) (findings rows)
+          → r ≡ handed (length o / 4) (length x / 4) k → o′ ≡ afterHanding r (k * 4) x o → r ≡ Over → Ends rows o (Call·Accepted k) o′
+      accepted-copy {x = x} {k = k} short room ran told left over =
+          let fs : List Violation = findings rows in
+          let fits = is-over (length o / 4) (length x / 4) k told over in
+          let n : k ≡ length fs = omega (arith, count-fits o₀ fs ran, fits .0) in
+          let h : length fs ≤ length o / 4 = omega (arith, fits .0) in
+          let held : length x ≡ 4096 = kept o₀ 0 (findings rows) ran ∙ room in
+          let whole : x ≡ flat fs ++ drop (length fs * 4) o₀ = ap (λ s. s .buf) (ran ∙ emit-whole o₀ fs (omega (arith, fits .1)) (omega arith)) in
+          let end : 4 * length fs ≡ k * 4 = omega arith in
+          let first : take (k * 4) x ≡ flat fs = ap (take (k * 4)) whole ∙ take-at (flat fs) _ (k * 4) (flat-length fs ∙ end) in
+          let copied = left ∙ ap (λ h. afterHanding h (k * 4) x o) over in
+          accepted h n (copied ∙ ap (λ l. l ++ drop (k * 4) o) first ∙ ap (λ m. flat fs ++ drop m o) (sym end))
+
+      pub refused-full : {x o′ : List ℤ} {k : ℕ} {r : Handed} → length o < 2 ^ 60 → sink x k ≡ emit (sink o₀ 0) (findings rows)
+          → r ≡ handed (length o / 4) (length x / 4) k → o′ ≡ afterHanding r (k * 4) x o → r ≡ Full → Ends rows o (Call·Refused 7 0) o′
+      unfolding refusal checkAnswer findingsAfter
+      refused-full {x = x} {k = k} short counted told left full =
+          let over : length o / 4 < k = is-full (length o / 4) (length x / 4) k told full in
+          let h : length o / 4 < length (findings rows) = omega (arith, count-fits o₀ (findings rows) counted) in
+          rw (passed, lt-ltb (length o / 4) (length (findings rows)) h) (refl, left ∙ ap (λ h. afterHanding h (k * 4) x o) full)
 
 -- ---- the refusals of the sheet, from what the two verdicts ensure
 
@@ -116,13 +120,25 @@ module _ (rows : List ℤ) where
       record { accepted = a; by-kind = t .kinds; linked = t .links; by-owner = t .owned }
 
   module _ (o : List ℤ) {v : Verdict} {number place : ℕ} where
-    pub refused-rows : verdictOf v ≡ refusalOf rows → v ≡ Refused number place → Checked rows o (Call·Refused number place) o
+    refused-rows : verdictOf v ≡ refusalOf rows → v ≡ Refused number place → Ends rows o (Call·Refused number place) o
     unfolding sheetRefusal
     refused-rows q e = refused-sheet rows o (record { number = number; place = place }) (rw (sym q ∙ ap verdictOf e))
 
-    pub refused-times : refusalOf rows ≡ none → verdictOf v ≡ timeRefusal rows → v ≡ Refused number place → Checked rows o (Call·Refused number place) o
+    pub rows-answer : verdictOf v ≡ refusalOf rows → v ≡ Refused number place → Call·Refused number place ≡ checkAnswer rows (length o / 4)
+    rows-answer q e = refused-rows q e .0
+
+    pub rows-left : verdictOf v ≡ refusalOf rows → v ≡ Refused number place → o ≡ findingsAfter rows o
+    rows-left q e = refused-rows q e .1
+
+    refused-times : refusalOf rows ≡ none → verdictOf v ≡ timeRefusal rows → v ≡ Refused number place → Ends rows o (Call·Refused number place) o
     unfolding sheetRefusal
     refused-times a q e = refused-sheet rows o (record { number = number; place = place }) (rw (a, sym q ∙ ap verdictOf e))
+
+    pub times-answer : verdictOf v ≡ timeRefusal rows → refusalOf rows ≡ none → v ≡ Refused number place → Call·Refused number place ≡ checkAnswer rows (length o / 4)
+    times-answer q a e = refused-times a q e .0
+
+    pub times-left : verdictOf v ≡ timeRefusal rows → refusalOf rows ≡ none → v ≡ Refused number place → o ≡ findingsAfter rows o
+    times-left q a e = refused-times a q e .1
 
   pub by-none : {v : Verdict} → refusalOf rows ≡ none → verdictOf v ≡ timeRefusal rows → v ≡ Fine → sheetRefusal rows ≡ none
   unfolding sheetRefusal

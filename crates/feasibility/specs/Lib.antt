@@ -1,3 +1,4 @@
 pub mod Call
 pub mod Demand3
 pub mod Refusals
+pub mod inner

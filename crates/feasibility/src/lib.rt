@@ -1,16 +1,17 @@
 // `check_schedule` of scheduler/feasibility.rs: refusals 1 to 7, the nine checks in call order, and what is written to the lent buffer.
+ghost use Prim.Native.Nat.{_/_};
 ghost use mathlib.Core.Path.{_≡_};
 ghost use mathlib.Core.Option.{none};
-ghost use Rattle.calendar.specs.Clock.{clock};
+ghost use lib.ListN.{length};
 ghost use Rattle.findings.specs.inner.Sink.{sink, emit};
-ghost use Rattle.model.specs.Sheet.{sheet};
 ghost use Rattle.model.specs.inner.Indexed.{Indexed};
 ghost use Rattle.pieces.specs.inner.Held.{Held};
 ghost use Rattle.derived_times.specs.inner.Needs.{Needs};
 ghost use Rattle.check6_calendars.specs.inner.Lacking.{Lacking};
-ghost use Rattle.definition.specs.CheckSchedule.{beforeCapacity, afterCapacity, findings};
+ghost use Rattle.definition.specs.CheckSchedule.{findings};
+ghost use Rattle.feasibility.specs.inner.Order.{beforeCapacity, afterCapacity};
 ghost use Rattle.feasibility.specs.Refusals.{sheetRefusal};
-ghost use Rattle.feasibility.specs.Call.{Checked};
+ghost use Rattle.feasibility.specs.Call.{checkAnswer, findingsAfter};
 use line_buffer::Handed;
 use refusals::Answer;
 use refusals::Verdict;
@@ -27,7 +28,7 @@ fn check_before(
     n: usize,
 ) -> usize
     requires { ⌜ Indexed (now rows) (now kinds) (now links) (now owned) × Held (now rows) (now held) × Needs (now rows) (now need) ⌝ }
-    ensures { λ r. ⌜ sink (now (out .exit)) r ≡ emit (sink (now (out .entry)) n) (beforeCapacity clock (sheet (now (rows .entry)))) ⌝ }
+    ensures { λ r. ⌜ sink (now (out .exit)) r ≡ emit (sink (now (out .entry)) n) (beforeCapacity (now (rows .entry))) ⌝ }
 {
     let a = check1_assignments::check_assignments(rows, kinds, links, owned, held, need, out, n);
     let b = check2_time_only::check_time_only(rows, kinds, links, owned, out, a);
@@ -46,7 +47,7 @@ fn check_after(
     n: usize,
 ) -> usize
     requires { ⌜ Indexed (now rows) (now kinds) (now links) (now owned) × Lacking (now rows) (now lacking) ⌝ }
-    ensures { λ r. ⌜ sink (now (out .exit)) r ≡ emit (sink (now (out .entry)) n) (afterCapacity clock (sheet (now (rows .entry)))) ⌝ }
+    ensures { λ r. ⌜ sink (now (out .exit)) r ≡ emit (sink (now (out .entry)) n) (afterCapacity (now (rows .entry))) ⌝ }
 {
     let a = check6_calendars::check_calendars(rows, kinds, links, owned, lacking, out, n);
     let b = check7_precedence::check_precedence(rows, kinds, links, owned, out, a);
@@ -85,7 +86,8 @@ fn write_findings(
     out: &mut [i64],
 ) -> Answer
     requires { ⌜ Indexed (now rows) (now kinds) (now links) (now owned) × Held (now rows) (now held) × Needs (now rows) (now need) × (sheetRefusal (now rows) ≡ none) ⌝ }
-    ensures { λ r. ⌜ Checked (now (rows .entry)) (now (out .entry)) r (now (out .exit)) ⌝ }
+    ensures { λ r. ⌜ r ≡ checkAnswer (now (rows .entry)) (length (now (out .entry)) / 4) ⌝ }
+    ensures { λ r. ⌜ now (out .exit) ≡ findingsAfter (now (rows .entry)) (now (out .entry)) ⌝ }
 {
     let lacking = check6_calendars::lacking_of(rows, kinds, links, owned, need);
     let mut first = [0i64; 4096];
@@ -116,7 +118,8 @@ fn check_times(
     out: &mut [i64],
 ) -> Answer
     requires { ⌜ Indexed (now rows) (now kinds) (now links) (now owned) ⌝ }
-    ensures { λ r. ⌜ Checked (now (rows .entry)) (now (out .entry)) r (now (out .exit)) ⌝ }
+    ensures { λ r. ⌜ r ≡ checkAnswer (now (rows .entry)) (length (now (out .entry)) / 4) ⌝ }
+    ensures { λ r. ⌜ now (out .exit) ≡ findingsAfter (now (rows .entry)) (now (out .entry)) ⌝ }
 {
     let held = pieces::held_of(rows, kinds, links, owned);
     let need = derived_times::needs_of(rows, links, owned, &held);
@@ -129,7 +132,8 @@ fn check_times(
 
 // Checks a sheet: any rows, any buffer.
 pub fn check_schedule(rows: &[i64], out: &mut [i64]) -> Answer
-    ensures { λ r. ⌜ Checked (now (rows .entry)) (now (out .entry)) r (now (out .exit)) ⌝ }
+    ensures { λ r. ⌜ r ≡ checkAnswer (now (rows .entry)) (length (now (out .entry)) / 4) ⌝ }
+    ensures { λ r. ⌜ now (out .exit) ≡ findingsAfter (now (rows .entry)) (now (out .entry)) ⌝ }
 {
     let mut kinds = [0u16; 3680];
     let mut links = [0u16; 1600];

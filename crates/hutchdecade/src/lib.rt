@@ -6,9 +6,11 @@ ghost use Rattle.text.specs.Text.{answerOf, rowsAfter};
 ghost use Rattle.sheet.specs.Refusals.{refusalOf};
 ghost use Rattle.work_end_inquiry.specs.Inquiry.{inquiry};
 ghost use Rattle.outcomes.specs.Outcome.{ofAnswer, ofRefusal, ofInquiry};
-ghost use Rattle.hutchdecade.specs.Call.{Called};
+ghost use Rattle.feasibility.specs.Call.{checkAnswer, findingsAfter};
 use outcomes::Outcome;
 use outcomes::WorkEndOutcome;
+use refusals::Answer;
+use refusals::Verdict;
 
 // Reads a text to the lent rows.
 #[no_mangle]
@@ -16,7 +18,8 @@ pub extern "C" fn sheet_read_text(text: &[u8], rows: &mut [i64]) -> Outcome
     ensures { λ r. ⌜ r ≡ ofAnswer (answerOf (now (text .entry)) (length (now (rows .entry)) / 10)) ⌝ }
     ensures { λ r. ⌜ now (rows .exit) ≡ rowsAfter (answerOf (now (text .entry)) (length (now (rows .entry)) / 10)) (now (text .entry)) (now (rows .entry)) ⌝ }
 {
-    outcomes::of_answer(text::read_text(text, rows))
+    let answer: Answer = text::read_text(text, rows);
+    outcomes::of_answer(answer)
 }
 
 // Refusals 1 to 5 on the rows.
@@ -24,7 +27,8 @@ pub extern "C" fn sheet_read_text(text: &[u8], rows: &mut [i64]) -> Outcome
 pub extern "C" fn sheet_validate(rows: &[i64]) -> Outcome
     ensures { λ r. ⌜ r ≡ ofRefusal (refusalOf (now (rows .entry))) ⌝ }
 {
-    outcomes::of_verdict(validation::validate(rows))
+    let verdict: Verdict = validation::validate(rows);
+    outcomes::of_verdict(verdict)
 }
 
 // The work-end inquiry.
@@ -43,7 +47,9 @@ pub extern "C" fn sheet_work_end(
 // The call: checks the rows, and writes the findings of an accepted sheet to the lent numbers.
 #[no_mangle]
 pub extern "C" fn sheet_check_schedule(rows: &[i64], findings: &mut [i64]) -> Outcome
-    ensures { λ r. ⌜ Called (now (rows .entry)) (now (findings .entry)) r (now (findings .exit)) ⌝ }
+    ensures { λ r. ⌜ r ≡ ofAnswer (checkAnswer (now (rows .entry)) (length (now (findings .entry)) / 4)) ⌝ }
+    ensures { λ r. ⌜ now (findings .exit) ≡ findingsAfter (now (rows .entry)) (now (findings .entry)) ⌝ }
 {
-    outcomes::of_answer(feasibility::check_schedule(rows, findings))
+    let answer: Answer = feasibility::check_schedule(rows, findings);
+    outcomes::of_answer(answer)
 }

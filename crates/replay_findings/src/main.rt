@@ -22,54 +22,24 @@ fn finding_number(numbers: &[i64], i: usize, c: usize) -> i64 {
     7
 }
 
-// Whether finding i of a is finding j of b.
-fn same(a: &[i64], i: usize, b: &[i64], j: usize) -> bool {
-    if finding_number(a, i, 0) != finding_number(b, j, 0) {
+// Whether finding i is the one expected.
+fn finding_passes(found: &[i64], expected: &[i64], i: usize) -> bool {
+    if finding_number(found, i, 0) != finding_number(expected, i, 0) {
         return false;
     }
-    if finding_number(a, i, 1) != finding_number(b, j, 1) {
+    if finding_number(found, i, 1) != finding_number(expected, i, 1) {
         return false;
     }
-    if finding_number(a, i, 2) != finding_number(b, j, 2) {
+    if finding_number(found, i, 2) != finding_number(expected, i, 2) {
         return false;
     }
-    finding_number(a, i, 3) == finding_number(b, j, 3)
-}
-
-fn one_more(n: u64) -> u64 {
-    if n < 1000000 { n + 1 } else { n }
-}
-
-// How often finding i of a is among the first n findings of b.
-fn times_in(a: &[i64], i: usize, b: &[i64], n: usize) -> u64 {
-    let mut times: u64 = 0;
-    let mut j = 0;
-    while j < n {
-        times = if same(a, i, b, j) {
-            one_more(times)
-        } else {
-            times
-        };
-        j += 1;
-    }
-    times
-}
-
-// Whether finding i is the one expected. Check 5's may stand in any order among themselves: each as often.
-fn finding_passes(found: &[i64], expected: &[i64], n: usize, i: usize) -> bool {
-    if finding_number(expected, i, 0) != 5 {
-        return same(found, i, expected, i);
-    }
-    if finding_number(found, i, 0) != 5 {
-        return false;
-    }
-    times_in(found, i, found, n) == times_in(found, i, expected, n)
+    finding_number(found, i, 3) == finding_number(expected, i, 3)
 }
 
 fn findings_pass(found: &[i64], expected: &[i64], n: usize) -> bool {
     let mut i = 0;
     while i < n {
-        if !finding_passes(found, expected, n, i) {
+        if !finding_passes(found, expected, i) {
             return false;
         }
         i += 1;
@@ -197,5 +167,6 @@ fn main() {
     run = replay_file(b"findings-2.txt", run);
     run = replay_file(b"findings-3.txt", run);
     run = replay_file(b"findings-4.txt", run);
+    run = replay_file(b"findings-5.txt", run);
     stored_run::print_run(run);
 }

@@ -31,7 +31,7 @@ use Rattle.definition.specs.CheckCalendars.{checkCalendars}
 use Rattle.definition.specs.CheckPrecedence.{endToStart, ordered, checkPrecedenceConstraint, checkPair, checkPairs, checkTask, checkPrecedence}
 use Rattle.definition.specs.CheckDeadlines.{checkDeadline, checkDeadlines}
 use Rattle.definition.specs.CheckConstraints.{firstOn, startOf, checkOverlaps, differing, checkConstraint, checkConstraintAt, checkConstraints}
-use Rattle.definition.specs.CheckSchedule.{beforeCapacity, afterCapacity}
+use Rattle.definition.specs.CheckSchedule.{checkSchedule}
 use Rattle.shift.proofs.Numbers.{numbers, each-task, each-activity-of}
 
 pub record Bare {T : Type 0} (s : Sheet T) : Type 0 where
@@ -142,7 +142,7 @@ module _ {T : Type 0} (K : Clock T) (s : Sheet T) (bare : Bare s) where
       (λ t. each-nothing (checkActivityParts s) no-parts (activitiesOf s (t .id)))
       (tasks s)
 
-  pub none5 : checkCapacity K s ≡ []
+  none5 : checkCapacity K s ≡ []
   unfolding checkCapacity bookedResources bookedAt each
   none5 = ap (each (checkResource K s)) (collect-nothing (bookedAt s) (λ k. rw (no-booking k)) (s .count))
 
@@ -215,10 +215,6 @@ module _ {T : Type 0} (K : Clock T) (s : Sheet T) (bare : Bare s) where
       (λ k. each-nothing (checkConstraint K s (length (collect (constraintAt s) k))) (no-constraint (length (collect (constraintAt s) k))) (constraintAt s k))
       (s .count)
 
-  pub none-after : afterCapacity K s ≡ []
-  unfolding afterCapacity
-  none-after = rw (none6, none7, none8, none9)
-
   -- ---- checks 2 and 4
 
   no-span-check : (k : ℕ) → checkSpanAt K s k ≡ []
@@ -247,7 +243,10 @@ module _ {T : Type 0} (K : Clock T) (s : Sheet T) (bare : Bare s) where
   unfolding checkRequirements
   only4 = ap (λ (z : Activity T → List Violation). each (λ t. each z (activitiesOf s (t .id))) (tasks s)) (λ i a. one-piece a i)
 
-  pub only-before : beforeCapacity K s ≡ found s
-  unfolding beforeCapacity found
-  only-before =
-      rw (none1, only2, none3, only4) (ap (λ l. l ++ eachActivity s (unfilled s)) (append-nil (eachActivity s (unplaced s))))
+  -- ---- the whole list
+
+  pub only-found : checkSchedule K s ≡ found s
+  unfolding checkSchedule found
+  only-found =
+      rw (none1, only2, none3, only4, none5, none6, none7, none8, none9)
+      (simp append-nil refl)

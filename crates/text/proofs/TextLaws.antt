@@ -21,7 +21,7 @@ use Rattle.text_line.specs.declared.Line.{Line}
 use Rattle.text_line.specs.declared.Line.the-variants.{Row, Wrong}
 use Rattle.refusals.specs.declared.Answer.{Answer}
 use Rattle.refusals.specs.declared.Answer.the-variants.{Accepted, Refused}
-use Rattle.refusals.proofs.AnswerLaws.{not-both}
+use Rattle.refusals.proofs.AnswerLaws.{no-accept, same-count}
 use Rattle.rows.proofs.Tables.{width-most}
 use Rattle.text_line.proofs.LineLaws.{no-row}
 use Rattle.loops.proofs.StoreLaws.{sets-append}
@@ -138,12 +138,12 @@ module _ (text : List ℕ) (lent : ℕ) (rows₀ rows : List ℤ) (rest : List �
 pub accepted-rows : (lent p : ℕ) (ps : List (List ℕ)) (n : ℕ) → p ≤ lent → answerFrom lent p ps ≡ Accepted n
     → (p * 10 + length (rowsOf ps) ≡ n * 10) × (n ≤ lent) × (rowsRead lent p ps ≡ rowsOf ps)
 unfolding answerFrom rowsOf rowsRead
-accepted-rows lent p [] n h e = let q : p ≡ n = cc in (omega arith, omega arith, refl)
+accepted-rows lent p [] n h e = let q = same-count e in (omega arith, omega arith, refl)
 accepted-rows lent p (l ∷ []) n h e = go (isEmpty l) e
   where
     go : (t : Bool) → cond t (Accepted p) (Refused 9 p) ≡ Accepted n → (p * 10 + 0 ≡ n * 10) × (n ≤ lent) × (_≡_ {A = List ℤ} [] [])
-    go true e = let q : p ≡ n = cc in (omega arith, omega arith, refl)
-    go false e = absurd (not-both (sym e))
+    go true e = let q = same-count e in (omega arith, omega arith, refl)
+    go false e = absurd (no-accept e)
 accepted-rows lent p (l ∷ m ∷ ls) n h e = go (lineOf l) refl (ltb p lent) refl e (accepted-rows lent (suc p) (m ∷ ls) n)
   where
     go : (x : Line) → lineOf l ≡ x → (t : Bool) → ltb p lent ≡ t → afterLine x p (cond t (answerFrom lent (suc p) (m ∷ ls)) (Refused 10 p)) ≡ Accepted n
@@ -153,8 +153,8 @@ accepted-rows lent p (l ∷ m ∷ ls) n h e = go (lineOf l) refl (ltb p lent) re
     go Row q true t e k =
         let w = k (ltb-true p lent t) e in
         (simp length-append (omega (arith, row-long l q, w .0)), w .1, ap (λ (zs : List ℤ). rowOf l ++ zs) (w .2))
-    go Row q false t e k = absurd (not-both (sym e))
-    go (Wrong i) q t u e k = absurd (not-both (sym e))
+    go Row q false t e k = absurd (no-accept e)
+    go (Wrong i) q t u e k = absurd (no-accept e)
 
 accepted-stored : (rows : List ℤ) (ps : List (List ℕ)) (n : ℕ) → answerFrom (length rows / 10) 0 ps ≡ Accepted n
     → sets rows 0 (rowsRead (length rows / 10) 0 ps) ≡ rowsOf ps ++ drop (10 * n) rows

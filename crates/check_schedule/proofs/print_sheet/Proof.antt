@@ -2,7 +2,7 @@ use borrow.Author.Needs.{needs}
 use contract.Lifetimes.{Lfts}
 use Rattle.refusals.specs.declared.Answer.{Answer}
 use Rattle.refusals.specs.declared.Answer.the-variants.{Accepted, Refused}
-use Rattle.check_schedule.proofs.Printing.{Bounded, checked-kept, small-numbers, sheet-printed, sheet-within}
+use Rattle.check_schedule.proofs.Printing.{Bounded, small-numbers, sheet-printed, sheet-within}
 use Rattle.check_schedule.proofs.print_sheet.Statement.{statement}
 use Rattle.check_schedule.proofs.print_sheet.Tie as tie
 use Rattle.check_schedule.proofs.print_sheet.Lts as lts
@@ -34,7 +34,7 @@ bounded κs (Accepted n) h = tt
 bounded κs (Refused number place) h = search needs
 
 returns : tie.Need-returns
-returns c = (search (needs, sheet-within, checked-kept, small-numbers, bounded), search (needs, sheet-printed, checked-kept, small-numbers, bounded))
+returns c = (search (needs, sheet-within, small-numbers, bounded), search (needs, sheet-printed, small-numbers, bounded))
 
 pub print-sheet-spec : {M : Type 1} → statement M
 print-sheet-spec =

@@ -1,5 +1,5 @@
 use borrow.Author.Needs.{needs}
-use Rattle.definition.specs.CheckSchedule.{afterCapacity}
+use Rattle.feasibility.specs.inner.Order.{afterCapacity}
 use Rattle.feasibility.proofs.Top.{in-turn}
 use Rattle.feasibility.proofs.check_after.Statement.{statement}
 use Rattle.feasibility.proofs.check_after.Tie as tie
@@ -21,7 +21,7 @@ same-length c = search needs
 
 returns : tie.Need-returns
 unfolding afterCapacity
-returns c = in-turn _ _ _ _ _ _ _ _ (c .before .check-constraints .ensures) (c .before .before .before .before .check-deadlines .ensures) (c .before .before .before .before .before .before .before .check-precedence .ensures) (c .before .before .before .before .before .before .before .before .before .before .check-calendars .ensures)
+returns c = search in-turn
 
 pub check-after-spec : {M : Type 1} → statement M
 check-after-spec =

@@ -1,6 +1,5 @@
 use borrow.Author.Needs.{needs}
-use Rattle.definition.specs.CheckSchedule.{checkSchedule, findings}
-use Rattle.feasibility.proofs.Top.{in-turn-3}
+use Rattle.feasibility.proofs.Top.{all-in-turn}
 use Rattle.feasibility.proofs.check_all.Statement.{statement}
 use Rattle.feasibility.proofs.check_all.Tie as tie
 
@@ -17,8 +16,7 @@ same-length : tie.Need-same-length
 same-length c = search needs
 
 returns : tie.Need-returns
-unfolding findings checkSchedule
-returns c = search in-turn-3
+returns c = search all-in-turn
 
 pub check-all-spec : {M : Type 1} → statement M
 check-all-spec =

@@ -1,5 +1,5 @@
 use borrow.Author.Needs.{needs}
-use Rattle.definition.specs.CheckSchedule.{beforeCapacity}
+use Rattle.feasibility.specs.inner.Order.{beforeCapacity}
 use Rattle.feasibility.proofs.Top.{in-turn}
 use Rattle.feasibility.proofs.check_before.Statement.{statement}
 use Rattle.feasibility.proofs.check_before.Tie as tie
@@ -21,7 +21,7 @@ same-length c = search needs
 
 returns : tie.Need-returns
 unfolding beforeCapacity
-returns c = in-turn _ _ _ _ _ _ _ _ (c .before .check-requirements .ensures) (c .before .before .before .before .check-parts .ensures) (c .before .before .before .before .before .before .before .check-time-only .ensures) (c .before .before .before .before .before .before .before .before .before .before .check-assignments .ensures)
+returns c = search in-turn
 
 pub check-before-spec : {M : Type 1} → statement M
 check-before-spec =

@@ -1,4 +1,4 @@
-use Rattle.feasibility.proofs.Top.{indexed-of, refused-rows}
+use Rattle.feasibility.proofs.Top.{indexed-of, rows-answer, rows-left}
 use borrow.Author.Needs.{needs}
 use Rattle.feasibility.proofs.check_schedule.Statement.{statement}
 use Rattle.feasibility.proofs.check_schedule.Tie as tie
@@ -22,7 +22,7 @@ returns : tie.Need-returns
 returns c = search needs
 
 returns-2 : tie.Need-returns-2
-returns-2 c = search (needs, refused-rows)
+returns-2 c = (search (needs, rows-answer), search (needs, rows-left))
 
 pub check-schedule-spec : {M : Type 1} → statement M
 check-schedule-spec =

@@ -1,5 +1,5 @@
 use Rattle.model.proofs.Accepting.{accepted}
-use Rattle.feasibility.proofs.Top.{refused-times, needed-of, by-none}
+use Rattle.feasibility.proofs.Top.{times-answer, times-left, needed-of, by-none}
 use borrow.Author.Needs.{needs}
 use Rattle.feasibility.proofs.check_times.Statement.{statement}
 use Rattle.feasibility.proofs.check_times.Tie as tie
@@ -29,7 +29,7 @@ returns : tie.Need-returns
 returns c = search needs
 
 returns-2 : tie.Need-returns-2
-returns-2 c = search (needs, refused-times)
+returns-2 c = (search (needs, times-answer), search (needs, times-left))
 
 pub check-times-spec : {M : Type 1} → statement M
 check-times-spec =
