@@ -1,14 +1,15 @@
 /* hutchdecade.h: the calls of libhutchdecade.a, which say what is wrong with a machine shop's week.
 
    A sheet is lent as rows of ten numbers: the row's kind (HUTCH_KIND_..), its columns in order, then zeros. A column that may be
-   empty holds HUTCH_NONE. Rows may come in any order. A finding is four numbers: check, type, entity, severity. Places count from 0.
+   empty holds HUTCH_NONE. Rows may come in any order. A finding is four numbers: check, type, entity, severity; a margin is three: of what
+   (HUTCH_MARGIN_OF_..), id, margin. Places count from 0.
    docs/RULES.md has every rule. That each call answers by these rules, whatever the lent numbers and bytes are, and that it
    touches no memory but what is lent, is proved; what the caller owes is said here, and nothing checks it at run time.
 
    Lent      `length` and `room` count numbers (of a text: bytes), never rows. A pointer to numbers is aligned as int64_t is, and valid
              for the whole length until the call returns; nothing of it is kept. Where a length is 0 the pointer is not followed
-             and may be NULL. What a call writes to (`rows` of sheet_read_text, `findings`) overlaps nothing else that is lent to it.
-   Refused   no lent number is changed. Accepted: what lies after the last row or finding is as it was. What is lent as const is
+             and may be NULL. What a call writes to (`rows` of sheet_read_text, `findings`, `lines`) overlaps nothing else that is lent to it.
+   Refused   no lent number is changed. Accepted: what lies after the last row, finding or margin is as it was. What is lent as const is
              never written to.
    Threads   no call has any state: no heap, no variable of its own, no errno, no input or output. Calls may run at the same time,
              as long as no one writes to what is lent to another, or reads what it is writing.
@@ -62,7 +63,7 @@ extern "C" {
 #endif
 
 /* The product, raised with every delivery; and the rules, raised with every change after which some input is answered otherwise. */
-#define HUTCH_VERSION "1.1.0"
+#define HUTCH_VERSION "1.2.0"
 #define HUTCH_RULES 1
 
 /* An empty column. */
@@ -73,6 +74,8 @@ extern "C" {
 #define HUTCH_MAX_NUMBERS 8000                      /* numbers of a sheet */
 #define HUTCH_MAX_TEXT 65536                        /* bytes of a text */
 #define HUTCH_FINDING 4                             /* numbers of a finding */
+#define HUTCH_MARGIN 3                              /* numbers of a margin */
+#define HUTCH_MAX_MARGINS 800                       /* margins of a sheet: each is of one row */
 #define HUTCH_MAX_ID INT64_C(999999999)             /* ids are 0 to this */
 #define HUTCH_MAX_COUNT INT64_C(1000000)            /* class u: 0 to this; class n: to this on both sides of 0 */
 #define HUTCH_MAX_TIME INT64_C(4000000000000)       /* ms: instants and amounts are 0 to this; signed times to this on both sides of 0 */
@@ -81,6 +84,7 @@ extern "C" {
 #define HUTCH_STACK_READ_TEXT 1024
 #define HUTCH_STACK_VALIDATE 31744
 #define HUTCH_STACK_CHECK_SCHEDULE 124928
+#define HUTCH_STACK_MARGINS 78848
 #define HUTCH_STACK_WORK_END 51200
 
 /* `number` of an answer: accepted, or why not. `place` of a refusal is the row, counted from 0, or the line of a text; 0 for 1, 7 and 8. */
@@ -92,7 +96,7 @@ enum hutch_number {
     HUTCH_REFUSED_STRAY = 4,        /* a column names a task, an activity, a resource, a requirement or a constraint that is not there */
     HUTCH_REFUSED_TWICE = 5,        /* what may be there once is there again: the later row */
     HUTCH_REFUSED_STRETCHED = 6,    /* the derived time of a booking is not finite, or 2^53 ms or more */
-    HUTCH_REFUSED_FULL = 7,         /* there are more findings than the lent numbers have whole fours */
+    HUTCH_REFUSED_FULL = 7,         /* there are more findings than the lent numbers have whole fours, or margins than they have whole threes */
     HUTCH_REFUSED_OVERLONG = 8,     /* the text has more than HUTCH_MAX_TEXT bytes */
     HUTCH_REFUSED_MISSPELT = 9,     /* a line breaks the spelling */
     HUTCH_REFUSED_CROWDED = 10      /* the text has more lines than the lent numbers have whole tens */
@@ -176,6 +180,19 @@ struct hutch_outcome sheet_validate(const int64_t *rows, size_t length);
    Accepted: `place` is the count of findings, and the first 4 * place of the lent numbers hold them; 0: the week can be released.
    Refused: 1 to 7. Refusal 7 does not say how many there are: lend more. */
 struct hutch_outcome sheet_check_schedule(const int64_t *rows, size_t length, int64_t *findings, size_t room);
+
+/* The first number of a margin; with what the second is, the id, and the third, the margin. */
+enum hutch_margin_of {
+    HUTCH_MARGIN_OF_TASK = 1,    /* task; its deadline minus its completion, in ms */
+    HUTCH_MARGIN_OF_RESOURCE = 2 /* resource; its limit minus its peak load, in units */
+};
+
+/* How late, or how much slack. Writes to the lent numbers, three for each margin: those of the tasks with a deadline and a completion, in the order
+   of their rows; then those of the booked resources, in the order of their first bookings. A margin is below zero exactly where
+   sheet_check_schedule has a finding of check 8 (of that task) or 5 (of that resource).
+   Accepted: `place` is the count of margins, and the first 3 * place of the lent numbers hold them; 0: nothing has a margin.
+   Refused: 1 to 7. Room for HUTCH_MAX_MARGINS is always enough. */
+struct hutch_outcome sheet_margins(const int64_t *rows, size_t length, int64_t *lines, size_t room);
 
 /* `outcome` of an accepted inquiry. */
 enum hutch_work_outcome {

@@ -1,5 +1,5 @@
-/* A week that is built from rows, as a planning program would do it: no text is read. Prints what is wrong, in words, and when work
-   that is started at 6:00 would end.
+/* A week that is built from rows, as a planning program would do it: no text is read. Prints what is wrong, in words, how late or how early
+   the job is, and when work that is started at 6:00 would end.
 
        cc -I include -o week bindings/c/week.c target/staticlib/libhutchdecade.a && ./week */
 #include "hutchdecade.h"
@@ -8,6 +8,7 @@
 #include <stdio.h>
 
 enum { JOB = 1, TURN = 10, MILL = 20, LATHE = 5, MILLING = 6, LATHES = 70, MILLS = 71, ROWS = 11, MOST = 100 };
+#define MINUTE INT64_C(60000)
 #define HOUR INT64_C(3600000)
 
 /* Two steps of a job: turned on the lathe from 6:00 to 10:00, milled from 9:00 to 12:00, due at 11:00. The lathe rests from 8:00 to 9:00.
@@ -41,7 +42,7 @@ static const char *const types[] = {
 };
 
 int main(void) {
-    static int64_t findings[MOST * HUTCH_FINDING];
+    static int64_t findings[MOST * HUTCH_FINDING], margins[HUTCH_MAX_MARGINS * HUTCH_MARGIN];
     struct hutch_outcome found = sheet_check_schedule(week[0], ROWS * HUTCH_COLUMNS, findings, MOST * HUTCH_FINDING);
     if (found.number != HUTCH_ACCEPTED) {
         printf("refused: number %" PRIu64 " at row %" PRIu64 "\n", found.number, found.place);
@@ -49,6 +50,9 @@ int main(void) {
     }
     for (const int64_t *f = findings; f < findings + found.place * HUTCH_FINDING; f += HUTCH_FINDING)
         printf("%s %" PRId64 "\n", types[f[1]], f[2]);
+    struct hutch_outcome left = sheet_margins(week[0], ROWS * HUTCH_COLUMNS, margins, HUTCH_MAX_MARGINS * HUTCH_MARGIN);
+    for (const int64_t *m = margins; left.number == HUTCH_ACCEPTED && m < margins + left.place * HUTCH_MARGIN; m += HUTCH_MARGIN)
+        if (m[0] == HUTCH_MARGIN_OF_TASK) printf("task %" PRId64 " has %" PRId64 " minutes left\n", m[1], m[2] / MINUTE);
     struct hutch_work_end end = sheet_work_end(week[0], ROWS * HUTCH_COLUMNS, LATHE, 6 * HOUR, 4 * HOUR);
     if (end.number == HUTCH_ACCEPTED && end.outcome == HUTCH_WORK_END)
         printf("four hours of work on the lathe from 6:00 end at %" PRIu64 ":00\n", end.instant / (uint64_t)HOUR);

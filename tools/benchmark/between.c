@@ -2,7 +2,7 @@
 
        between CALL LAYOUT ROUNDS OLD.so NEW.so OLD-AGAIN.so < SHEETS
 
-   CALL is sheet_check_schedule or sheet_read_text. Reads lines "GROUP|NAME|N N ..", or, of texts, "GROUP|NAME|TEXT" with a semicolon for each line feed. Writes
+   CALL is sheet_check_schedule, sheet_margins or sheet_read_text. Reads lines "GROUP|NAME|N N ..", or, of texts, "GROUP|NAME|TEXT" with a semicolon for each line feed. Writes
    for each a line "GROUP|NAME|ROWS|NUMBER|PLACE|ROUNDS|OLD|NEW|OLD AGAIN|ANSWERS": the medians in nanoseconds, the number and the place that the
    old one answers, and of the answers `same` or what differs. The sheets of the group `once` come first and are run one after the other, each once in a round; any other is run alone,
    round after round. LAYOUT is a number that decides which comes first and how far apart they lie: at a distance of, say, 128 KiB two copies of the same code

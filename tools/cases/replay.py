@@ -13,6 +13,7 @@ import listing
 from listing import NONE
 
 import answering
+import margins
 import reading
 
 
@@ -52,6 +53,13 @@ def share_case(_, ms, work, whole, time):
 
 def overlap_case(_, bits, lag, start, end, first, last):
     return first == reading.overlap_start(bits, start, end) and last == end + lag
+
+
+def margins_case(case, room, number, place):
+    found = margins.answer(case.numbers, room)
+    if number:
+        return found == ("refused", number, place) and not case.expected
+    return found[0] == "accepted" and len(found[1]) == place and [x for line in found[1] for x in line] == case.expected
 
 
 # ---- calendar time: the gathered numbers are windows, the last numbers of a line are calendars, as pairs of places
@@ -111,7 +119,7 @@ def end_from_case(case, x, work, outcome, end, *places):
 
 
 CALENDAR = {"F": fits_case, "W": joint_case, "J": joint_case, "A": available_case, "E": work_end_case, "B": end_from_case}
-CASES = {**CALENDAR, "R": rows_case, "T": text_case, "D": derived_case, "P": process_case, "S": share_case, "O": overlap_case}
+CASES = {**CALENDAR, "R": rows_case, "T": text_case, "D": derived_case, "P": process_case, "S": share_case, "O": overlap_case, "M": margins_case}
 
 
 def call_said(case, number, place):
@@ -123,7 +131,7 @@ def call_said(case, number, place):
 
 
 def main(files):
-    counts, wrong, asked = collections.Counter(), [], []
+    counts, wrong, asked, anchors = collections.Counter(), [], [], []
     for file in files:
         for at, (letter, numbers, case) in enumerate(listing.cases_of(file)):
             where = f"{file}, case {at + 1}: {case.remark}"
@@ -133,14 +141,17 @@ def main(files):
                 asked.append((" ".join(map(str, ["check", numbers[0], *case.numbers])), said, where))
             else:
                 fine = CASES[letter](case, *numbers)
+            if letter == "M":
+                anchors.append(" ".join(map(str, ["margins", numbers[0], *case.numbers])))
             if not fine:
                 wrong.append(where)
     found = answering.answers([question for question, _, _ in asked])
     wrong += [where for (_, said, where), answer in zip(asked, found, strict=True) if said != answer]
+    wrong += [f"{case}: {fault}" for case, fault in answering.anchored(anchors, answering.build()) if fault]
     print(", ".join(f"{letter} {count}" for letter, count in sorted(counts.items())))
     raise SystemExit("\n".join(wrong) or 0)
 
 
 if __name__ == "__main__":
-    folders = [listing.folder_of(x) for x in ("replay_sheets", "replay_calendar", "replay_derived_times", "replay_findings")]
+    folders = [listing.folder_of(x) for x in ("replay_sheets", "replay_calendar", "replay_derived_times", "replay_findings", "replay_margins")]
     main(sys.argv[1:] or [x for folder in folders for x in sorted(glob.glob(os.path.join(folder, "*.txt")))])

@@ -1,8 +1,9 @@
-"""Answers cases by the second reading of the rules (reading.py) and the reference (reference/)."""
+"""Answers cases by the second reading of the rules (reading.py, margins.py) and the reference (reference/)."""
 import os
 import subprocess
 import sys
 
+import margins
 import reading
 
 HERE = os.path.dirname(os.path.abspath(__file__))
@@ -78,6 +79,8 @@ def own_answer(word, rest):
     if word == "work":
         resource, start, work, *sheet = numbers(rest)
         return " ".join(map(str, reading.work_end_inquiry(sheet, resource, start, work)))
+    if word in ("margins", "margintext"):
+        return margins.spoken(margins_answer(word, rest))
     if word == "derived":
         return derived_answer(numbers(rest))
     raise SystemExit(f"answer: no such case: {word}")
@@ -97,9 +100,15 @@ def derived_answer(sheet):
     return " ".join(words)
 
 
-def by_reference(sheets, program):
+def margins_answer(word, rest):
+    if word == "margintext":
+        return margins.of_text(bytes.fromhex("".join(rest)))
+    return margins.answer(numbers(rest[1:]), int(rest[0]))
+
+
+def by_reference(sheets, program, *question):
     text = "".join(" ".join(map(str, sheet)) + "\n" for sheet in sheets)
-    return subprocess.run([program], input=text, capture_output=True, text=True, check=True).stdout.splitlines()
+    return subprocess.run([program, *question], input=text, capture_output=True, text=True, check=True).stdout.splitlines()
 
 
 def within(line, room):
@@ -129,3 +138,23 @@ def answers(lines, program=None):
             sheet, room = found[at]
             found[at] = within(by_first_booking(sheet, line), room)
     return found
+
+
+def margin_sheet(line):
+    """The rows of a case of margins, accepted whatever the room is; else None."""
+    word, rest = split_case(line)
+    if word == "margintext":
+        read = reading.read_text(bytes.fromhex("".join(rest)), margins.LENT_ROWS)
+        sheet = read[1] if read[0] == "accepted" else None
+    else:
+        sheet = numbers(rest[1:])
+    return None if sheet is None or reading.refused_1_to_6(sheet) else sheet
+
+
+def anchored(lines, program):
+    """For each case of margins with an accepted sheet: the case, and what of the reading differs from the reference's own figures and
+    findings, or None."""
+    asked = [(line, sheet) for line, sheet in zip(lines, map(margin_sheet, lines)) if sheet is not None]
+    sheets = [sheet for _, sheet in asked]
+    figures, findings = by_reference(sheets, program, "figures"), by_reference(sheets, program)
+    return [(line, margins.held(sheet, x, by_first_booking(sheet, y))) for (line, sheet), x, y in zip(asked, figures, findings, strict=True)]

@@ -3,11 +3,12 @@
 
     generate.py FAMILY COUNT SEED      writes COUNT cases, one to a line (README.md has the form)
 
-Families: sheets, broken, texts, work, shifts (pairs of lines: a sheet and the same sheet shifted), all.
+Families: sheets, broken, texts, work, shifts (pairs of lines: a sheet and the same sheet shifted), margins, all (but margins).
 """
 import random
 import sys
 
+import margins
 import reading
 from reading import CAP, CLASSES, COLUMNS, KINDS, NONE, bits_of
 
@@ -1016,6 +1017,106 @@ def shift_of(rng, numbers):
     return rng.choice(few + [least - 1, most + 1]) if rng.random() < 0.1 else max(least, min(most, rng.choice(few)))
 
 
+# ---- margins ----------------------------------------------------------------------------------------------
+
+FEW_IDS = [0, 1, 2, 3, 4, 5, 12, 100, 999_999_998, 999_999_999]  # tasks, activities and resources share them
+
+
+def near(rng, x, least, greatest):
+    """About x, mostly at it."""
+    return max(least, min(greatest, x + rng.choice([0, 0, 0, 1, -1, 2, -3])))
+
+
+def slack(rng):
+    """Few tasks and resources; deadlines at completions and capacities at peaks, or one off, or at the ends of their classes."""
+    tasks = rng.sample(FEW_IDS, rng.randint(0, 6))
+    resources = rng.sample(FEW_IDS, rng.randint(0, 4))
+    activities = rng.sample(FEW_IDS, rng.randint(0, 4)) if tasks else []
+    scale = rng.choice([0, 1, 1, 7, 1000, CAP // 20])
+
+    def instant():
+        return rng.choice([0, CAP]) if rng.random() < 0.06 else min(CAP, rng.randint(0, 20) * scale)
+
+    def one_of(known, p):
+        return rng.choice(known) if known and rng.random() < p else rng.choice(FEW_IDS)
+
+    rows = [row(11, r, rng.randint(0, 1), rng.choice([1, 1, 2, 3, 5, 0, -1, -1_000_000, 1_000_000])) for r in resources]
+    for a in activities:
+        rows.append(row(2, a, rng.choice(tasks), 0, 0, rng.choice([0, 1, 5]), 0, 0, NONE))
+        for place in range(rng.choice([0, 1, 1, 2])):
+            rows.append(row(5, a, rng.randint(0, 2), rng.choice([0, 1]), rng.choice([0, 1, 1, 2, 3, 7, 1_000_000])))
+            rows += [row(6, a, place, one_of(resources, 0.8)) for _ in range(rng.choice([0, 0, 1, 2]))]
+            rows += [row(7, a, place, 9) for _ in range(rng.choice([0, 0, 1]))]  # a skill that no one has: usage asks for none
+    used = rng.sample(resources, rng.randint(0, len(resources))) + rng.sample(FEW_IDS, rng.choice([0, 0, 1]))
+    for _ in range(rng.choice([0, 1, 3, 6, 10, 14])):
+        start = instant()
+        end = clamp(start + scale * rng.choice([1, 2, 2, 5, 9, 0, -1])) if rng.random() < 0.9 else instant()
+        part = (NONE, NONE) if rng.random() < 0.9 else (rng.randint(-1, 2), rng.randint(0, 3))
+        rows.append(row(23, one_of(activities, 0.7), one_of(tasks, 0.8), one_of(used, 0.95), start, end, 0, *part))
+    for _ in range(rng.choice([0, 0, 1, 2, 4])):
+        rows.append(row(24, one_of(activities, 0.7), one_of(tasks, 0.8), instant(), instant()))
+    for r in margins.booked(rows) + rng.sample(FEW_IDS, rng.choice([0, 1])):  # several for one resource, most of them overruled
+        for _ in range(rng.choice([0, 0, 0, 1, 2, 4])):
+            rows.append(row(18, r, rng.choice([-1_000_000, -1, 0, 1, 2, 3, 6, 1_000_000])))
+    for r in margins.booked(rows):  # full, or one off
+        own = [x for x in rows if x[0] == 11 and x[1] == r]
+        lowering = [x for x in rows if x[0] == 18 and x[1] == r]
+        if rng.random() < 0.5 and (own or lowering):
+            last = lowering[-1] if lowering else own[0]
+            last[2 if lowering else 3] = near(rng, min(margins.peak(rows, r), 1_000_000), -1_000_000, 1_000_000)
+    deadlines = []
+    for t in tasks:
+        at = margins.completion(rows, t)
+        ways = [NONE, 0, CAP, instant()] + ([near(rng, at, 0, CAP)] * 5 if at is not None else []) + deadlines[:2]
+        deadlines.insert(0, rng.choice(ways))
+        rows.insert(rng.randint(0, len(rows)), row(1, t, deadlines[0], rng.choice([NONE, NONE, 0, CAP])))
+    return mixed(rng, rows)
+
+
+def many_lines(rng):
+    """As many lines as 800 rows can give, or nearly."""
+    count = rng.choice([800, 800, 799, 798])
+    ids = rng.sample(range(2000), count)
+    if rng.random() < 0.5:
+        bookings = [row(23, 1, rng.choice([0, 1]), r, 0, rng.choice([0, 1]), 0, NONE, NONE) for r in ids]
+        return bookings if rng.random() < 0.5 else bookings[:-1] + [row(1, 1, 1, NONE)]
+    half = count // 2
+    tasks = [row(1, t, rng.randint(0, 9), NONE) for t in ids[:half]]
+    return mixed(rng, tasks + [row(23, 1, t, r, 0, rng.randint(0, 9), 0, NONE, NONE) for t, r in zip(ids[:half], ids[half:])])
+
+
+def margin_sheet(rng):
+    way = rng.random()
+    if way < 0.55:
+        return flat(slack(rng))
+    if way < 0.85:
+        return sheet(rng)
+    if way < 0.855:
+        return flat(many_lines(rng))
+    if way < 0.91:
+        return flat(rng.choice([meeting, overloaded])(rng))
+    if way < 0.95:
+        return damage(rng, flat(slack(rng)) or row(21))
+    return broken(rng)
+
+
+def margin_room(rng, numbers):
+    """Room for all lines, or about what the lines need."""
+    if rng.random() < 0.5:
+        return 2400
+    needed = 3 * len(margins.lines(numbers)) if reading.refused_1_to_6(numbers) is None else 3
+    return max(0, needed + rng.choice([-needed, -3, -2, -1, 0, 0, 1, 2, 3, 30]))
+
+
+def margin_text(rng):
+    """A text for the program: mostly sound."""
+    if rng.random() < 0.15:
+        return text(rng)[0]
+    numbers = flat(many_lines(rng)) if rng.random() < 0.01 else flat(slack(rng)) if rng.random() < 0.8 else sheet(rng)
+    sound = reading.spelled(numbers)
+    return sound if rng.random() < 0.93 else damaged_text(rng, sound)
+
+
 # ---- lines ------------------------------------------------------------------------------------------------
 
 
@@ -1044,6 +1145,11 @@ def lines(family, rng):
     if family == "shifts":
         numbers = sheet(rng)
         return [said("check", 8000, *numbers), said("check", 8000, *reading.shifted(numbers, shift_of(rng, numbers)))]
+    if family == "margins":
+        if rng.random() < 0.15:
+            return [f"margintext {margin_text(rng).hex()}"]
+        numbers = margin_sheet(rng)
+        return [said("margins", margin_room(rng, numbers), *numbers)]
     raise SystemExit(f"generate.py: no such family: {family}")
 
 

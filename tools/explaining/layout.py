@@ -10,7 +10,7 @@ SCREEN = 40  # rows; in longer texts
 QUIET = 8  # rows or more, one after the other, about which nothing is said are folded
 LONGEST = 400  # bytes of a row that are shown
 
-COLOURS = {"finding": "1;31", "refusal": "1;31", "note": "33", "see": "36", "rule": "2", "number": "2", "caret": "1;31", "head": "1"}
+COLOURS = {"finding": "1;31", "refusal": "1;31", "note": "33", "see": "36", "rule": "2", "margin": "1", "number": "2", "caret": "1;31", "head": "1"}
 
 
 def painter(colours):
@@ -118,7 +118,7 @@ def folded(lines, beside, every):
         place = end + 1
 
 
-def page(name, explanation, text, width, colours, every):
+def page(name, explanation, text, width, colours, every, heading="what check_schedule finds"):
     """The whole of what is printed."""
     paint = painter(colours)
     lines = text.split(b"\n")
@@ -131,7 +131,7 @@ def page(name, explanation, text, width, colours, every):
     room = max((len(shown(line[:LONGEST])[0]) for line in lines), default=0)
     left = max(NARROW, min(WIDE, room, width // 2 - 8))
     right = width - left - 10
-    out += ["", paint("number", f"{'line':>5}  {'as typed':<{left}} | what check_schedule finds")]
+    out += ["", paint("number", f"{'line':>5}  {'as typed':<{left}} | {heading}")]
     for start, end, visible in folded(lines, explanation.beside, every):
         if visible:
             for place in range(start, end):

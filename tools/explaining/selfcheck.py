@@ -7,8 +7,9 @@ the program; what it answers is explained. It is looked whether
     to stand in a row stands there in its column, each sum is that of its parts, what was worked out is in the words, and times that
     are needed or worked are those of tools/differential/reading.py;
   - each refusal is explained;
+  - of the same texts, and of N of the family margins, each line that the program margins prints is the one that this tool has figures for;
   - no printed line is too long, and what is printed for an example is what is kept beside it (NAME.explained).
-First ten answers and figures that are spoilt in one place are tried, and must be noticed.
+First fourteen answers and figures that are spoilt in one place are tried, and must be noticed.
 """
 import collections
 import dataclasses
@@ -20,7 +21,8 @@ import time
 from . import checks
 from .explanation import explain
 from .layout import page
-from .program import ask
+from .margins import HEADING, explain_margins
+from .program import MARGINS, ask, ask_margins
 from .rules import CAUSES, COLUMNS, REFUSALS, TYPES, reading
 from .sheet import Sheet
 
@@ -36,7 +38,7 @@ class Tally:
         self.silent = silent
         self.findings, self.with_figures, self.causes = collections.Counter(), collections.Counter(), collections.Counter()
         self.refused, self.explained, self.texts = collections.Counter(), collections.Counter(), collections.Counter()
-        self.clean, self.faults = 0, []
+        self.clean, self.margins, self.faults = 0, 0, []
 
     def fault(self, name, words):
         self.faults.append(words)
@@ -60,11 +62,23 @@ def judge(tally, name, text, program):
     else:
         tally.clean += not answer.findings
         judge_findings(tally, name, text, explanation)
-    printed = page(os.path.basename(name), explanation, text, WIDTH, False, False)
+    return judge_page(tally, name, page(os.path.basename(name), explanation, text, WIDTH, False, False))
+
+
+def judge_page(tally, name, printed):
     for line in printed:
         if len(line) > WIDTH or not line.isascii():
             tally.fault(name, f"a line of {len(line)} columns, or not in ASCII: {line!r}")
     return "".join(line + "\n" for line in printed)
+
+
+def judge_margins(tally, name, text):
+    """The same of the margins: each line has the figures of this tool, in this order, and there is none besides."""
+    explanation = explain_margins(text, ask_margins(MARGINS, text))
+    tally.margins += len(explanation.pairs)
+    if not explanation.whole:
+        tally.fault(name, "the margins, or their refusal, are not explained")
+    return judge_page(tally, name, page(os.path.basename(name), explanation, text, WIDTH, False, False, HEADING))
 
 
 def judge_findings(tally, name, text, explanation):
@@ -157,6 +171,13 @@ def unnoticed(program):
     for what, because in figures.items():
         if not list(not_implied(dataclasses.replace(reason, because=because), lines)):
             yield what
+    answer = ask_margins(MARGINS, SAMPLE)
+    task, resource = answer.margins
+    answers = {"another margin": [task._replace(margin=10), resource], "a margin too many": [task, resource, resource], "a margin too few": [task],
+               "margins in another order": [resource, task]}
+    for what, margins in answers.items():
+        if explain_margins(SAMPLE, answer._replace(margins=margins)).whole:
+            yield what
 
 
 # ---- examples and generated texts -------------------------------------------------------------------------
@@ -171,7 +192,10 @@ def run_examples(tally, program, folder, write):
     for path in sheets_in(folder):
         name = os.path.relpath(path, os.path.dirname(folder))
         with open(path, "rb") as file:
-            printed = judge(tally, name, file.read(), program)
+            text = file.read()
+        printed, margins = judge(tally, name, text, program), judge_margins(tally, name, text)
+        if os.path.basename(os.path.dirname(path)) == "margins":  # sheets that are kept for their margins
+            printed = margins
         tally.texts["examples"] += 1
         kept = path.removesuffix(".txt") + ".explained"
         if write:
@@ -203,7 +227,7 @@ def spelled(numbers):
 def generated(family, seed, number):
     """The text of one case of the generator."""
     words = generate.lines(family, random.Random(f"{family} {seed} {number}"))[0].split()
-    if family == "texts":
+    if words[0] in ("text", "program", "margintext"):
         return bytes.fromhex("".join(words[2 if words[0] == "text" else 1 :]))
     return spelled([int(word) for word in words[2:]])
 
@@ -214,9 +238,12 @@ def run(program, count, seed, folder, write):
     for what in unnoticed(program):
         tally.fault("the check itself", f"{what} is not noticed")
     run_examples(tally, program, folder, write)
-    for family in FAMILIES:
+    for family in [*FAMILIES, "margins"]:
         for number in range(count):
-            judge(tally, f"{family} {seed} {number}", generated(family, seed, number), program)
+            name, text = f"{family} {seed} {number}", generated(family, seed, number)
+            if family != "margins":
+                judge(tally, name, text, program)
+            judge_margins(tally, name, text)
             tally.texts[family] += 1
     report(tally, seed, time.time() - began)
     return int(bool(tally.faults))
@@ -224,8 +251,8 @@ def run(program, count, seed, folder, write):
 
 def report(tally, seed, seconds):
     print(f"examples: {tally.texts['examples']}, printed as expected: {tally.texts['as expected']}")
-    print("generated: " + ", ".join(f"{family} {tally.texts[family]}" for family in FAMILIES) + f" (seed {seed}, {seconds:.0f} s)")
-    print(f"accepted without finding: {tally.clean}")
+    print("generated: " + ", ".join(f"{family} {tally.texts[family]}" for family in [*FAMILIES, "margins"]) + f" (seed {seed}, {seconds:.0f} s)")
+    print(f"accepted without finding: {tally.clean}; margins: {tally.margins}")
     print("check,type  findings  with figures that imply them")
     for pair in sorted({(cause.check, cause.type) for cause in CAUSES.values()} | set(tally.findings)):
         print(f"{pair[0]},{pair[1]:<9} {tally.findings[pair]:>8}  {tally.with_figures[pair]:>8}  {TYPES[pair[1]][0]}")

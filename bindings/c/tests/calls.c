@@ -60,6 +60,20 @@ static void check(const char *what, const void *rows, size_t length, size_t room
     }
 }
 
+/* The example's: the task is late by 10, the resource has nothing left. */
+static const int64_t two_margins[2 * HUTCH_MARGIN] = {HUTCH_MARGIN_OF_TASK, 1, -10, HUTCH_MARGIN_OF_RESOURCE, 5, 0};
+
+static void margins(const char *what, const void *rows, size_t length, size_t room, uint64_t number, uint64_t place, const int64_t *lines) {
+    for (int side = AT_END; side <= AT_START; side++) {
+        struct lent in = lend_copy(rows, length * sizeof(int64_t), (enum side)side), out = lend_marks(room, (enum side)side);
+        struct hutch_outcome o = sheet_margins(in.at, length, out.at, room);
+        size_t written = number == HUTCH_ACCEPTED ? (size_t)place * HUTCH_MARGIN : 0;
+        expect(what, is(o, number, place) && untouched(&out, written, room));
+        if (lines && written) expect(what, memcmp(out.at, lines, written * sizeof(int64_t)) == 0);
+        give_back(&in), give_back(&out);
+    }
+}
+
 static void validate(const char *what, const void *rows, size_t length, uint64_t number, uint64_t place) {
     for (int side = AT_END; side <= AT_START; side++) {
         struct lent in = lend_copy(rows, length * sizeof(int64_t), (enum side)side);
@@ -115,13 +129,15 @@ static void texts(void) {
     misspelt("9: a header", "kind,id\n", 0);
 }
 
-/* ---- rows: what all three calls that are lent rows refuse in the same way */
+/* ---- rows: what all four calls that are lent rows refuse in the same way */
 
 static void refused(const char *what, const void *rows, size_t length, uint64_t number, uint64_t place) {
     struct hutch_work_end answer = {number, place, 0, 0};
     validate(what, rows, length, number, place);
     check(what, rows, length, 8, number, place);
     check(what, rows, length, 0, number, place);
+    margins(what, rows, length, 8, number, place, NULL);
+    margins(what, rows, length, 0, number, place, NULL);
     work_end(what, rows, length, (const int64_t[]){5, 0, 0}, answer);
 }
 
@@ -133,6 +149,7 @@ static void refusals_1_to_3(void) {
     refused("1: 801 rows", many, HUTCH_MAX_NUMBERS + HUTCH_COLUMNS, HUTCH_REFUSED_MISSHAPEN, 0);
     validate("800 rows", many, HUTCH_MAX_NUMBERS, HUTCH_ACCEPTED, 0);
     check("800 rows", many, HUTCH_MAX_NUMBERS, 0, HUTCH_ACCEPTED, 0);
+    margins("800 rows", many, HUTCH_MAX_NUMBERS, 0, HUTCH_ACCEPTED, 0, NULL);
     refused("2: kind 25", (const row[]){{HUTCH_KIND_TASK, 1, EMPTY, EMPTY}, {25}}, 20, HUTCH_REFUSED_UNKNOWN_KIND, 1);
     refused("2: kind -1", (const row[]){{-1}}, 10, HUTCH_REFUSED_UNKNOWN_KIND, 0);
     refused("2: kind none", (const row[]){{EMPTY}}, 10, HUTCH_REFUSED_UNKNOWN_KIND, 0);
@@ -166,7 +183,7 @@ static void refusals_4_and_5(void) {
     refused("5: a transport twice", transport_twice, COUNT(transport_twice), HUTCH_REFUSED_TWICE, 2);
 }
 
-/* ---- the call alone */
+/* ---- the check and the margins alone */
 
 /* The longest process at 2^-10 is 4,096,000,000,000,000 ms, below 2^53; on two such resources it is above. */
 static void refusal_6(void) {
@@ -176,6 +193,8 @@ static void refusal_6(void) {
     };
     check("6: two slow resources", rows, COUNT(rows), 100, HUTCH_REFUSED_STRETCHED, 4);
     check("6 before 7", rows, COUNT(rows), 0, HUTCH_REFUSED_STRETCHED, 4);
+    margins("6 of the margins", rows, COUNT(rows), 100, HUTCH_REFUSED_STRETCHED, 4, NULL);
+    margins("6 before 7 of the margins", rows, COUNT(rows), 0, HUTCH_REFUSED_STRETCHED, 4, NULL);
     validate("6 is not the validation's", rows, COUNT(rows), HUTCH_ACCEPTED, 0);
     expect("one slow resource", sheet_check_schedule(rows[0], COUNT(rows) - HUTCH_COLUMNS, (int64_t[100]){0}, 100).number == HUTCH_ACCEPTED);
 }
@@ -183,6 +202,18 @@ static void refusal_6(void) {
 static void refusal_7(void) {
     for (size_t room = 0; room < HUTCH_FINDING; room++) check("7: room for part of a finding", example, COUNT(example), room, HUTCH_REFUSED_FULL, 0);
     for (size_t room = HUTCH_FINDING; room < 10; room++) check("the example", example, COUNT(example), room, HUTCH_ACCEPTED, 1);
+    for (size_t room = 0; room < 2 * HUTCH_MARGIN; room++) margins("7: room for part of the margins", example, COUNT(example), room, HUTCH_REFUSED_FULL, 0, NULL);
+    for (size_t room = 2 * HUTCH_MARGIN; room < 10; room++) margins("the example's margins", example, COUNT(example), room, HUTCH_ACCEPTED, 2, two_margins);
+}
+
+/* As late as can be, as early as can be, in time exactly. */
+static void margins_at_their_ends(void) {
+    static const int64_t ends[][2] = {{0, HUTCH_MAX_TIME}, {HUTCH_MAX_TIME, 0}, {HUTCH_MAX_TIME, HUTCH_MAX_TIME}, {0, 0}};
+    for (size_t i = 0; i < sizeof ends / sizeof *ends; i++) {
+        const row rows[] = {{HUTCH_KIND_TASK, 1, ends[i][0], EMPTY}, {HUTCH_KIND_TIME_ONLY, 10, 1, 0, ends[i][1]}};
+        const int64_t line[HUTCH_MARGIN] = {HUTCH_MARGIN_OF_TASK, 1, ends[i][0] - ends[i][1]};
+        margins("a margin at its end", rows, COUNT(rows), HUTCH_MARGIN, HUTCH_ACCEPTED, 1, line);
+    }
 }
 
 /* ---- lengths of 0 */
@@ -194,10 +225,14 @@ static void nothing_lent(void) {
     validate("no rows", NULL, 0, HUTCH_ACCEPTED, 0);
     check("no rows, no room", NULL, 0, 0, HUTCH_ACCEPTED, 0);
     check("no rows, room", NULL, 0, 8, HUTCH_ACCEPTED, 0);
+    margins("no rows, no room", NULL, 0, 0, HUTCH_ACCEPTED, 0, NULL);
+    margins("no rows, room", NULL, 0, 8, HUTCH_ACCEPTED, 0, NULL);
     expect("null: validate", is(sheet_validate(NULL, 0), HUTCH_ACCEPTED, 0));
     expect("null: check", is(sheet_check_schedule(NULL, 0, NULL, 0), HUTCH_ACCEPTED, 0));
     expect("null: rows alone", is(sheet_check_schedule(NULL, 0, numbers, 8), HUTCH_ACCEPTED, 0));
     expect("null: findings alone", is(sheet_check_schedule(example[0], COUNT(example), NULL, 0), HUTCH_REFUSED_FULL, 0));
+    expect("null: margins", is(sheet_margins(NULL, 0, NULL, 0), HUTCH_ACCEPTED, 0));
+    expect("null: lines alone", is(sheet_margins(example[0], COUNT(example), NULL, 0), HUTCH_REFUSED_FULL, 0));
     expect("null: text and rows", is(sheet_read_text(NULL, 0, NULL, 0), HUTCH_ACCEPTED, 0));
     expect("null: text alone", is(sheet_read_text(NULL, 0, numbers, HUTCH_COLUMNS), HUTCH_ACCEPTED, 0));
     expect("null: rows of a text", is(sheet_read_text((const uint8_t *)"20,1\n", 5, NULL, 0), HUTCH_REFUSED_CROWDED, 0));
@@ -234,12 +269,14 @@ enum { THREADS = 4, ROUNDS = 200 };
 
 static void *often(void *good) {
     for (int i = 0; i < ROUNDS && *(int *)good; i++) {
-        int64_t rows[COUNT(example)], found[HUTCH_FINDING];
+        int64_t rows[COUNT(example)], found[HUTCH_FINDING], lines[2 * HUTCH_MARGIN];
         struct hutch_work_end w = sheet_work_end(example[0], COUNT(example), 5, 1, 2);
         *(int *)good = is(sheet_read_text((const uint8_t *)example_text, LENGTH(example_text), rows, COUNT(example)), HUTCH_ACCEPTED, 5)
             && memcmp(rows, example, sizeof rows) == 0 && is(sheet_validate(example[0], COUNT(example)), HUTCH_ACCEPTED, 0)
             && is(sheet_check_schedule(example[0], COUNT(example), found, HUTCH_FINDING), HUTCH_ACCEPTED, 1)
-            && memcmp(found, finding, sizeof found) == 0 && w.number == HUTCH_ACCEPTED && w.instant == 3;
+            && memcmp(found, finding, sizeof found) == 0
+            && is(sheet_margins(example[0], COUNT(example), lines, 2 * HUTCH_MARGIN), HUTCH_ACCEPTED, 2)
+            && memcmp(lines, two_margins, sizeof lines) == 0 && w.number == HUTCH_ACCEPTED && w.instant == 3;
     }
     return good;
 }
@@ -260,6 +297,7 @@ int main(void) {
     refusals_4_and_5();
     refusal_6();
     refusal_7();
+    margins_at_their_ends();
     nothing_lent();
     inquiries();
     threads();

@@ -1,7 +1,8 @@
-/* Many sheets in one process. Reads texts, each after a line with its length; for each prints what the program check_schedule prints.
-   Beside that, on blocks of the heap that have exactly the lent length, so that sanitizers and valgrind see what is touched beside them:
-   the same answers in exactly the room that is needed, refusal 10 or 7 with one number less, nothing written by a refusal or after the
-   last row or finding, the same refusal by all three calls that are lent rows. Ends with status 1 where one of these fails. */
+/* Many sheets in one process. Reads texts, each after a line with its length; for each prints what the program check_schedule prints; with
+   the argument `margins` what the program margins prints, and an empty line. Beside that, on blocks of the heap that have exactly the lent
+   length, so that sanitizers and valgrind see what is touched beside them: the same answers in exactly the room that is needed, refusal 10
+   or 7 with one number less, nothing written by a refusal or after the last row, finding or margin, the same refusal by all calls that are
+   lent rows, and the margins below zero are, line by line, what checks 8 and 5 find. Ends with status 1 where one of these fails. */
 #include "hutchdecade.h"
 
 #include <inttypes.h>
@@ -9,7 +10,7 @@
 #include <stdlib.h>
 #include <string.h>
 
-enum { ROOM = 2000 * HUTCH_FINDING };
+enum { ROOM = 2000 * HUTCH_FINDING, LINES = HUTCH_MAX_MARGINS * HUTCH_MARGIN };
 #define MARK INT64_C(-7777777777777777777)
 
 static unsigned long sheet;
@@ -64,7 +65,49 @@ static void check_exactly(const int64_t *rows, size_t length, const int64_t *fin
     free(lent);
 }
 
-/* The calls that are lent rows refuse by 1 to 5 alike; 6 and 7 are the check's alone. */
+static void margins_exactly(const int64_t *rows, size_t length, const int64_t *lines, size_t count) {
+    int64_t *lent = marks(count);
+    expect("margins in exact room", is(sheet_margins(rows, length, lent, count), HUTCH_ACCEPTED, count / HUTCH_MARGIN));
+    expect("the same margins", count == 0 || memcmp(lent, lines, count * sizeof *lines) == 0);
+    free(lent);
+    if (count == 0) return;
+    lent = marks(count - 1);
+    expect("one number less is 7, of margins", is(sheet_margins(rows, length, lent, count - 1), HUTCH_REFUSED_FULL, 0));
+    expect("7 writes nothing, of margins", untouched(lent, 0, count - 1));
+    free(lent);
+}
+
+/* The margins of the rows, to the lent numbers. */
+static struct hutch_outcome margins(const int64_t *rows, size_t length, int64_t *lines) {
+    struct hutch_outcome answer = sheet_margins(rows, length, lines, LINES);
+    expect("nothing after the margins", untouched(lines, written(answer, HUTCH_MARGIN), LINES));
+    expect("there is room for all margins", answer.number != HUTCH_REFUSED_FULL);
+    if (answer.number == HUTCH_ACCEPTED) margins_exactly(rows, length, lines, written(answer, HUTCH_MARGIN));
+    return answer;
+}
+
+/* Whether the margins of that sort that are below zero are, line by line, what the check finds. */
+static int below_zero_found(int64_t of, const int64_t *lines, const int64_t *last, int64_t check, const int64_t *f, const int64_t *end) {
+    for (const int64_t *m = lines; m < last; m += HUTCH_MARGIN) {
+        if (m[0] != of || m[2] >= 0) continue;
+        while (f < end && f[0] != check) f += HUTCH_FINDING;
+        if (f == end || f[2] != m[1]) return 0;
+        f += HUTCH_FINDING;
+    }
+    while (f < end && f[0] != check) f += HUTCH_FINDING;
+    return f == end;
+}
+
+/* The margins beside the findings: 1 to 6 refuse alike, and below zero stands what checks 8 and 5 find. */
+static void margins_beside(struct hutch_outcome answer, const int64_t *lines, struct hutch_outcome checked, const int64_t *findings) {
+    const int64_t *last = lines + written(answer, HUTCH_MARGIN), *end = findings + written(checked, HUTCH_FINDING);
+    if (checked.number == HUTCH_REFUSED_FULL) return;
+    expect("the refusal of the margins", answer.number == checked.number && (answer.number == HUTCH_ACCEPTED || answer.place == checked.place));
+    expect("check 8 finds the tasks below zero", below_zero_found(HUTCH_MARGIN_OF_TASK, lines, last, HUTCH_CHECK_DEADLINES, findings, end));
+    expect("check 5 finds the resources below zero", below_zero_found(HUTCH_MARGIN_OF_RESOURCE, lines, last, HUTCH_CHECK_CAPACITY, findings, end));
+}
+
+/* The calls that are lent rows refuse by 1 to 5 alike; 6 and 7 are the check's and the margins' alone. */
 static void alike(const int64_t *rows, size_t length, struct hutch_outcome checked) {
     struct hutch_outcome valid = sheet_validate(rows, length), none = {HUTCH_ACCEPTED, 0};
     struct hutch_work_end end = sheet_work_end(rows, length, 1, 0, 0);
@@ -74,10 +117,12 @@ static void alike(const int64_t *rows, size_t length, struct hutch_outcome check
     expect("the inquiry's answer", same(asked, own ? checked : none));
 }
 
-static struct hutch_outcome check(const uint8_t *text, size_t length, int64_t *findings) {
+/* The answers to a text: the check's, and the margins' in `of_margins`. */
+static struct hutch_outcome check(const uint8_t *text, size_t length, int64_t *findings, struct hutch_outcome *of_margins, int64_t *lines) {
     int64_t *lent = marks(HUTCH_MAX_NUMBERS);
     struct hutch_outcome answer = sheet_read_text(text, length, lent, HUTCH_MAX_NUMBERS);
     size_t count = written(answer, HUTCH_COLUMNS);
+    *of_margins = answer;
     expect("nothing after the rows", untouched(lent, count, HUTCH_MAX_NUMBERS));
     if (answer.number == HUTCH_ACCEPTED) {
         int64_t *rows = marks(count);
@@ -86,6 +131,8 @@ static struct hutch_outcome check(const uint8_t *text, size_t length, int64_t *f
         answer = sheet_check_schedule(rows, count, findings, ROOM);
         expect("nothing after the findings", untouched(findings, written(answer, HUTCH_FINDING), ROOM));
         alike(rows, count, answer);
+        *of_margins = margins(rows, count, lines);
+        margins_beside(*of_margins, lines, answer, findings);
         if (answer.number == HUTCH_ACCEPTED) check_exactly(rows, count, findings, written(answer, HUTCH_FINDING));
         expect("the rows are as they were", count == 0 || memcmp(rows, lent, count * sizeof *rows) == 0);
         free(rows);
@@ -94,25 +141,40 @@ static struct hutch_outcome check(const uint8_t *text, size_t length, int64_t *f
     return answer;
 }
 
+static int refused(struct hutch_outcome answer) {
+    if (answer.number != HUTCH_ACCEPTED) printf("refused,%" PRIu64 ",%" PRIu64 "\n", answer.number, answer.place);
+    return answer.number != HUTCH_ACCEPTED;
+}
+
 static void print(struct hutch_outcome answer, const int64_t *findings) {
-    if (answer.number != HUTCH_ACCEPTED) {
-        printf("refused,%" PRIu64 ",%" PRIu64 "\n", answer.number, answer.place);
-        return;
-    }
+    if (refused(answer)) return;
     printf("accepted,%" PRIu64 "\n", answer.place);
     for (const int64_t *f = findings; f < findings + written(answer, HUTCH_FINDING); f += HUTCH_FINDING)
         printf("%" PRId64 ",%" PRId64 ",%" PRId64 ",%" PRId64 "\n", f[0], f[1], f[2], f[3]);
 }
 
-int main(void) {
+static void print_margins(struct hutch_outcome answer, const int64_t *lines) {
+    if (!refused(answer))
+        for (const int64_t *m = lines; m < lines + written(answer, HUTCH_MARGIN); m += HUTCH_MARGIN)
+            printf("%s,%" PRId64 ",%" PRId64 "\n", m[0] == HUTCH_MARGIN_OF_TASK ? "task" : "resource", m[1], m[2]);
+    printf("\n");
+}
+
+int main(int count, char **words) {
+    int of_margins = count == 2 && strcmp(words[1], "margins") == 0;
     size_t length;
+    if (count > 1 && !of_margins) return 3;
     for (; scanf("%zu%*1[\n]", &length) == 1; sheet++) {
         uint8_t *text = malloc(length);
-        int64_t *findings = marks(ROOM);
+        int64_t *findings = marks(ROOM), *lines = marks(LINES);
+        struct hutch_outcome answer, margined;
         if ((!text && length) || fread(text, 1, length, stdin) != length) return 3;
-        print(check(text, length, findings), findings);
+        answer = check(text, length, findings, &margined, lines);
+        if (of_margins) print_margins(margined, lines);
+        else print(answer, findings);
         free(text);
         free(findings);
+        free(lines);
     }
     return 0;
 }

@@ -1,7 +1,7 @@
 //! Safe calls of `libhutchdecade.a`, which say what is wrong with a machine shop's week. Without `std`, without a heap, without dependencies.
 //!
 //! A sheet is lent as rows of ten numbers: the row's [`kind`], its columns in order, then zeros; a column that may be empty holds
-//! [`NONE`]. A [`Finding`] is four numbers. `include/hutchdecade.h` has what a call is lent, what it answers and how much stack it takes;
+//! [`NONE`]. A [`Finding`] is four numbers, a [`Margin`] three. `include/hutchdecade.h` has what a call is lent, what it answers and how much stack it takes;
 //! `docs/RULES.md` has the rules. What the header asks of the memory that is lent, the types here see to: slices are aligned,
 //! and one that is written to overlaps no other. What remains for the caller is the stack ([`stack`]) and the floating-point
 //! mode, which must be the one that a process starts in.
@@ -28,7 +28,7 @@ use core::slice::ChunksExact;
 compile_error!("libhutchdecade.a is for x86-64 with the System V calling convention");
 
 /// The version of the product.
-pub const VERSION: &str = "1.1.0";
+pub const VERSION: &str = "1.2.0";
 /// The revision of the rules: raised with every change after which some input is answered otherwise.
 pub const RULES: u32 = 1;
 /// An empty column.
@@ -43,6 +43,10 @@ pub const MAX_NUMBERS: usize = 8000;
 pub const MAX_TEXT: usize = 65536;
 /// Numbers of a finding.
 pub const FINDING: usize = 4;
+/// Numbers of a margin.
+pub const MARGIN: usize = 3;
+/// Margins of a sheet, at most.
+pub const MAX_MARGINS: usize = 800;
 /// Ids are 0 to this.
 pub const MAX_ID: i64 = 999_999_999;
 /// Numbers of class u are 0 to this; those of class n lie within this on both sides of 0.
@@ -58,6 +62,8 @@ pub mod stack {
     pub const VALIDATE: usize = 31744;
     /// Of [`crate::check_schedule`].
     pub const CHECK_SCHEDULE: usize = 124928;
+    /// Of [`crate::margins`].
+    pub const MARGINS: usize = 78848;
     /// Of [`crate::work_end`].
     pub const WORK_END: usize = 51200;
 }
@@ -148,7 +154,7 @@ numbered! {
         Twice = 5, "twice";
         /// The derived time of a booking is not finite, or 2^53 ms or more.
         Stretched = 6, "stretched";
-        /// There are more findings than the lent numbers have whole fours.
+        /// There are more findings than the lent numbers have whole fours, or margins than they have whole threes.
         Full = 7, "full";
         /// The text has more than [`MAX_TEXT`] bytes.
         Overlong = 8, "overlong";
@@ -208,6 +214,16 @@ numbered! {
         DurationTooShort = 10, "DurationTooShort";
         /// An activity.
         EarlyStart = 11, "EarlyStart";
+    }
+}
+
+numbered! {
+    /// What a margin is of.
+    MarginOf: i64 {
+        /// A task: its deadline minus its completion, in ms.
+        Task = 1, "task";
+        /// A resource: its limit minus its peak load, in units.
+        Resource = 2, "resource";
     }
 }
 
@@ -289,6 +305,43 @@ impl Iterator for Findings<'_> {
 impl ExactSizeIterator for Findings<'_> {}
 impl FusedIterator for Findings<'_> {}
 
+/// A margin, as the three numbers that it is written as. Below zero the task is late, or the resource overloaded: exactly then the check has a finding.
+#[derive(Debug, Clone, Copy, PartialEq, Eq, Hash)]
+pub struct Margin {
+    /// The number of the [`MarginOf`].
+    pub of: i64,
+    /// The id of the task or of the resource.
+    pub id: i64,
+    /// In ms of a task, in units of a resource.
+    pub margin: i64,
+}
+
+impl Margin {
+    /// What it is of.
+    pub const fn margin_of(&self) -> Option<MarginOf> {
+        MarginOf::of(self.of)
+    }
+}
+
+/// The margins of an accepted sheet, in the lent numbers.
+#[derive(Debug, Clone)]
+pub struct Margins<'a>(ChunksExact<'a, i64>);
+
+impl Iterator for Margins<'_> {
+    type Item = Margin;
+
+    fn next(&mut self) -> Option<Margin> {
+        self.0.next().map(|m| Margin { of: m[0], id: m[1], margin: m[2] })
+    }
+
+    fn size_hint(&self) -> (usize, Option<usize>) {
+        self.0.size_hint()
+    }
+}
+
+impl ExactSizeIterator for Margins<'_> {}
+impl FusedIterator for Margins<'_> {}
+
 /// When work ends.
 #[derive(Debug, Clone, Copy, PartialEq, Eq, Hash)]
 pub enum WorkEnd {
@@ -323,6 +376,7 @@ mod raw {
         pub fn sheet_read_text(text: *const u8, length: usize, rows: *mut i64, room: usize) -> Outcome;
         pub fn sheet_validate(rows: *const i64, length: usize) -> Outcome;
         pub fn sheet_check_schedule(rows: *const i64, length: usize, findings: *mut i64, room: usize) -> Outcome;
+        pub fn sheet_margins(rows: *const i64, length: usize, lines: *mut i64, room: usize) -> Outcome;
         pub fn sheet_work_end(rows: *const i64, length: usize, resource: i64, start: i64, work: i64) -> WorkEnd;
     }
 }
@@ -360,6 +414,15 @@ pub fn check_schedule<'a>(rows: &[i64], lent: &'a mut [i64]) -> Result<Findings<
     let answer = unsafe { raw::sheet_check_schedule(rows.as_ptr(), rows.len(), lent.as_mut_ptr(), lent.len()) };
     let findings = count(answer.number, answer.place)?;
     Ok(Findings(lent[..findings * FINDING].chunks_exact(FINDING)))
+}
+
+/// How late, or how much slack: writes the margins of the tasks and then of the booked resources to the lent numbers, and gives them; what lies
+/// after them is unchanged. Refused by 1 to 7, [`Reason::Misshapen`] to [`Reason::Full`]; room for [`MAX_MARGINS`] is always enough.
+pub fn margins<'a>(rows: &[i64], lent: &'a mut [i64]) -> Result<Margins<'a>, Refusal> {
+    // SAFETY: both slices are aligned and valid for their lengths, and the one that is written to is borrowed by nobody else.
+    let answer = unsafe { raw::sheet_margins(rows.as_ptr(), rows.len(), lent.as_mut_ptr(), lent.len()) };
+    let lines = count(answer.number, answer.place)?;
+    Ok(Margins(lent[..lines * MARGIN].chunks_exact(MARGIN)))
 }
 
 /// When work of so many ms ends that is started on a resource at an instant, by that resource's windows alone; one that has none, or is not

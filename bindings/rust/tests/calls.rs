@@ -50,6 +50,15 @@ fn checked(rows: &[i64], room: usize) -> Result<Vec<Finding>, Refusal> {
     answer
 }
 
+/// The same of the margins.
+fn slack(rows: &[i64], room: usize) -> Result<Vec<Margin>, Refusal> {
+    let mut lent = vec![MARK; room];
+    let answer = margins(rows, &mut lent).map(|lines| lines.collect::<Vec<_>>());
+    let written = answer.as_ref().map_or(0, |lines| lines.len() * MARGIN);
+    assert!(lent[written..].iter().all(|&x| x == MARK), "a number was changed that must not be");
+    answer
+}
+
 /// The same of the text reader.
 fn read(text: &[u8], room: usize) -> Result<Vec<i64>, Refusal> {
     let mut lent = vec![MARK; room];
@@ -76,6 +85,24 @@ fn the_example() {
 }
 
 #[test]
+fn the_example_by_margins() {
+    let late = Margin { of: 1, id: 1, margin: -10 };
+    let full = Margin { of: 2, id: 5, margin: 0 };
+    for room in 2 * MARGIN..10 {
+        assert_eq!(slack(&example(), room), Ok(vec![late, full]));
+    }
+    for room in 0..2 * MARGIN {
+        assert_eq!(slack(&example(), room), Err(refusal(Full, 0)));
+    }
+    assert_eq!((late.margin_of(), full.margin_of()), (Some(MarginOf::Task), Some(MarginOf::Resource)));
+    let ends = |deadline, completion| rows(&[&[kind::TASK, 1, deadline, NONE], &[kind::TIME_ONLY, 10, 1, 0, completion]]);
+    for (deadline, completion) in [(0, MAX_TIME), (MAX_TIME, 0), (MAX_TIME, MAX_TIME), (0, 0)] {
+        let margin = Margin { of: 1, id: 1, margin: deadline - completion };
+        assert_eq!(slack(&ends(deadline, completion), 3), Ok(vec![margin]));
+    }
+}
+
+#[test]
 fn findings_are_counted_before_they_are_taken() {
     let mut lent = [MARK; 8];
     let mut findings = check_schedule(&example(), &mut lent).unwrap();
@@ -93,6 +120,8 @@ fn empty_slices() {
     assert_eq!(checked(&[], 0), Ok(vec![]));
     assert_eq!(checked(&[], 8), Ok(vec![]));
     assert_eq!(checked(&example(), 0), Err(refusal(Full, 0)));
+    assert_eq!(slack(&[], 0), Ok(vec![]));
+    assert_eq!(slack(&[], 8), Ok(vec![]));
     assert_eq!(work_end(&[], 5, 7, 8), Ok(WorkEnd::End(15)));
 }
 
@@ -120,7 +149,7 @@ fn texts_that_are_refused() {
     }
 }
 
-/// Rows that all three calls refuse alike.
+/// Rows that all four calls refuse alike.
 #[test]
 fn rows_that_are_refused() {
     let cases = [
@@ -142,6 +171,8 @@ fn rows_that_are_refused() {
         assert_eq!(validate(&sheet), Err(refused));
         assert_eq!(checked(&sheet, 0), Err(refused));
         assert_eq!(checked(&sheet, 40), Err(refused));
+        assert_eq!(slack(&sheet, 0), Err(refused));
+        assert_eq!(slack(&sheet, 40), Err(refused));
         assert_eq!(work_end(&sheet, 5, 0, 0), Err(refused));
         assert_eq!(refused.reason(), Some(reason));
     }
@@ -154,6 +185,8 @@ fn a_booking_that_is_stretched() {
     let long = [kind::ACTIVITY, 10, 1, 0, 0, MAX_TIME, 0, 0, NONE];
     let sheet = rows(&[task(), &long, &slow(5), &slow(6), &booked(5), &booked(6)]);
     assert_eq!(checked(&sheet, 100), Err(refusal(Stretched, 4)));
+    assert_eq!(slack(&sheet, 100), Err(refusal(Stretched, 4)));
+    assert_eq!(slack(&sheet, 0), Err(refusal(Stretched, 4)));
     assert_eq!(validate(&sheet), Ok(()));
     assert!(checked(&sheet[..5 * COLUMNS], 100).is_ok());
 }
@@ -187,6 +220,7 @@ fn threads() {
                 for _ in 0..200 {
                     assert_eq!(read(TEXT, 50).as_ref(), Ok(&sheet));
                     assert_eq!(checked(&sheet, 4).map(|found| found.len()), Ok(1));
+                    assert_eq!(slack(&sheet, 6).map(|found| found.len()), Ok(2));
                     assert_eq!(work_end(&sheet, 5, 1, 2), Ok(WorkEnd::End(3)));
                 }
             });
@@ -199,5 +233,6 @@ fn words() {
     assert_eq!(refusal(Misspelt, 3).to_string(), "refused by 9 (misspelt) at place 3");
     assert_eq!(Refusal { number: 99, place: 0 }.reason(), None);
     assert_eq!(ViolationType::EarlyStart.to_string(), "EarlyStart");
+    assert_eq!((MarginOf::Resource.to_string().as_str(), MarginOf::of(3)), ("resource", None));
     assert_eq!((Check::of(0), Check::of(10), Reason::of(0), ViolationType::of(12)), (None, None, None, None));
 }

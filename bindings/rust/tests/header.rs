@@ -40,9 +40,10 @@ macro_rules! named {
 }
 
 fn of_crate() -> Vec<(String, String)> {
-    let mut found =
-        named!("", hutchdecade::{ VERSION, RULES, NONE, COLUMNS, MAX_ROWS, MAX_NUMBERS, MAX_TEXT, FINDING, MAX_ID, MAX_COUNT, MAX_TIME });
-    found.extend(named!("STACK_", stack::{ READ_TEXT, VALIDATE, CHECK_SCHEDULE, WORK_END }));
+    let mut found = named!("", hutchdecade::{
+        VERSION, RULES, NONE, COLUMNS, MAX_ROWS, MAX_NUMBERS, MAX_TEXT, FINDING, MARGIN, MAX_MARGINS, MAX_ID, MAX_COUNT, MAX_TIME,
+    });
+    found.extend(named!("STACK_", stack::{ READ_TEXT, VALIDATE, CHECK_SCHEDULE, MARGINS, WORK_END }));
     found.extend(named!("KIND_", kind::{
         TASK, ACTIVITY, OVERLAP, SPLIT, REQUIREMENT, CANDIDATE, WANTED_SKILL, PREDECESSOR, SPEED, FIXED_TIMING, RESOURCE, SKILL, COMPANION,
         TRANSPORT, RESOURCE_WINDOW, ACTIVITY_WINDOW, PRECEDENCE, CAPACITY, TIME_WINDOW, NO_OVERLAP, SYNCHRONIZE, MEMBER, BOOKING, TIME_ONLY,
@@ -50,6 +51,7 @@ fn of_crate() -> Vec<(String, String)> {
     found.extend(Reason::ALL.iter().map(|x| (format!("REFUSED_{}", in_capitals(x.name())), x.number().to_string())));
     found.extend(Check::ALL.iter().map(|x| (x.name().to_uppercase(), x.number().to_string())));
     found.extend(ViolationType::ALL.iter().map(|x| (format!("TYPE_{}", in_capitals(x.name())), x.number().to_string())));
+    found.extend(MarginOf::ALL.iter().map(|x| (format!("MARGIN_OF_{}", in_capitals(x.name())), x.number().to_string())));
     // what an answer of the wrapper shows by its form
     found.extend(
         [("ACCEPTED", "0"), ("WORK_END", "0"), ("WORK_PAUSE", "1"), ("WORK_NEVER", "2")].map(|(n, v)| (n.to_string(), v.to_string())),
@@ -69,4 +71,5 @@ fn numbers_and_back() {
     assert!(Reason::ALL.iter().all(|&x| Reason::of(x.number()) == Some(x)));
     assert!(Check::ALL.iter().all(|&x| Check::of(x.number()) == Some(x)));
     assert!(ViolationType::ALL.iter().all(|&x| ViolationType::of(x.number()) == Some(x)));
+    assert!(MarginOf::ALL.iter().all(|&x| MarginOf::of(x.number()) == Some(x)));
 }

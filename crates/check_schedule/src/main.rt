@@ -2,22 +2,16 @@
 ghost use mathlib.Core.Path.{_≡_};
 ghost use Prim.Native.Nat.{_≤_};
 ghost use lib.ListN.{length, take};
-ghost use Rattle.check_schedule.specs.Program.{printedSheet, printedText};
+ghost use Rattle.text_program.specs.Text.{printedText};
+ghost use Rattle.check_schedule.specs.Program.{printedSheet};
 use program_io::Input;
 use refusals::Answer;
 
-// 800 rows, or 2,000 findings. The promises here give the lengths, which is all that lending an array as a slice asks.
-fn numbers() -> [i64; 8000]
+// 2,000 findings.
+fn no_findings() -> [i64; 8000]
     ensures { λ r. ⌜ 8000 ≡ length r ⌝ }
 {
     [0; 8000]
-}
-
-// One byte more than a text may have: a longer one is refused whatever follows.
-fn longest_text() -> [u8; 65537]
-    ensures { λ r. ⌜ 65537 ≡ length r ⌝ }
-{
-    [0; 65537]
 }
 
 // Room for what is printed of 2,000 findings.
@@ -40,7 +34,7 @@ fn print_sheet(rows: &[i64], out: &mut [u8]) -> usize
     ensures { λ r. ⌜ r ≤ 168030 ⌝ }
     ensures { λ r. ⌜ take r (now (out .exit)) ≡ printedSheet (now (rows .entry)) ⌝ }
 {
-    let mut found = numbers();
+    let mut found = no_findings();
     let answer = feasibility::check_schedule(rows, &mut found);
     let found = kept(found);
     printing::print_answer(answer, &found, out)
@@ -50,20 +44,16 @@ fn print_sheet(rows: &[i64], out: &mut [u8]) -> usize
 fn print_text(text: &[u8], out: &mut [u8]) -> usize
     requires { ⌜ length (now out) ≡ 168030 ⌝ }
     ensures { λ r. ⌜ r ≤ 168030 ⌝ }
-    ensures { λ r. ⌜ take r (now (out .exit)) ≡ printedText (now (text .entry)) ⌝ }
+    ensures { λ r. ⌜ take r (now (out .exit)) ≡ printedText printedSheet (now (text .entry)) ⌝ }
 {
-    let mut rows = numbers();
+    let mut rows = text_program::no_rows();
     let read = text::read_text(text, &mut rows);
     match read {
         Answer::Accepted(n) => {
             let end = 10 * n;
             print_sheet(&rows[..end], out)
         }
-        Answer::Refused(number, place) => printing::print_answer(
-            Answer::Refused(number, place),
-            &rows,
-            out,
-        ),
+        Answer::Refused(number, place) => printing::put_refused(out, number, place as u64),
     }
 }
 
@@ -72,7 +62,7 @@ fn main() {
     if !started.taken {
         return;
     }
-    let mut text = longest_text();
+    let mut text = text_program::no_text();
     let reading = program_io::read_input(
         b"check_schedule: standard input",
         b"check_schedule: a sheet is read from standard input, up to the end of input (Ctrl-D)",

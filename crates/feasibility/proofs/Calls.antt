@@ -6,8 +6,7 @@ use lib.IntN.{ℤ}
 use lib.ListN.{length, take}
 use Rattle.findings.specs.Findings.{flat}
 use Rattle.findings.proofs.SinkLaws.{flat-length}
-use Rattle.refusals.specs.Lending.{lentAfter}
-use Rattle.refusals.proofs.AnswerLaws.{accepted-count, lent-first}
+use Rattle.refusals.proofs.AnswerLaws.{accepted-lines}
 use Rattle.definition.specs.CheckSchedule.{findings}
 use Rattle.refusals.specs.declared.Answer.the-variants.{Accepted}
 use Rattle.feasibility.specs.Refusals.{refusal}
@@ -18,10 +17,7 @@ use Rattle.feasibility.specs.Demand3.{SameCalls}
 first-lines : (rows before : List ℤ) (n : ℕ) → checkAnswer rows (length before / 4) ≡ Accepted n
     → (n ≡ length (findings rows)) × (take (4 * n) (findingsAfter rows before) ≡ flat (findings rows))
 unfolding checkAnswer findingsAfter
-first-lines rows before n e =
-    let o = refusal rows (length before / 4) in
-    let z : n ≡ length (findings rows) = accepted-count o (length (findings rows)) e in
-    (z, ap (λ m. take m (lentAfter o (flat (findings rows)) before)) (ap (λ m. 4 * m) z ∙ sym (flat-length (findings rows))) ∙ lent-first o (flat (findings rows)) before (length (findings rows)) e)
+first-lines rows before n e = accepted-lines 4 (refusal rows (length before / 4)) (flat (findings rows)) before (flat-length (findings rows)) e
 
 -- any two calls that accept two sheets with the same findings
 pub same-calls : (a b : List ℤ) → findings a ≡ findings b → (before before′ : List ℤ) (n m : ℕ)

@@ -10,7 +10,7 @@ use Rattle.findings.specs.Findings.{flat}
 use Rattle.definition.specs.CheckSchedule.{findings}
 use Rattle.shift.specs.Shift.{Shifted}
 use Rattle.refusals.specs.declared.Answer.the-variants.{Accepted}
-use Rattle.feasibility.specs.Refusals.{sheetRefusal}
+use Rattle.acceptance.specs.Refusals.{sheetRefusal}
 use Rattle.feasibility.specs.Call.{checkAnswer, findingsAfter}
 
 -- what two calls that accept have written: equally many findings, the same numbers in both buffers, and these are the definition's

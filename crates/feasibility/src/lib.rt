@@ -10,7 +10,7 @@ ghost use Rattle.derived_times.specs.inner.Needs.{Needs};
 ghost use Rattle.check6_calendars.specs.inner.Lacking.{Lacking};
 ghost use Rattle.definition.specs.CheckSchedule.{findings};
 ghost use Rattle.feasibility.specs.inner.Order.{beforeCapacity, afterCapacity};
-ghost use Rattle.feasibility.specs.Refusals.{sheetRefusal};
+ghost use Rattle.acceptance.specs.Refusals.{sheetRefusal};
 ghost use Rattle.feasibility.specs.Call.{checkAnswer, findingsAfter};
 use line_buffer::Handed;
 use refusals::Answer;

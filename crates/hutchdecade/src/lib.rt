@@ -7,6 +7,7 @@ ghost use Rattle.sheet.specs.Refusals.{refusalOf};
 ghost use Rattle.work_end_inquiry.specs.Inquiry.{inquiry};
 ghost use Rattle.outcomes.specs.Outcome.{ofAnswer, ofRefusal, ofInquiry};
 ghost use Rattle.feasibility.specs.Call.{checkAnswer, findingsAfter};
+ghost use Rattle.margin_lines.specs.Call.{marginsAnswer, marginsAfter};
 use outcomes::Outcome;
 use outcomes::WorkEndOutcome;
 use refusals::Answer;
@@ -51,5 +52,15 @@ pub extern "C" fn sheet_check_schedule(rows: &[i64], findings: &mut [i64]) -> Ou
     ensures { λ r. ⌜ now (findings .exit) ≡ findingsAfter (now (rows .entry)) (now (findings .entry)) ⌝ }
 {
     let answer: Answer = feasibility::check_schedule(rows, findings);
+    outcomes::of_answer(answer)
+}
+
+// The margins of the tasks and of the booked resources, as lines of three lent numbers.
+#[no_mangle]
+pub extern "C" fn sheet_margins(rows: &[i64], lines: &mut [i64]) -> Outcome
+    ensures { λ r. ⌜ r ≡ ofAnswer (marginsAnswer (now (rows .entry)) (length (now (lines .entry)) / 3)) ⌝ }
+    ensures { λ r. ⌜ now (lines .exit) ≡ marginsAfter (now (rows .entry)) (now (lines .entry)) ⌝ }
+{
+    let answer: Answer = margin_lines::margins(rows, lines);
     outcomes::of_answer(answer)
 }

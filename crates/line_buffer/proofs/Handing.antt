@@ -56,6 +56,15 @@ module _ (room held count : ℕ) where
       let t = tests-over (ltb room count) (ltb held count) (sym e ∙ q) in
       (ltb-false room count (t .0), ltb-false held count (t .1))
 
+  -- lines that are held where they were found are never longer
+  pub not-longer : {r : Handed} → count ≤ held → r ≡ handed room held count → r ≡ Longer → ⊥
+  unfolding handed
+  not-longer h e q = go (ltb room count) (sym (rw (le-ltb held count h) at e) ∙ q)
+    where
+      go : (b : Bool) → cond b Full Over ≡ Longer → ⊥
+      go true p = let z : _≡_ {A = ℕ} 0 1 = cc in omega arith
+      go false p = let z : _≡_ {A = ℕ} 0 1 = cc in omega arith
+
 -- ---- the numbers of the lines
 
 -- so many lines stand in so many numbers

@@ -74,7 +74,7 @@ module _ (rows : List ℤ) (x : ℕ) where
       go true = refl
       go false = refl
 
-  cap-at : (k : ℕ) → each (capacityOf (sheet rows) x) (constraintAt (sheet rows) k) ≡ given (is rows k 0 18 && is rows k 1 x) (cell rows k 2)
+  pub cap-at : (k : ℕ) → each (capacityOf (sheet rows) x) (constraintAt (sheet rows) k) ≡ given (is rows k 0 18 && is rows k 1 x) (cell rows k 2)
   unfolding each is
   cap-at k = go (is rows k 0 18) refl
     where

@@ -27,6 +27,11 @@ unfolding each
 each-ext f g h [] = refl
 each-ext f g h (x ∷ l) = ap₂ _++_ (h x) (each-ext f g h l)
 
+pub each-each : {A B C : Type 0} (f : B → List C) (g : A → List B) (l : List A) → each f (each g l) ≡ each (λ x. each f (g x)) l
+unfolding each
+each-each f g [] = refl
+each-each f g (x ∷ l) = each-append f (g x) (each g l) ∙ ap (λ m. each f (g x) ++ m) (each-each f g l)
+
 pub each-collect : {A B : Type 0} (f : A → List B) (g : ℕ → List A) (n : ℕ) → each f (collect g n) ≡ collect (λ k. each f (g k)) n
 unfolding collect each
 each-collect f g zero = refl

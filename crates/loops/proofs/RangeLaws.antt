@@ -5,6 +5,7 @@ use mathlib.Core.List.{List, [], _++_, append-nil, append-assoc}
 use native.Mathlib.Numerals.{add-one}
 use native.Mathlib.Nat.{le-antisymm}
 use native.Mathlib.Omega.{arith}
+use lib.ListN.{length, length-append}
 use Rattle.loops.specs.Range.{fold, collect}
 
 module _ {B : Type 0} (f : B → ℕ → B) (b : B) where
@@ -76,3 +77,10 @@ pub fold-ext : {B : Type 0} (f g : B → ℕ → B) (b : B) (n : ℕ) → ((e : 
 unfolding fold
 fold-ext f g b zero h = refl
 fold-ext f g b (suc n) h = h (fold f b n) n ∙ ap (λ e. g e n) (fold-ext f g b n h)
+
+-- two collections that have at most one element from each place between them
+pub one-a-place : {A B : Type 0} (f : ℕ → List A) (g : ℕ → List B) → ((k : ℕ) → length (f k) + length (g k) ≤ 1) → (n : ℕ)
+    → length (collect f n) + length (collect g n) ≤ n
+unfolding collect
+one-a-place f g h zero = omega arith
+one-a-place f g h (suc n) = simp length-append (omega (arith, h n, one-a-place f g h n))

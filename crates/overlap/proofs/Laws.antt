@@ -6,8 +6,7 @@ use native.Mathlib.Omega.{arith}
 use mathlib.Core.Bool.{Bool, true, false, not, _&&_, _||_, cond, true≢false}
 use lib.Dec.{T, leb, ltb, eqb, leb→le, le→leb, ltb→lt, eqb→eq, lit≤}
 use borrow.Author.Tests.{ltb-true, ltb-false, ne-eqb, lt-leb, le-ltb, lt-ltb}
-use lib.IntN.{ℤ, pos, negsuc, subℕ, negℤ, _+ℤ_, _-ℤ_, natAbs}
-use lib.Signed.{mag}
+use lib.IntN.{ℤ, pos, negsuc, negℤ, _+ℤ_, _-ℤ_, natAbs}
 use mir.Syntax.{w64}
 use mir.Val.{Fits, SFits, toZ, ofZ}
 use mir.Facts.{toZ-pos, toZ-ofZ}
@@ -19,6 +18,7 @@ use mathlib.Core.Logic.{_⊎_, inl, inr}
 use lib.Ieee.Back.{round-whole}
 use lib.Ieee.Order.{round-mono}
 use lib.Ieee.Positive.{num, den, den-pos}
+use Rattle.loops.proofs.IntegerLaws.{sum-mag}
 use Rattle.rounding.proofs.Laws.{Cut, cut-of-value}
 use Rattle.overlap.specs.declared.Overlap.{Overlap}
 use Rattle.overlap.specs.Bounds.{ceilDiv, ceiling, ceilingShare, overlapOf}
@@ -306,16 +306,6 @@ start-behind s a b r t h k e l =
     rw (sub-neg b a h, product-neg s n t (omega arith), ceiling-neg p (is-plain s (suc n) t (omega arith)), ← f) (sym (sub-pos a r (omega arith)))
 
 -- ---- the end
-mag-sub : (a b : ℕ) → mag (subℕ a b) ≤ a + b
-mag-sub a b = go (ltb a b)
-  where
-    go : (t : Bool) → mag (cond t (negsuc (b - suc a)) (pos (a - b))) ≤ a + b
-    go true = omega arith
-    go false = omega arith
-
-pub sum-mag : (a : ℕ) (z : ℤ) → mag (pos a +ℤ z) ≤ a + natAbs z
-sum-mag a (pos b) = omega arith
-sum-mag a (negsuc b) = mag-sub a (suc b)
 
 -- an operand as the machine reads it back
 module _ (end : ℕ) (lag : ℤ) (h : end ≤ 4000000000000) (k : natAbs lag ≤ 4000000000000) (f : SFits w64 lag) where

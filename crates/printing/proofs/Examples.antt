@@ -1,12 +1,16 @@
 -- Worked examples of the definitions. Assumes nothing.
-use mathlib.Core.List.{[], _∷_, _++_}
-use mathlib.Core.Path.{_≡_, refl}
+use Prim.Native.Nat.{ℕ}
+use mathlib.Core.List.{List, [], _∷_, _++_}
+use mathlib.Core.Path.{_≡_, refl, ap}
+use native.Mathlib.Omega.{arith}
 use lib.IntN.{pos, negsuc}
+use Rattle.loops.specs.Numbers.{minus}
 use Rattle.loops.specs.Range.{collect}
 use Rattle.refusals.specs.declared.Answer.the-variants.{Accepted, Refused}
 use Rattle.printing.specs.Decimal.{decimalIn, decimal, spelling}
 use Rattle.printing.specs.NumberLines.{field, numberLine, lineAt, numberLines}
 use Rattle.printing.specs.Printed.{printedRefused, printedAccepted, printed}
+use Rattle.printing.proofs.DecimalLaws.{decimal-in}
 
 -- the rules' example: "accepted,1" and "8,1,1,80"
 one-finding : printed (Accepted 1) (pos 8 ∷ pos 1 ∷ pos 1 ∷ pos 80 ∷ pos 7 ∷ [])
@@ -34,3 +38,13 @@ of-three : numberLines 3 (pos 1 ∷ pos 7 ∷ negsuc 4 ∷ pos 2 ∷ pos 3 ∷ p
     ≡ (49 ∷ 44 ∷ 55 ∷ 44 ∷ 45 ∷ 53 ∷ 10 ∷ []) ++ (50 ∷ 44 ∷ 51 ∷ 44 ∷ 48 ∷ 10 ∷ [])
 unfolding decimalIn decimal spelling collect field numberLine lineAt numberLines
 of-three = refl
+
+-- "0", and the lowest number of 64 bits, "-9223372036854775808"
+nothing : spelling (pos 0) ≡ 48 ∷ []
+unfolding decimalIn decimal spelling
+nothing = refl
+
+lowest : spelling (minus 9223372036854775808)
+    ≡ 45 ∷ 57 ∷ 50 ∷ 50 ∷ 51 ∷ 51 ∷ 55 ∷ 50 ∷ 48 ∷ 51 ∷ 54 ∷ 56 ∷ 53 ∷ 52 ∷ 55 ∷ 55 ∷ 53 ∷ 56 ∷ 48 ∷ 56 ∷ []
+unfolding decimalIn spelling
+lowest = ap (λ (ds : List ℕ). 45 ∷ ds) (decimal-in 18 9223372036854775808 (omega arith))

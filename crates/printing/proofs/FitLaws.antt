@@ -10,12 +10,7 @@ use Rattle.loops.specs.Range.{collect}
 use Rattle.printing.specs.Decimal.{decimal, spelling}
 use Rattle.printing.specs.NumberLines.{field, numberLine, lineAt, numberLines}
 use Rattle.printing.specs.Printed.{printedRefused, printedAccepted}
-use Rattle.printing.proofs.DecimalLaws.{decimal-last, decimal-more}
-
--- 10 to the k
-abbrev tens : ℕ → ℕ
-tens zero = 1
-tens (suc k) = 10 * tens k
+use Rattle.printing.proofs.DecimalLaws.{decimal-last, decimal-more, tens}
 
 decimal-length : (k n : ℕ) → n < tens (suc k) → length (decimal n) ≤ suc k
 decimal-length zero n h = rw (decimal-last n (omega arith)) (omega arith)
@@ -38,12 +33,15 @@ spelling-length (negsuc n) h = omega (arith, decimal-length 18 (suc n) (omega ar
 abbrev pub Small : List ℤ → Type 0
 Small l = (i : ℕ) → natAbs (getD l i (pos 0)) ≤ 2 ^ 63
 
-small-line : (w m : ℕ) (l : List ℤ) → Small l → Small (take w (drop m l))
-small-line w m l s i = go (decLt i w)
+pub small-take : (w : ℕ) (l : List ℤ) → Small l → Small (take w l)
+small-take w l s i = go (decLt i w)
   where
-    go : Dec (i < w) → natAbs (getD (take w (drop m l)) i (pos 0)) ≤ 2 ^ 63
-    go (yes h) = rw (getD-take w (drop m l) i (pos 0) h, getD-drop m l i (pos 0)) (s (m + i))
-    go (no h) = rw (List·getD-eq-default (take w (drop m l)) (pos 0) {n = i} (omega (arith, length-take w (drop m l)))) (omega arith)
+    go : Dec (i < w) → natAbs (getD (take w l) i (pos 0)) ≤ 2 ^ 63
+    go (yes h) = rw (getD-take w l i (pos 0) h) (s i)
+    go (no h) = rw (List·getD-eq-default (take w l) (pos 0) {n = i} (omega (arith, length-take w l))) (omega arith)
+
+pub small-drop : (m : ℕ) (l : List ℤ) → Small l → Small (drop m l)
+small-drop m l s i = rw (getD-drop m l i (pos 0)) (s (m + i))
 
 field-length : (line : List ℤ) (c : ℕ) → Small line → length (field line c) ≤ 21
 unfolding field
@@ -54,15 +52,19 @@ unfolding collect
 fields-length line zero s = omega arith
 fields-length line (suc n) s = simp length-append (omega (arith, fields-length line n s, field-length line n s))
 
-line-length : (found : List ℤ) (k : ℕ) → Small found → length (numberLine (lineAt 4 found k)) ≤ 84
-unfolding numberLine lineAt
-line-length found k s =
-    omega (arith, fields-length (take 4 (drop (k * 4) found)) (length (take 4 (drop (k * 4) found))) (small-line 4 (k * 4) found s), length-take 4 (drop (k * 4) found))
+pub line-length : (line : List ℤ) → Small line → length (numberLine line) ≤ 21 * length line
+unfolding numberLine
+line-length line s = fields-length line (length line) s
+
+four-length : (found : List ℤ) (k : ℕ) → Small found → length (numberLine (lineAt 4 found k)) ≤ 84
+unfolding lineAt
+four-length found k s =
+    omega (arith, line-length (take 4 (drop (k * 4) found)) (small-take 4 (drop (k * 4) found) (small-drop (k * 4) found s)), length-take 4 (drop (k * 4) found))
 
 lines-length : (found : List ℤ) (n : ℕ) → Small found → length (numberLines 4 found n) ≤ 84 * n
 unfolding numberLines collect
 lines-length found zero s = omega arith
-lines-length found (suc n) s = simp length-append (omega (arith, lines-length found n s, line-length found n s))
+lines-length found (suc n) s = simp length-append (omega (arith, lines-length found n s, four-length found n s))
 
 pub accepted-fits : (found : List ℤ) → Small found → (n : ℕ) → n ≤ 2000 → length (printedAccepted n found) ≤ 168030
 unfolding printedAccepted

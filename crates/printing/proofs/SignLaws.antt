@@ -5,7 +5,7 @@ use mathlib.Core.Bool.{true, false}
 use mathlib.Core.List.{List, [], _∷_}
 use native.Mathlib.Omega.{arith}
 use lib.Dec.{T, leb, leb→le}
-use lib.IntN.{ℤ, pos, negsuc, negℤ, natAbs, _+ℤ_, _-ℤ_, +ℤ-idl}
+use lib.IntN.{ℤ, pos, negsuc, negℤ, natAbs, _+ℤ_, _-ℤ_, +ℤ-idl, +ℤ-idr}
 use lib.Signed.{ltZ, nonNeg}
 use mir.Syntax.{w64}
 use mir.Val.{Fits, SFits, toZ, ofZ}
@@ -47,8 +47,11 @@ module _ (z : ℤ) (f : SFits w64 z) (e : ltZ (toZ w64 (ofZ w64 z)) (pos 0) ≡ 
   back-is : back z ≡ pos m
   back-is = rw (up-is, toZ-ofZ (negated-fits m small)) (neg-back m)
 
-  pub up-fits : SFits w64 (up z)
-  up-fits = rw up-is (negated-fits m small)
+  -- it can be added to, by one at most
+  pub up-fits : (n : ℕ) → T (leb n 1) → SFits w64 (toZ w64 (ofZ w64 z) +ℤ pos n)
+  up-fits zero t = rw (toZ-ofZ f, +ℤ-idr) f
+  up-fits (suc zero) t = rw up-is (negated-fits m small)
+  up-fits (suc (suc n)) t = let l = leb→le (suc (suc n)) 1 t in absurd (omega arith)
 
   pub back-fits : SFits w64 (back z)
   back-fits = rw back-is (record { sfits = small })

@@ -1,5 +1,5 @@
--- What the program prints: "refused,NUMBER,PLACE", or "accepted,COUNT" and then a line "check,type,entity,severity" for each finding. Each line is
--- ended by a line feed (10); 44 is the comma. Assumes nothing.
+-- What the programs print: "refused,NUMBER,PLACE"; or of findings "accepted,COUNT" and then a line "check,type,entity,severity" for each, of other lines
+-- these alone. Each line is ended by a line feed (10); 44 is the comma. Assumes nothing.
 use Prim.Native.Nat.{ℕ}
 use mathlib.Core.List.{List, [], _∷_, _++_}
 use lib.IntN.{ℤ}
@@ -25,3 +25,8 @@ printedAccepted n found = acceptedWord ++ decimal n ++ 10 ∷ numberLines 4 foun
 abbrev pub printed : Answer → List ℤ → List ℕ
 printed (Refused number place) found = printedRefused number place
 printed (Accepted n) found = printedAccepted n found
+
+-- an answer, with the lines that are printed where it accepts
+abbrev pub printedAlone : Answer → List ℕ → List ℕ
+printedAlone (Refused number place) lines = printedRefused number place
+printedAlone (Accepted n) lines = lines

@@ -23,7 +23,7 @@ fn put(out: &mut [u8], at: usize, x: u8) -> usize
     at
 }
 
-fn put_bytes(out: &mut [u8], from: usize, s: &[u8]) -> usize
+pub fn put_bytes(out: &mut [u8], from: usize, s: &[u8]) -> usize
     requires { ⌜ from ≤ length (now out) ⌝ }
     ensures { λ r. ⌜ Wrote (now (out .entry)) from (now (out .exit)) r (now (s .entry)) ⌝ }
 {
@@ -55,12 +55,12 @@ fn put_decimal(out: &mut [u8], at: usize, n: u64) -> usize
     put(out, next, digit(n % 10))
 }
 
-// A number without its sign.
+// A number without its sign. One below zero is negated; the lowest has no negative, so it is the number after it that is, and one is added to that.
 fn magnitude(z: i64) -> u64
     ensures { λ r. ⌜ r ≡ natAbs z ⌝ }
 {
     if z < 0 {
-        return (0 - (z + 1)) as u64 + 1;
+        return -(z + 1) as u64 + 1;
     }
     z as u64
 }
@@ -90,7 +90,7 @@ fn put_field(out: &mut [u8], at: usize, line: &[i64], c: usize) -> usize
 }
 
 // A line of numbers.
-fn put_line(out: &mut [u8], from: usize, line: &[i64]) -> usize
+pub fn put_line(out: &mut [u8], from: usize, line: &[i64]) -> usize
     requires { ⌜ from ≤ length (now out) ⌝ }
     ensures { λ r. ⌜ Wrote (now (out .entry)) from (now (out .exit)) r (numberLine (now (line .entry))) ⌝ }
 {
@@ -131,7 +131,8 @@ fn put_lines(out: &mut [u8], from: usize, numbers: &[i64], w: usize, n: usize) -
     at
 }
 
-fn put_refused(out: &mut [u8], number: u64, place: u64) -> usize
+// A refusal, from the start of the buffer on.
+pub fn put_refused(out: &mut [u8], number: u64, place: u64) -> usize
     ensures { λ r. ⌜ Wrote (now (out .entry)) 0 (now (out .exit)) r (printedRefused number place) ⌝ }
 {
     let mut at = put_bytes(out, 0, b"refused,");

@@ -190,6 +190,14 @@ pub fn write_output(output: &[u8], bytes: &[u8]) {
     }
 }
 
+// The same of an answer that may be no line at all. A line on standard error then says so: silence on both outputs would be no answer.
+pub fn write_lines(output: &[u8], lines: &[u8]) {
+    if lines.len() == 0 {
+        tell(b"0 lines");
+    }
+    write_output(output, lines);
+}
+
 fn close_output(output: &[u8]) {
     if libc::close(STDOUT_FILENO) < 0 {
         os::fail(output);

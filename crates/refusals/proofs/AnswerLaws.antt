@@ -1,6 +1,6 @@
 -- What an answer tells. Assumes nothing.
-use Prim.Native.Nat.{ℕ}
-use mathlib.Core.Path.{_≡_, refl, sym}
+use Prim.Native.Nat.{ℕ, _*_}
+use mathlib.Core.Path.{_≡_, refl, sym, ap, _∙_}
 use mathlib.Core.List.{List}
 use mathlib.Core.Option.{Option, none, some}
 use native.Mathlib.Omega.{arith}
@@ -28,3 +28,10 @@ pub lent-first : (o : Option Refusal) (numbers before : List ℤ) (count : ℕ) 
     → take (length numbers) (lentAfter o numbers before) ≡ numbers
 lent-first none numbers before count e = take-at numbers _ (length numbers) refl
 lent-first (some x) numbers before count e = absurd (no-accept e)
+
+-- these are as many lines of w numbers as it counted
+pub accepted-lines : (w : ℕ) (o : Option Refusal) (numbers before : List ℤ) {count n : ℕ} → length numbers ≡ w * count → answered o count ≡ Accepted n
+    → (n ≡ count) × (take (w * n) (lentAfter o numbers before) ≡ numbers)
+accepted-lines w o numbers before {count} l e =
+    let z = accepted-count o count e in
+    (z, ap (λ m. take m (lentAfter o numbers before)) (ap (λ m. w * m) z ∙ sym l) ∙ lent-first o numbers before count e)

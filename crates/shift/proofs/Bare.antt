@@ -85,7 +85,7 @@ module _ {T : Type 0} (s : Sheet T) where
   same-found = ap₂ _++_ (each-same (unplaced s) (unplaced (numbers s)) same-unplaced) (each-same (unfilled s) (unfilled (numbers s)) same-unfilled)
 
 module _ {T : Type 0} (K : Clock T) (s : Sheet T) (bare : Bare s) where
-  no-booking : (k : ℕ) → assignmentAt s k ≡ []
+  pub no-booking : (k : ℕ) → assignmentAt s k ≡ []
   unfolding assignmentAt
   no-booking k = rw (bare .bookings k)
 
@@ -113,7 +113,7 @@ module _ {T : Type 0} (K : Clock T) (s : Sheet T) (bare : Bare s) where
   unfolding activitySpan earliest
   no-activity-span x = rw (no-time-only x, none-of x)
 
-  no-completion : (t : ℕ) → taskCompletionTime K s t ≡ none
+  pub no-completion : (t : ℕ) → taskCompletionTime K s t ≡ none
   unfolding taskCompletionTime latest each
   no-completion t = rw (no-bookings, no-spans)
 

@@ -79,6 +79,9 @@ indexed rows v k₀ l₀ o₀ k l o a b c q e f = record {
   kept = λ z. absurd (z (passed q e));
 }
 
--- the tables of a sheet that is not refused
+-- a sheet that is not refused: its shape, and its tables
+pub shape-passed : (rows : List ℤ) → refusalOf rows ≡ none → shapeRefusal rows ≡ none
+shape-passed rows e = or-none-left (shapeRefusal rows) (linkRefusal rows) (sym (in-two rows) ∙ e)
+
 pub tables-of : (rows : List ℤ) {k₀ l₀ o₀ k l o : List ℕ} {v : Verdict} → Indexing rows k₀ l₀ o₀ v k l o → refusalOf rows ≡ none → Tables rows k l o
-tables-of rows h e = h .tables (or-none-left (shapeRefusal rows) (linkRefusal rows) (sym (in-two rows) ∙ e))
+tables-of rows h e = h .tables (shape-passed rows e)

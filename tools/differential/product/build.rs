@@ -4,11 +4,12 @@ use std::path::PathBuf;
 use std::process::Command;
 use std::{env, fs};
 
-const FUNCTIONS: [&str; 4] = [
+const FUNCTIONS: [&str; 5] = [
     "sheet_validate",
     "sheet_read_text",
     "sheet_work_end",
     "sheet_check_schedule",
+    "sheet_margins",
 ];
 
 fn main() {

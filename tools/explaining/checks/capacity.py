@@ -3,13 +3,19 @@ from ..reasons import Figure, Reason, Relation, line, listed, total, typed
 
 
 def reasons(sheet):
-    for resource, bookings in list(sheet.bookings_on.items()):
+    for resource in list(sheet.bookings_on):
         limit, limit_words = limit_of(sheet, resource)
-        usages = [(b, usage(sheet, b)) for b in bookings]
-        loads = {b.start: sum(u.value for x, u in usages if x.start <= b.start < x.end) for b in bookings}
-        instant = min(loads, key=lambda start: (-loads[start], start))
-        if loads[instant] > limit.value:
-            yield over(sheet, resource, instant, [(b, u) for b, u in usages if b.start <= instant < b.end], limit, limit_words)
+        instant, active, load = fullest(sheet, resource)
+        if load > limit.value:
+            yield over(sheet, resource, instant, active, limit, limit_words)
+
+
+def fullest(sheet, resource):
+    """The first of the starts at which a booked resource holds most, the bookings that it holds then with what they take, and how much that is."""
+    usages = [(b, usage(sheet, b)) for b in sheet.bookings_on[resource]]
+    loads = {b.start: sum(u.value for x, u in usages if x.start <= b.start < x.end) for b, _ in usages}
+    instant = min(loads, key=lambda start: (-loads[start], start))
+    return instant, [(b, u) for b, u in usages if b.start <= instant < b.end], loads[instant]
 
 
 def limit_of(sheet, resource):
@@ -41,12 +47,16 @@ def usage_words(usage):
     return f", usage on {line(usage.row)}" if usage.value != 1 else ""
 
 
+def running(taking):
+    return " Then run " + listed([f"activity {b.activity}, {b.start}..{b.end}, taking {u} ({line(b)}{usage_words(u)})" for b, u in taking], 5) + "."
+
+
 def over(sheet, resource, instant, active, limit, limit_words):
     peak = total("peak", *(u for _, u in active))
     taking = [(b, u) for b, u in active if u.value > 0]
     words = f"Resource {resource} holds {peak} at {instant}, its limit is {limit} ({limit_words})."
     if taking:
-        words += " Then run " + listed([f"activity {b.activity}, {b.start}..{b.end}, taking {u} ({line(b)}{usage_words(u)})" for b, u in taking], 5) + "."
+        words += running(taking)
     else:
         words += " Even a booking that takes nothing is above it."
     at = Figure("instant", instant)

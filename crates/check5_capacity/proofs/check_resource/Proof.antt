@@ -1,5 +1,6 @@
 use borrow.Author.Needs.{needs}
-use Rattle.check5_capacity.proofs.Told.{bookings-all, resource-told}
+use Rattle.load.proofs.Told.{bookings-all}
+use Rattle.check5_capacity.proofs.Told.{resource-told}
 use Rattle.check5_capacity.proofs.check_resource.Statement.{statement}
 use Rattle.check5_capacity.proofs.check_resource.Tie as tie
 

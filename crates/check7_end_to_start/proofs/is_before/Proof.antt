@@ -4,7 +4,7 @@ use native.Mathlib.Omega.{arith}
 use mir.Syntax.{w64}
 use mir.Val.{SFits}
 use mir.Facts.{toZ-pos, toZ-ofZ}
-use Rattle.overlap.proofs.Laws.{sum-mag}
+use Rattle.loops.proofs.IntegerLaws.{sum-mag}
 use borrow.Author.Needs.{needs}
 use Rattle.check7_end_to_start.proofs.is_before.Statement.{statement}
 use Rattle.check7_end_to_start.proofs.is_before.Tie as tie

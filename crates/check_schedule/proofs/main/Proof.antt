@@ -1,4 +1,4 @@
-use Rattle.check_schedule.proofs.Printing.{read-within, read-first, printed-first}
+use Rattle.text_program.proofs.Printing.{read-within, read-first, printed-first}
 use borrow.Author.Needs.{needs}
 use Rattle.check_schedule.proofs.main.Statement.{statement}
 use Rattle.check_schedule.proofs.main.Tie as tie
@@ -12,8 +12,8 @@ arguments-requires c κs = search needs
 returns : tie.Need-returns
 returns c = search needs
 
-longest-text-requires : tie.Need-longest-text-requires
-longest-text-requires c κs = search needs
+no-text-requires : tie.Need-no-text-requires
+no-text-requires c κs = search needs
 
 slice-aggregate-read-input : tie.Need-slice-aggregate-read-input
 slice-aggregate-read-input c = search needs
@@ -73,7 +73,7 @@ main-spec =
     slice-aggregate-arguments
     arguments-requires
     returns
-    longest-text-requires
+    no-text-requires
     slice-aggregate-read-input
     slice-aggregate-read-input-2
     slice-aggregate-read-input-3

@@ -2,13 +2,14 @@ use borrow.Author.Needs.{needs}
 use contract.Lifetimes.{Lfts}
 use Rattle.refusals.specs.declared.Answer.{Answer}
 use Rattle.refusals.specs.declared.Answer.the-variants.{Accepted, Refused}
-use Rattle.check_schedule.proofs.Printing.{Bounded, small-numbers, sheet-printed, sheet-within}
+use Rattle.text_program.proofs.Printing.{Bounded, small-numbers}
+use Rattle.check_schedule.proofs.Printing.{sheet-printed, sheet-within}
 use Rattle.check_schedule.proofs.print_sheet.Statement.{statement}
 use Rattle.check_schedule.proofs.print_sheet.Tie as tie
 use Rattle.check_schedule.proofs.print_sheet.Lts as lts
 
-numbers-requires : tie.Need-numbers-requires
-numbers-requires c κs = search needs
+no-findings-requires : tie.Need-no-findings-requires
+no-findings-requires c κs = search needs
 
 slice-aggregate-check-schedule : tie.Need-slice-aggregate-check-schedule
 slice-aggregate-check-schedule c = search needs
@@ -40,7 +41,7 @@ pub print-sheet-spec : {M : Type 1} → statement M
 print-sheet-spec =
     tie.close
     (tie.spec
-    numbers-requires
+    no-findings-requires
     slice-aggregate-check-schedule
     check-schedule-requires
     kept-requires

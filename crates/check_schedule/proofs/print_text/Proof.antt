@@ -1,10 +1,10 @@
-use Rattle.check_schedule.proofs.Printing.{text-accepted, text-refused, rows-fit, rows-within, rows-first, refused-within}
+use Rattle.text_program.proofs.Printing.{text-accepted, text-refused, rows-fit, rows-within, rows-first, refused-within}
 use borrow.Author.Needs.{needs}
 use Rattle.check_schedule.proofs.print_text.Statement.{statement}
 use Rattle.check_schedule.proofs.print_text.Tie as tie
 
-numbers-requires : tie.Need-numbers-requires
-numbers-requires c κs = search needs
+no-rows-requires : tie.Need-no-rows-requires
+no-rows-requires c κs = search needs
 
 slice-aggregate-read-text : tie.Need-slice-aggregate-read-text
 slice-aggregate-read-text c = search needs
@@ -30,11 +30,8 @@ print-sheet-requires c κs = search needs
 enum-known-read-2 : tie.Need-enum-known-read-2
 enum-known-read-2 c = search needs
 
-slice-aggregate-print-answer : tie.Need-slice-aggregate-print-answer
-slice-aggregate-print-answer c = search needs
-
-print-answer-requires : tie.Need-print-answer-requires
-print-answer-requires c κs = search needs
+put-refused-requires : tie.Need-put-refused-requires
+put-refused-requires c κs = search needs
 
 same-length : tie.Need-same-length
 same-length c = search needs
@@ -52,7 +49,7 @@ pub print-text-spec : {M : Type 1} → statement M
 print-text-spec =
     tie.close
     (tie.spec
-    numbers-requires
+    no-rows-requires
     slice-aggregate-read-text
     read-text-requires
     enum-known-read
@@ -61,8 +58,7 @@ print-text-spec =
     slice-aggregate-print-sheet
     print-sheet-requires
     enum-known-read-2
-    slice-aggregate-print-answer
-    print-answer-requires
+    put-refused-requires
     same-length
     returns
     same-length-2

@@ -1,4 +1,5 @@
-use Rattle.feasibility.proofs.Top.{indexed-of, rows-answer, rows-left}
+use Rattle.acceptance.proofs.Order.{indexed-of}
+use Rattle.feasibility.proofs.Top.{rows-answer, rows-left}
 use borrow.Author.Needs.{needs}
 use Rattle.feasibility.proofs.check_schedule.Statement.{statement}
 use Rattle.feasibility.proofs.check_schedule.Tie as tie

@@ -1,5 +1,6 @@
 use Rattle.model.proofs.Accepting.{accepted}
-use Rattle.feasibility.proofs.Top.{times-answer, times-left, needed-of, by-none}
+use Rattle.acceptance.proofs.Order.{needed-of, by-none}
+use Rattle.feasibility.proofs.Top.{times-answer, times-left}
 use borrow.Author.Needs.{needs}
 use Rattle.feasibility.proofs.check_times.Statement.{statement}
 use Rattle.feasibility.proofs.check_times.Tie as tie

@@ -36,7 +36,7 @@ same-length : tie.Need-same-length
 same-length c = search needs
 
 returns : tie.Need-returns
-returns c = accepted-copy _ _ (c .before .before .before .before .before .before .before .before .before .before .before .pre .3) _ (omega (arith, (c .before .before .before .before .before .before .before .before .before .before .before .good .1 .1 .1 .1 .1 .1 .0))) refl (c .before .before .before .before .before .before .before .check-all .ensures) (c .before .before .before .hand-over .ensures .0) (c .before .before .before .hand-over .ensures .1) (c .enum-told .given .1)
+returns c = accepted-copy _ _ (c .before .before .before .before .before .before .before .before .before .before .before .pre .3) _ (omega (arith, (c .before .before .before .before .before .before .before .before .before .before .before .good .1 .1 .1 .1 .1 .1 .0))) (c .before .before .before .before .before .before .before .check-all .ensures) (c .before .before .before .hand-over .ensures .0) refl (c .before .before .before .hand-over .ensures .1) (c .enum-told .given .1)
 
 same-length-2 : tie.Need-same-length-2
 same-length-2 c = search needs

@@ -1,4 +1,4 @@
-use Rattle.feasibility.proofs.Top.{indexed-of}
+use Rattle.acceptance.proofs.Order.{indexed-of}
 use borrow.Author.Needs.{needs}
 use Rattle.speed.proofs.found_of.Statement.{statement}
 use Rattle.speed.proofs.found_of.Tie as tie

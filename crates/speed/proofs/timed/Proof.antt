@@ -1,6 +1,6 @@
 -- `speed::timed` runs a check only of a sheet that no refusal refuses. Assumes nothing.
 use Rattle.model.proofs.Accepting.{accepted}
-use Rattle.feasibility.proofs.Top.{needed-of}
+use Rattle.acceptance.proofs.Order.{needed-of}
 use borrow.Author.Needs.{needs}
 use Rattle.speed.proofs.timed.Statement.{statement}
 use Rattle.speed.proofs.timed.Tie as tie

@@ -44,6 +44,12 @@ mod exported {
             findings: *mut i64,
             room: usize,
         ) -> Answer;
+        pub fn sheet_margins(
+            rows: *const i64,
+            length: usize,
+            lines: *mut i64,
+            room: usize,
+        ) -> Answer;
     }
 }
 
@@ -158,6 +164,27 @@ pub fn check_schedule(rows: &[i64], room: usize) -> Option<Result<(Answer, Vec<i
         );
     }
     #[cfg(not(has_sheet_check_schedule))]
+    {
+        let _ = (rows, room);
+        None
+    }
+}
+
+/// The answer and, accepted, the margin lines; or what was wrong with the buffer.
+pub fn margins(rows: &[i64], room: usize) -> Option<Result<(Answer, Vec<i64>), String>> {
+    #[cfg(has_sheet_margins)]
+    {
+        let mut lines = Lent::new(room);
+        let answer =
+            unsafe { exported::sheet_margins(rows.as_ptr(), rows.len(), lines.pointer(), room) };
+        let count = if answer.number == 0 {
+            answer.place as usize * 3
+        } else {
+            0
+        };
+        return Some(lines.first(count).map(|numbers| (answer, numbers.to_vec())));
+    }
+    #[cfg(not(has_sheet_margins))]
     {
         let _ = (rows, room);
         None

@@ -4,6 +4,9 @@
 use product::{Answer, WorkEnd};
 use std::io::{BufRead, BufWriter, Write};
 
+/// The answer and the numbers written, or what was wrong with the buffer.
+type Lines = Result<(Answer, Vec<i64>), String>;
+
 /// Room for all findings, where a case names more than the product is ever lent.
 const MOST_ROOM: usize = 200_000;
 
@@ -20,20 +23,31 @@ fn refused(answer: Answer) -> String {
     format!("refused {} {}", answer.number, answer.place)
 }
 
-fn check(rows: &[i64], room: usize) -> String {
-    let found = product::unchanged(rows, |rows| {
-        product::check_schedule(rows, room.min(MOST_ROOM))
-    });
+/// What a call said of rows, its lines of so many numbers each.
+fn lines(found: Result<Option<Lines>, String>, length: usize) -> String {
     match found {
         Ok(None) => "absent".to_string(),
         Ok(Some(Ok((answer, _)))) if answer.number != 0 => refused(answer),
-        Ok(Some(Ok((answer, findings)))) => findings
-            .chunks(4)
-            .fold(format!("accepted {}", answer.place), |text, f| {
-                format!("{text} {},{},{},{}", f[0], f[1], f[2], f[3])
-            }),
+        Ok(Some(Ok((answer, numbers)))) => {
+            numbers
+                .chunks(length)
+                .fold(format!("accepted {}", answer.place), |text, line| {
+                    let words: Vec<String> = line.iter().map(i64::to_string).collect();
+                    format!("{text} {}", words.join(","))
+                })
+        }
         Ok(Some(Err(fault))) | Err(fault) => format!("fault {fault}"),
     }
+}
+
+fn check(rows: &[i64], room: usize) -> String {
+    let call = |rows: &[i64]| product::check_schedule(rows, room.min(MOST_ROOM));
+    lines(product::unchanged(rows, call), 4)
+}
+
+fn margins(rows: &[i64], room: usize) -> String {
+    let call = |rows: &[i64]| product::margins(rows, room.min(MOST_ROOM));
+    lines(product::unchanged(rows, call), 3)
 }
 
 fn text(lent: usize, text: &[u8]) -> String {
@@ -49,12 +63,12 @@ fn text(lent: usize, text: &[u8]) -> String {
     }
 }
 
-/// The program's work by the library: 800 rows and 2,000 findings lent.
-fn program(text: &[u8]) -> String {
+/// A program's work by the library: 800 rows lent, then the call.
+fn program(text: &[u8], call: impl FnOnce(&[i64]) -> String) -> String {
     match product::read_text(text, 8000) {
         None => "absent".to_string(),
         Some(Ok((answer, _))) if answer.number != 0 => refused(answer),
-        Some(Ok((_, rows))) => check(&rows, 8000),
+        Some(Ok((_, rows))) => call(&rows),
         Some(Err(fault)) => format!("fault {fault}"),
     }
 }
@@ -96,7 +110,17 @@ fn answer(line: &str) -> String {
             words[1].parse().expect("lent rows"),
             &bytes(words.get(2).copied().unwrap_or("")),
         ),
-        Some("program") => program(&bytes(words.get(1).copied().unwrap_or(""))),
+        Some("program") => {
+            // 2,000 findings lent
+            let text = bytes(words.get(1).copied().unwrap_or(""));
+            program(&text, |rows| check(rows, 8000))
+        }
+        Some("margins") => margins(&numbers(&words[2..]), words[1].parse().expect("a room")),
+        Some("margintext") => {
+            // 800 lines lent
+            let text = bytes(words.get(1).copied().unwrap_or(""));
+            program(&text, |rows| margins(rows, 2400))
+        }
         Some("work") => {
             let n = numbers(&words[1..]);
             work(product::work_end(&n[3..], n[0], n[1], n[2]))

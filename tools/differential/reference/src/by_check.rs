@@ -36,3 +36,11 @@ pub fn check_schedule_by_check(
     }
     all
 }
+
+/// Check 5 alone.
+pub fn capacity(schedule: &Schedule, input: &FeasibilityInput) -> Vec<Violation> {
+    let res_by_id = input.resources.iter().map(|r| (r.id.as_str(), r)).collect();
+    let mut all = Vec::new();
+    check_capacity(schedule, input, &res_by_id, &mut all);
+    all
+}

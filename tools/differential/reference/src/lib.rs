@@ -4,6 +4,7 @@
 
 include!(concat!(env!("OUT_DIR"), "/source.rs"));
 
+pub mod figures;
 pub mod handed;
 pub mod model;
 

@@ -1,0 +1,2 @@
+pub mod Ending
+pub mod Order

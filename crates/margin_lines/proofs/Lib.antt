@@ -1,0 +1,9 @@
+pub mod Bounds
+pub mod Count
+pub mod Ends
+pub mod Examples
+pub mod Findings
+pub mod Peaks
+pub mod Reach
+pub mod Sliding
+pub mod Told
