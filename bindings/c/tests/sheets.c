@@ -53,27 +53,18 @@ static void read_exactly(const uint8_t *text, size_t length, const int64_t *rows
     free(lent);
 }
 
-static void check_exactly(const int64_t *rows, size_t length, const int64_t *findings, size_t count) {
-    int64_t *lent = marks(count);
-    expect("checked in exact room", is(sheet_check_schedule(rows, length, lent, count), HUTCH_ACCEPTED, count / HUTCH_FINDING));
-    expect("the same findings", count == 0 || memcmp(lent, findings, count * sizeof *findings) == 0);
-    free(lent);
-    if (count == 0) return;
-    lent = marks(count - 1);
-    expect("one number less is 7", is(sheet_check_schedule(rows, length, lent, count - 1), HUTCH_REFUSED_FULL, 0));
-    expect("7 writes nothing", untouched(lent, 0, count - 1));
-    free(lent);
-}
+/* A call that writes lines of so many numbers, lent exactly the room that they take, and one number less. */
+typedef struct hutch_outcome line_call(const int64_t *rows, size_t length, int64_t *lines, size_t room);
 
-static void margins_exactly(const int64_t *rows, size_t length, const int64_t *lines, size_t count) {
+static void lines_exactly(line_call *call, size_t width, const int64_t *rows, size_t length, const int64_t *lines, size_t count) {
     int64_t *lent = marks(count);
-    expect("margins in exact room", is(sheet_margins(rows, length, lent, count), HUTCH_ACCEPTED, count / HUTCH_MARGIN));
-    expect("the same margins", count == 0 || memcmp(lent, lines, count * sizeof *lines) == 0);
+    expect("lines in exact room", is(call(rows, length, lent, count), HUTCH_ACCEPTED, count / width));
+    expect("the same lines", count == 0 || memcmp(lent, lines, count * sizeof *lines) == 0);
     free(lent);
     if (count == 0) return;
     lent = marks(count - 1);
-    expect("one number less is 7, of margins", is(sheet_margins(rows, length, lent, count - 1), HUTCH_REFUSED_FULL, 0));
-    expect("7 writes nothing, of margins", untouched(lent, 0, count - 1));
+    expect("one number less is 7", is(call(rows, length, lent, count - 1), HUTCH_REFUSED_FULL, 0));
+    expect("7 writes nothing", untouched(lent, 0, count - 1));
     free(lent);
 }
 
@@ -82,7 +73,7 @@ static struct hutch_outcome margins(const int64_t *rows, size_t length, int64_t 
     struct hutch_outcome answer = sheet_margins(rows, length, lines, LINES);
     expect("nothing after the margins", untouched(lines, written(answer, HUTCH_MARGIN), LINES));
     expect("there is room for all margins", answer.number != HUTCH_REFUSED_FULL);
-    if (answer.number == HUTCH_ACCEPTED) margins_exactly(rows, length, lines, written(answer, HUTCH_MARGIN));
+    if (answer.number == HUTCH_ACCEPTED) lines_exactly(sheet_margins, HUTCH_MARGIN, rows, length, lines, written(answer, HUTCH_MARGIN));
     return answer;
 }
 
@@ -133,7 +124,7 @@ static struct hutch_outcome check(const uint8_t *text, size_t length, int64_t *f
         alike(rows, count, answer);
         *of_margins = margins(rows, count, lines);
         margins_beside(*of_margins, lines, answer, findings);
-        if (answer.number == HUTCH_ACCEPTED) check_exactly(rows, count, findings, written(answer, HUTCH_FINDING));
+        if (answer.number == HUTCH_ACCEPTED) lines_exactly(sheet_check_schedule, HUTCH_FINDING, rows, count, findings, written(answer, HUTCH_FINDING));
         expect("the rows are as they were", count == 0 || memcmp(rows, lent, count * sizeof *rows) == 0);
         free(rows);
     }
