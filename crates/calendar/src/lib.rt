@@ -3,6 +3,8 @@
 // Windows are lent as numbers, three to a window: closed (0 an open window, 1 a closure), start, end. A shorter tail is no window.
 // A calendar is the windows at the places from `from` up to, not with, `to`; several calendars are lent as numbers too, two to a
 // calendar: from, to. A place past the last window is the place of none. Any numbers may be handed in.
+#![tactic(auto)]
+
 ghost use Rattle.std.specs.Prelude.{◌≡◌, true, false, cond, ◌&&◌, ◌||◌, [], ◌∷◌, ◌++◌, ℕ, ◌+◌, ◌-◌, ◌*◌, ◌/◌, ◌<◌, max, min, ℤ, pos};
 ghost use Rattle.loops.specs.Numbers.{to_nat};
 ghost use Rattle.calendar.specs.Clock.{clock};
@@ -14,7 +16,7 @@ ghost use Rattle.calendar.specs.Fit.{fit_of};
 ghost use Rattle.calendar.specs.inner.Scan.{standing, standing_at, allows, nearer, with_window, look_at, with_calendar, joint_look};
 
 // A window; `closed` is 0 where it is open, 1 where it is a closure.
-#[derive(Drop)]
+#[derive(Clone, Copy)]
 pub struct TimeWindow {
     pub closed: u64,
     pub start: u64,
@@ -22,7 +24,7 @@ pub struct TimeWindow {
 }
 
 // When work ends: at an instant; or the start is no working time; or too little working time follows; or at an instant that is no u64.
-#[derive(Drop)]
+#[derive(Clone, Copy)]
 pub enum WorkEnd {
     End(u64),
     Pause,
@@ -154,7 +156,7 @@ fn either(a: bool, b: bool) -> bool
 }
 
 // What the windows of a calendar that were looked at say of [start, end): an open one is listed, an open one covers it, a closure hits it.
-#[derive(Drop)]
+#[derive(Clone, Copy)]
 pub struct Fit {
     start: u64,
     end: u64,
@@ -228,7 +230,7 @@ fn nearer_of(t: u64, x: u64, b: u64) -> u64
 }
 
 // What is known of a calendar at an instant: the greatest of its windows' standings, and the next instant at which one may change.
-#[derive(Drop)]
+#[derive(Clone, Copy)]
 struct Here {
     pub most: u64,
     pub stop: u64,
@@ -271,7 +273,7 @@ pub fn is_working_time(w: &[u64], from: usize, to: usize, t: u64) -> bool
 }
 
 // Several calendars at an instant: whether it is working time of all, and the next instant at which that may change.
-#[derive(Drop)]
+#[derive(Clone, Copy)]
 struct Joint {
     pub working: bool,
     pub stop: u64,

@@ -1,5 +1,6 @@
 // Check 1, `check_assignments` of scheduler/feasibility.rs: each booking under a task of the sheet names one of its activities, takes no more units than
 // the activity's requirements, lasts as long as its work, and starts no earlier than the releases.
+#![tactic(auto)]
 ghost use Rattle.std.specs.Prelude.{◌≡◌, ◌+◌, ◌*◌, ◌<◌, ◌≤◌, true, false, cond, ltb, pos, ◌-ℤ◌, get_or};
 ghost use Rattle.std.proofs.Math.Option.{some};
 ghost use Rattle.std.specs.Int.Signed.{lt_z};
@@ -54,7 +55,7 @@ fn is_misplaced(rows: &[i64], a: usize, parts: bool, k: usize) -> bool
 // ---- units
 
 // A sum of signed numbers, as raised - offset.
-#[derive(Drop)]
+#[derive(Clone, Copy)]
 struct Units {
     pub raised: u64,
     pub offset: u64,

@@ -1,5 +1,6 @@
 // What the requirements of an activity claim of a piece: the greedy claim of `check_piece_requirements` of scheduler/feasibility.rs, with marks
 // in place of a list that gets shorter.
+#![tactic(auto)]
 ghost use Rattle.std.specs.Prelude.{◌≡◌, true, cond, [], ◌+◌, ◌<◌, ◌≤◌, length, get_or, set, eqb};
 ghost use Rattle.std.proofs.Math.Option.{none, some};
 ghost use Rattle.findings.specs.inner.Sink.{sink, emit};
@@ -89,7 +90,7 @@ fn report_lacking(
 }
 
 // How many units a requirement has claimed, and the number of findings.
-#[derive(Drop)]
+#[derive(Clone, Copy)]
 struct Claimed {
     units: u64,
     n: usize,

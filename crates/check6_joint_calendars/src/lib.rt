@@ -1,5 +1,6 @@
 // The calendars of a piece, for `check_calendars` of scheduler/feasibility.rs: those of the resources that its bookings are on, each resource once,
 // and that of its activity, laid out for the calendar functions.
+#![tactic(auto)]
 ghost use Rattle.std.specs.Prelude.{◌≡◌, suc, ◌+◌, ◌*◌, ◌<◌, ◌≤◌, true, length};
 ghost use Rattle.std.proofs.Math.Option.{some};
 ghost use Rattle.loops.specs.Search.{count_below};
@@ -55,7 +56,7 @@ fn mark_resources(
 // ---- calendars laid out
 
 // So many windows and so many calendars are laid out.
-#[derive(Drop)]
+#[derive(Clone, Copy)]
 struct Gathered {
     pub windows: usize,
     pub calendars: usize,

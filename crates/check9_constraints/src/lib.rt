@@ -1,4 +1,5 @@
 // Check 9, `check_constraints`: time windows, activities that may not overlap on a resource, activities that start together.
+#![tactic(auto)]
 ghost use Rattle.std.specs.Prelude.{◌≡◌, true, false, not, ◌&&◌, ◌||◌, ◌+◌, ◌<◌, ltb, pos, length};
 ghost use Rattle.calendar.specs.Clock.{clock};
 ghost use Rattle.loops.specs.Lists.{given};
@@ -239,7 +240,7 @@ fn check_overlaps(
 // ---- synchronized starts
 
 // What the starts of members are, as far as they were seen: one has no span, two neighbours differ, all are this one, or there are none.
-#[derive(Drop)]
+#[derive(Clone, Copy)]
 enum Starts {
     Missing,
     Differing,

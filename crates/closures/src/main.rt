@@ -1,4 +1,5 @@
 // The program: reads an office calendar from standard input, and prints its busy periods as closed windows of the resource that is its argument.
+#![tactic(auto)]
 ghost use Rattle.std.specs.Prelude.{◌≡◌, ◌≤◌, length, take};
 ghost use Rattle.loops.specs.inner.Wrote.{Wrote};
 ghost use Rattle.closures.specs.Program.{printed_closures};

@@ -1,4 +1,5 @@
 // Dates and times as RFC 5545 writes them, in UTC, to milliseconds from 1 January 1970.
+#![tactic(auto)]
 ghost use Rattle.std.specs.Prelude.{◌≡◌, ◌+◌, ◌*◌, ◌-◌, ◌<◌, ◌≤◌, length};
 ghost use Rattle.loops.specs.Lists.{all_of};
 ghost use Rattle.text_fields.specs.Spelling.{is_digit};
@@ -6,7 +7,7 @@ ghost use Rattle.dates.specs.Calendar.{is_leap, month_days, years_days, months_d
 ghost use Rattle.dates.specs.DateTime.{digits_on, field, year, in_calendar, on_clock, date_time, exists, milliseconds, instant, told};
 
 // An instant in milliseconds, or that there is none in the range.
-#[derive(Drop)]
+#[derive(Clone, Copy)]
 pub enum Instant {
     At(u64),
     Outside,

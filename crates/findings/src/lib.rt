@@ -1,10 +1,11 @@
 // Findings: the violations that the checks report, written to a lent buffer as lines of four numbers.
+#![tactic(auto)]
 ghost use Rattle.std.specs.Prelude.{◌≡◌, ◌<◌};
 ghost use Rattle.loops.specs.Lists.{given};
 ghost use Rattle.findings.specs.inner.Sink.{sink, put1, emit};
 
 // A violation: the check that reports it, its type, the entity that it is of, and its severity.
-#[derive(Drop)]
+#[derive(Clone, Copy)]
 pub struct Violation {
     pub check: u8,
     pub kind: u8,

@@ -1,4 +1,5 @@
 // Office calendars: busy periods are read to lent rows as closed windows of a resource, or the calendar is refused with a number and a place.
+#![tactic(auto)]
 ghost use Rattle.std.specs.Prelude.{◌≡◌, cond, ◌&&◌, not, [], ◌∷◌, map, ◌/◌, ◌^◌, ◌<◌, ◌≤◌, ltb, pos, length};
 ghost use Rattle.loops.specs.Search.{or_else};
 ghost use Rattle.line_buffer.specs.Lines.{flat_lines};
@@ -23,14 +24,14 @@ use refusals::{Answer, Verdict};
 const ID: u8 = 2;
 
 // What the periods so far come to: how many rows they have, and the refusal of the first that is refused.
-#[derive(Drop)]
+#[derive(Clone, Copy)]
 struct Reading {
     pub count: usize,
     pub refused: Verdict,
 }
 
 // What a line comes to: where the component begins that is open after it, and its periods.
-#[derive(Drop)]
+#[derive(Clone, Copy)]
 struct LineRead {
     pub begun: Place,
     pub found: Reading,

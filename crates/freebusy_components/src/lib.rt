@@ -1,4 +1,5 @@
 // The components VFREEBUSY of an office calendar, by its unfolded lines: which is open, and the first line that is against the rules.
+#![tactic(auto)]
 ghost use Rattle.std.specs.Prelude.{◌≡◌, ◌+◌, ◌<◌, ◌≤◌, min, length};
 ghost use Rattle.std.proofs.Math.Option.{none};
 ghost use Rattle.freebusy_lines.specs.Lines.{line, unfolded, lines};
@@ -7,14 +8,14 @@ ghost use Rattle.freebusy_components.specs.inner.Places.{place_of};
 ghost use Rattle.freebusy_components.specs.inner.Room.{after_line, space_after};
 
 // The place of a line, or none.
-#[derive(Drop)]
+#[derive(Clone, Copy)]
 pub enum Place {
     At(usize),
     Nowhere,
 }
 
 // What the lines so far come to: where the open component begins, and the least place against the rules.
-#[derive(Drop)]
+#[derive(Clone, Copy)]
 struct Walked {
     pub begun: Place,
     pub wrong: Place,

@@ -1,4 +1,5 @@
 // Durations and periods of an office calendar, and the windows that they stand for.
+#![tactic(auto)]
 ghost use Rattle.std.specs.Prelude.{◌≡◌, ◌≤◌, length};
 ghost use Rattle.dates.specs.DateTime.{told};
 ghost use Rattle.freebusy_periods.specs.Duration.{counted, then_maybe, nothing_more, dur_second, dur_minute, dur_time, dur_unsigned, dur_value, is_back};
@@ -8,14 +9,14 @@ ghost use Rattle.freebusy_periods.specs.inner.Capped.{at_most, capped_count, cou
 use dates::Instant;
 
 // A period: its window, or the number of its refusal.
-#[derive(Drop)]
+#[derive(Clone, Copy)]
 pub enum Window {
     Span(u64, u64),
     Wrong(u64),
 }
 
 // Digits and a letter: whether they are there, their number, the letter as a capital, and the place after it.
-#[derive(Drop)]
+#[derive(Clone, Copy)]
 struct Amount {
     found: bool,
     count: u64,
@@ -24,7 +25,7 @@ struct Amount {
 }
 
 // A duration's seconds, or that it is none.
-#[derive(Drop)]
+#[derive(Clone, Copy)]
 enum Seconds {
     Is(u64),
     Not,

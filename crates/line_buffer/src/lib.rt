@@ -1,4 +1,5 @@
 // A lent buffer of lines, each of as many numbers: findings are lines of four.
+#![tactic(auto)]
 ghost use Rattle.std.specs.Prelude.{◌≡◌, ◌+◌, ◌*◌, ◌/◌, ◌<◌, ◌≤◌, ltb, length};
 ghost use Rattle.std.proofs.lemmas.List.Edits.{sets};
 ghost use Rattle.line_buffer.specs.inner.Sink.{sink, more, put_line};
@@ -46,7 +47,7 @@ pub fn put(out: &mut [i64], n: usize, line: &[i64]) -> usize
 }
 
 // What becomes of the lines that were found: they are in the lent buffer; or it has no room for them; or they are more than are held where they were found.
-#[derive(Drop)]
+#[derive(Clone, Copy)]
 pub enum Handed {
     Over,
     Full,

@@ -1,4 +1,5 @@
 // Margins for the morning meeting: of each task with a deadline and a completion, and of each booked resource.
+#![tactic(auto)]
 ghost use Rattle.std.specs.Prelude.{◌≡◌, true, [], ◌∷◌, ◌/◌, ◌<◌, ◌≤◌, pos, ◌-ℤ◌, nat_abs, length};
 ghost use Rattle.std.proofs.Math.Option.{none};
 ghost use Rattle.loops.specs.Lists.{each};
@@ -26,7 +27,7 @@ pub const TASK: u8 = 1;
 pub const RESOURCE: u8 = 2;
 
 // A margin: of a task or of a resource, of which one, and how much; below zero where the task is late or the resource overloaded.
-#[derive(Drop)]
+#[derive(Clone, Copy)]
 pub struct Margin {
     pub of: u8,
     pub id: u64,

@@ -1,1 +1,2 @@
 // The typed sheet and the models that the checks are defined over, in specs/.
+#![tactic(auto)]

@@ -1,4 +1,5 @@
 // A program's arguments that are numbers, spelt as in the text of a sheet. What the system hands over, no contract can say; what it is as a number, this one says.
+#![tactic(auto)]
 ghost use Rattle.std.specs.Prelude.{◌≡◌, take};
 ghost use Rattle.number_arguments.specs.Argument.{argument_number};
 

@@ -1,4 +1,5 @@
 // The answers of the calls as numbers, as programs in other languages get them.
+#![tactic(auto)]
 ghost use Rattle.std.specs.Prelude.{◌≡◌};
 ghost use Rattle.refusals.specs.Refusals.{verdict_of};
 ghost use Rattle.work_end_inquiry.specs.Inquiry.{outcome_of};
@@ -8,7 +9,7 @@ use refusals::{Answer, Verdict};
 
 // A refusal by number and place, or, with number 0, acceptance and a count in the place.
 #[repr(C)]
-#[derive(Drop)]
+#[derive(Clone, Copy)]
 pub struct Outcome {
     pub number: u64,
     pub place: u64,
@@ -43,7 +44,7 @@ pub fn of_verdict(v: Verdict) -> Outcome
 
 // A refusal by number and place; or, with number 0, an outcome (0 an end, 1 pause, 2 never) and the instant of an end.
 #[repr(C)]
-#[derive(Drop)]
+#[derive(Clone, Copy)]
 pub struct WorkEndOutcome {
     pub number: u64,
     pub place: u64,

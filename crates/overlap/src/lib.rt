@@ -1,4 +1,5 @@
 // How an activity overlaps the step of its task before it.
+#![tactic(auto)]
 ghost use Rattle.std.specs.Prelude.{◌≡◌, ◌/◌, ◌≤◌, T, pos, unsigned_abs};
 ghost use Rattle.std.specs.Float.Ieee.Positive.{num, den};
 ghost use Rattle.calendar.specs.Clock.{clock};
@@ -7,7 +8,7 @@ ghost use Rattle.overlap.specs.inner.Shares.{product, is_share};
 
 // The share of the previous step's span that must have passed before this one starts, in [0, 1],
 // and the least time from the previous step's end to this one's.
-#[derive(Drop)]
+#[derive(Clone, Copy)]
 pub struct Overlap {
     pub start_after: f64,
     pub finish_after_ms: i64,

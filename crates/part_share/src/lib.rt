@@ -1,4 +1,5 @@
 // The share of a fixed processing time that a part of a split activity takes.
+#![tactic(auto)]
 ghost use Rattle.std.specs.Prelude.{◌≡◌, ◌≤◌};
 ghost use Rattle.std.proofs.Math.Option.{some};
 ghost use Rattle.rounding.specs.inner.Limited.{limited};

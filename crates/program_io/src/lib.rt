@@ -1,6 +1,7 @@
 // A program's arguments, its standard input and its standard output. A read that failed is never taken for the end of the input, and an answer that could
 // not be written is never lost in silence: each is told in a line on standard error. What the outside gives and takes, no contract can say; what is made of
 // each answer of the system, the page `Ending` says.
+#![tactic(auto)]
 mod steps;
 mod system;
 
@@ -13,14 +14,14 @@ use steps::{Place, ReadStep, WriteStep};
 use system::Answer;
 
 // What came of reading: so many bytes at the start of the buffer, after which the input ended or the buffer was full; or a read failed.
-#[derive(Drop)]
+#[derive(Clone, Copy)]
 pub enum Input {
     Read(usize),
     Failed,
 }
 
 // How reading ended: from where the last read was asked for, its answer, and the input by these.
-#[derive(Drop)]
+#[derive(Clone, Copy)]
 pub struct Reading {
     from: Place,
     last: Answer,
@@ -28,7 +29,7 @@ pub struct Reading {
 }
 
 // What came of writing: every byte was taken, or a write failed, or one took nothing.
-#[derive(Drop)]
+#[derive(Clone, Copy)]
 enum Output {
     Written,
     Failed,
@@ -36,7 +37,7 @@ enum Output {
 }
 
 // How writing ended: from where the last write was asked for, its answer, and the output by these.
-#[derive(Drop)]
+#[derive(Clone, Copy)]
 struct Writing {
     from: Place,
     last: Answer,
@@ -50,7 +51,7 @@ pub fn tell(words: &[u8]) {
 }
 
 // How many arguments the program was started with, and whether it takes so many.
-#[derive(Drop)]
+#[derive(Clone, Copy)]
 pub struct Started {
     pub given: usize,
     pub taken: bool,

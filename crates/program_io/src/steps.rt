@@ -9,21 +9,21 @@ use crate::{Input, Output};
 const TRIES: usize = 100;
 
 // So many bytes are read or written, and the next read or write may be tried so often.
-#[derive(Drop)]
+#[derive(Clone, Copy)]
 pub struct Place {
     done: usize,
     left: usize,
 }
 
 // Reading goes on from a place, or it has ended.
-#[derive(Drop)]
+#[derive(Clone, Copy)]
 pub enum ReadStep {
     On(Place),
     Ended(Input),
 }
 
 // Writing goes on from a place, or it has ended.
-#[derive(Drop)]
+#[derive(Clone, Copy)]
 pub enum WriteStep {
     On(Place),
     Ended(Output),

@@ -5,7 +5,7 @@ ghost use Rattle.std.specs.Prelude.{◌≡◌, length};
 ghost use Rattle.program_io.specs.Ending.{said, said_by, unasked};
 
 // So many bytes were lent to the system, it answered so, and errno told then of an interruption or not.
-#[derive(Drop)]
+#[derive(Clone, Copy)]
 pub struct Answer {
     lent: usize,
     got: isize,
@@ -13,7 +13,7 @@ pub struct Answer {
 }
 
 // What an answer says: so many bytes moved, a signal interrupted the call before it moved any, or it failed, as errno tells.
-#[derive(Drop)]
+#[derive(Clone, Copy)]
 pub enum Transfer {
     Moved(usize),
     Interrupted,

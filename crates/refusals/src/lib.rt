@@ -1,4 +1,5 @@
 // How calls answer: accepted, or refused with a number and a place. The numbers by the trade's words; each request adds its own.
+#![tactic(auto)]
 
 // Rows of a sheet.
 pub const MISSHAPEN: u64 = 1;
@@ -32,14 +33,14 @@ pub const UNDATED: u64 = 12;
 pub const OVERFULL: u64 = 13;
 
 // Whether something is refused, and with which number at which place.
-#[derive(Drop)]
+#[derive(Clone, Copy)]
 pub enum Verdict {
     Fine,
     Refused(u64, usize),
 }
 
 // What a call answers: accepted with a count (of findings, of rows), or refused with a number and a place.
-#[derive(Drop)]
+#[derive(Clone, Copy)]
 pub enum Answer {
     Accepted(usize),
     Refused(u64, usize),

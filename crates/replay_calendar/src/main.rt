@@ -1,6 +1,7 @@
 // Replays the stored questions about calendar time. Each case that differs is named, and at the end is printed how many there were and how many
 // came out as expected. The numbers that a case gathers are windows, three to a window. The list is made by tools/cases/calendar_cases.py, which has
 // no calendar arithmetic in common with the library.
+#![tactic(auto)]
 ghost use Rattle.std.specs.Prelude.{◌≤◌, length};
 
 use calendar::WorkEnd;

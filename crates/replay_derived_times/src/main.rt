@@ -1,5 +1,6 @@
 // Replays the stored cases of derived times. Each case that differs is named, and at the end is printed how many there were and how many came
 // out as expected.
+#![tactic(auto)]
 ghost use Rattle.std.specs.Prelude.{◌≤◌, length, ◌<◌};
 ghost use Rattle.rows.specs.Cells.{row_count};
 ghost use Rattle.sheet.specs.inner.Accepted.{Accepted};

@@ -1,4 +1,5 @@
 // The time of a piece, an activity or one of its parts, on the resources that it runs on.
+#![tactic(auto)]
 ghost use Rattle.std.specs.Prelude.{◌≡◌, ◌+◌};
 ghost use Rattle.std.proofs.Math.Option.{some};
 ghost use Rattle.rounding.specs.inner.Limited.{limited};
@@ -8,7 +9,7 @@ ghost use Rattle.resource_timing.specs.inner.Limits.{within, timed_of, time_of, 
 use rounding::Time;
 
 // Time components of an activity.
-#[derive(Drop)]
+#[derive(Clone, Copy)]
 pub struct ActivityDuration {
     pub setup_ms: u64,
     pub process_ms: u64,
@@ -16,14 +17,14 @@ pub struct ActivityDuration {
 }
 
 // How an activity's time changes on one resource: processing runs at a speed, or the activity takes this long here.
-#[derive(Drop)]
+#[derive(Clone, Copy)]
 pub enum ResourceTiming {
     Speed(f64),
     Duration(ActivityDuration),
 }
 
 // One part of a split activity: how much of the processing it does, what the whole processing is, and what it adds to the teardown.
-#[derive(Drop)]
+#[derive(Clone, Copy)]
 pub struct PartTimes {
     pub work_ms: u64,
     pub whole_ms: u64,
@@ -31,28 +32,28 @@ pub struct PartTimes {
 }
 
 // What a piece is judged as: the activity whole, or the part it is.
-#[derive(Drop)]
+#[derive(Clone, Copy)]
 pub enum Piece {
     Whole,
     InPart(PartTimes),
 }
 
 // A duration whose total is below 2^53, or word that there is none.
-#[derive(Drop)]
+#[derive(Clone, Copy)]
 pub enum Derived {
     Within(ActivityDuration),
     TooLarge,
 }
 
 // The fixed duration of greatest total so far, if there is any.
-#[derive(Drop)]
+#[derive(Clone, Copy)]
 enum Fixed {
     Nothing,
     Standing(Derived),
 }
 
 // What the resources of a piece have made of its time so far: the product of their speeds, and the fixed duration that stands.
-#[derive(Drop)]
+#[derive(Clone, Copy)]
 pub struct Timed {
     speed: f64,
     fixed: Fixed,

@@ -1,4 +1,5 @@
 // Times in whole ms that floats yield: a processing time divided by a product of speeds, and rounded.
+#![tactic(auto)]
 ghost use Rattle.std.specs.Prelude.{◌≡◌, from_bits};
 ghost use Rattle.std.proofs.Math.Option.{some};
 ghost use Rattle.std.specs.Float.{binary64};
@@ -6,7 +7,7 @@ ghost use Rattle.rounding.specs.Rounding.{rounded, divided_by};
 ghost use Rattle.rounding.specs.inner.Limited.{limited};
 
 // A time that may be handed on, below 2^53 ms, or word that it is no such time.
-#[derive(Drop)]
+#[derive(Clone, Copy)]
 pub enum Time {
     Ms(u64),
     TooLarge,

@@ -1,5 +1,6 @@
 // The rows of a sheet by kind, and by kind and name. Both are chains of places: a table has the first place of each chain and the next place after
 // each place. A lookup answers an enum; a table of places holds what was found as a number.
+#![tactic(auto)]
 ghost use Rattle.std.specs.Prelude.{◌≡◌, suc, ◌+◌, ◌<◌, ◌≤◌, length, get_or, set, replicate};
 ghost use Rattle.loops.specs.Search.{any_below};
 ghost use Rattle.loops.specs.inner.Chain.{First, Stands, same};
@@ -11,7 +12,7 @@ ghost use Rattle.sheet.specs.inner.Kept.{IsRow};
 ghost use Rattle.sheet.specs.inner.Index.{name_hash, name_key, or_end, stored_place, Shaped, Kinds};
 
 // What a lookup answers.
-#[derive(Drop)]
+#[derive(Clone, Copy)]
 pub enum Found {
     At(usize),
     Nothing,

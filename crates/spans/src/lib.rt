@@ -1,4 +1,5 @@
 // When a task completes and when an activity runs, of models/schedule.rs and `activity_span` of scheduler/feasibility.rs.
+#![tactic(auto)]
 ghost use Rattle.std.specs.Prelude.{◌≡◌, cond, ◌<◌, pos};
 ghost use Rattle.std.proofs.Math.Option.{none};
 ghost use Rattle.calendar.specs.Clock.{clock};
@@ -17,7 +18,7 @@ ghost use Rattle.spans.specs.inner.Activities.{span_meant, widened, widen_if};
 use sheet::Found;
 
 // An instant, or none.
-#[derive(Drop)]
+#[derive(Clone, Copy)]
 pub enum Instant {
     At(u64),
     Nothing,
@@ -91,7 +92,7 @@ pub fn task_completion_time(rows: &[i64], kinds: &[u16; 3680], task: u64) -> Ins
 // ---- when an activity runs
 
 // From a start to an end, or none.
-#[derive(Drop)]
+#[derive(Clone, Copy)]
 pub enum ActivitySpan {
     Between(u64, u64),
     Nowhere,

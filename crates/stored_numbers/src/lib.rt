@@ -1,5 +1,6 @@
 // The numbers that the lines of a stored case gather: plain ones, rows, those expected (tools/cases/README.md has the form); and what is told of
 // whatever a case gathers.
+#![tactic(auto)]
 ghost use Rattle.std.specs.Prelude.{◌≡◌, [], ◌∷◌, ◌≤◌, pos, length, replicate};
 ghost use Rattle.std.proofs.lemmas.List.Edits.{sets};
 ghost use Rattle.loops.specs.Lists.{each};
@@ -11,7 +12,7 @@ ghost use Rattle.stored_numbers.specs.inner.Numbers.{times, numbers_in, numbers_
 ghost use Rattle.stored_numbers.specs.inner.Gives.{piece_as, line_gives};
 
 // How many there are of what was gathered, if there was room for more; else there may be more than was lent room for.
-#[derive(Drop)]
+#[derive(Clone, Copy)]
 pub enum Gathered {
     All(usize),
     TooMany,

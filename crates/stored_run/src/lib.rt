@@ -1,4 +1,5 @@
 // The run over stored lists of cases: what is counted and told, the room that is lent, and the reading of a list. The programs replay_.. judge.
+#![tactic(auto)]
 ghost use Rattle.std.specs.Prelude.{◌≡◌, cond, ◌&&◌, eqb, pos, ◌<◌, length, replicate};
 ghost use Rattle.io.specs.Counts.{IsPrefixLen};
 ghost use Rattle.stored_run.specs.inner.Count.{more};
@@ -10,7 +11,7 @@ use refusals::Answer;
 // ---- what is told
 
 // Where a list is to be read on, how many cases were judged, and how many of them came out as expected.
-#[derive(Drop)]
+#[derive(Clone, Copy)]
 pub struct Run {
     pub at: usize,
     pub cases: u64,

@@ -1,4 +1,5 @@
 // A field of a line: the part of the text that it is, and the number that it spells.
+#![tactic(auto)]
 ghost use Rattle.std.specs.Prelude.{◌≡◌, ◌^◌, ◌<◌};
 ghost use Rattle.text_fields.specs.Parts.{until_byte};
 ghost use Rattle.text_fields.specs.Spelling.{digits_from, limited, digits_of, number_of, negative};
@@ -19,14 +20,14 @@ pub fn first_part(s: &[u8], stop: u8) -> &[u8]
 }
 
 // Digits without a sign: their value, or that they are none.
-#[derive(Drop)]
+#[derive(Clone, Copy)]
 enum Digits {
     Is(u64),
     Not,
 }
 
 // A field: its number, or that it is misspelt.
-#[derive(Drop)]
+#[derive(Clone, Copy)]
 pub enum Number {
     Value(i64),
     Misspelt,

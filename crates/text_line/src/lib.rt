@@ -1,4 +1,5 @@
 // A line of a text: its fields are read to the ten numbers of a row, or it is refused with a number.
+#![tactic(auto)]
 ghost use Rattle.std.specs.Prelude.{◌≡◌, ◌&&◌, map, ◌+◌, ◌-◌, ◌^◌, ◌<◌, pos, length, set, replicate};
 ghost use Rattle.std.proofs.lemmas.List.Edits.{sets};
 ghost use Rattle.rows.specs.inner.Codes.{class_table};
@@ -7,14 +8,14 @@ ghost use Rattle.text_line.specs.Line.{is_number, held, fields_of, spelled, valu
 use text_fields::Number;
 
 // The fields of a line: whether all are spelled right, and how many there are.
-#[derive(Drop)]
+#[derive(Clone, Copy)]
 struct Fields {
     pub good: bool,
     pub count: usize,
 }
 
 // A line: a row, or the number of its refusal.
-#[derive(Drop)]
+#[derive(Clone, Copy)]
 pub enum Line {
     Row,
     Wrong(u64),

@@ -1,4 +1,5 @@
 // The work-end inquiry on a sheet: when work ends that is started on a resource and runs only in its working time.
+#![tactic(auto)]
 ghost use Rattle.std.specs.Prelude.{◌≡◌, true, [], ◌∷◌, length};
 ghost use Rattle.std.proofs.Math.Option.{none};
 ghost use Rattle.calendar.specs.Clock.{clock};
@@ -23,7 +24,7 @@ const T: u8 = 5;
 const G: u8 = 7;
 
 // The work ends at an instant; or the start is no working time; or too little working time follows; or a refusal by number and place.
-#[derive(Drop)]
+#[derive(Clone, Copy)]
 pub enum InquiryAnswer {
     End(u64),
     Pause,
