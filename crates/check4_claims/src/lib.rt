@@ -1,6 +1,7 @@
 // What the requirements of an activity claim of a piece: the greedy claim of `check_piece_requirements` of scheduler/feasibility.rs, with marks
 // in place of a list that gets shorter.
 #![tactic(auto)]
+
 ghost use Rattle.std.specs.Prelude.{◌≡◌, true, cond, [], ◌+◌, ◌<◌, ◌≤◌, length, get_or, set, eqb};
 ghost use Rattle.std.proofs.Math.Option.{none, some};
 ghost use Rattle.findings.specs.inner.Sink.{sink, emit};
@@ -15,7 +16,7 @@ use findings::Violation;
 use sheet::Found;
 
 // 1 at each booking of the piece that may be claimed.
-fn free_in_lem(rows: &[i64], owned: &[u16; 8810], held: &[u8; 800], o: usize, p: u64) -> [u8; 800]
+fn free_in(rows: &[i64], owned: &[u16; 8810], held: &[u8; 800], o: usize, p: u64) -> [u8; 800]
     requires { Owned rows.now owned.now × (o ≤ row_count rows.now) × Held rows.now held.now }
     ensures { Free rows.now o p (row_count rows.now) result }
 {
@@ -204,7 +205,7 @@ pub fn fill_all(
     ensures { sink out.new result ≡ emit (sink out.old n) (claims_of rows.now activity (requirement_rows rows.now o) (runs_on_in rows.now o p)) }
 {
     let end = rows::row_count(rows);
-    let mut free = free_in_lem(rows, owned, held, o, p);
+    let mut free = free_in(rows, owned, held, o, p);
     let mut m = n;
     let mut q = owners::first_owned(rows, owned, o, 5);
     while q < end {

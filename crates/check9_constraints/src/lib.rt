@@ -1,5 +1,6 @@
 // Check 9, `check_constraints`: time windows, activities that may not overlap on a resource, activities that start together.
 #![tactic(auto)]
+
 ghost use Rattle.std.specs.Prelude.{◌≡◌, true, false, not, ◌&&◌, ◌||◌, ◌+◌, ◌<◌, ltb, pos, length};
 ghost use Rattle.calendar.specs.Clock.{clock};
 ghost use Rattle.loops.specs.Lists.{given};
@@ -57,7 +58,7 @@ fn check_window(rows: &[i64], kinds: &[u16; 3680], k: usize, out: &mut [i64], n:
 // ---- no overlap
 
 // The first booking of the activity on the resource.
-fn first_on_lem(rows: &[i64], kinds: &[u16; 3680], activity: u64, resource: u64) -> Found
+fn first_on(rows: &[i64], kinds: &[u16; 3680], activity: u64, resource: u64) -> Found
     requires { Kinds rows.now kinds.now }
     ensures { found_of result ≡ first_place (booked_on rows.now activity resource) (row_count rows.now) }
 {
@@ -85,7 +86,7 @@ fn member_booking(rows: &[i64], kinds: &[u16; 3680], place: u64, resource: u64, 
     ensures { found_of result ≡ member_booking rows.now place resource k }
 {
     if is_member(rows, k, place) {
-        return first_on_lem(rows, kinds, rows::num_at(rows, k, 2), resource);
+        return first_on(rows, kinds, rows::num_at(rows, k, 2), resource);
     }
     Found::Nothing
 }

@@ -1,5 +1,6 @@
 // Findings: the violations that the checks report, written to a lent buffer as lines of four numbers.
 #![tactic(auto)]
+
 ghost use Rattle.std.specs.Prelude.{◌≡◌, ◌<◌};
 ghost use Rattle.loops.specs.Lists.{given};
 ghost use Rattle.findings.specs.inner.Sink.{sink, put1, emit};

@@ -1,5 +1,6 @@
 // A lent buffer of lines, each of as many numbers: findings are lines of four.
 #![tactic(auto)]
+
 ghost use Rattle.std.specs.Prelude.{◌≡◌, ◌+◌, ◌*◌, ◌/◌, ◌<◌, ◌≤◌, ltb, length};
 ghost use Rattle.std.proofs.lemmas.List.Edits.{sets};
 ghost use Rattle.line_buffer.specs.inner.Sink.{sink, more, put_line};

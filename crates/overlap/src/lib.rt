@@ -1,5 +1,6 @@
 // How an activity overlaps the step of its task before it.
 #![tactic(auto)]
+
 ghost use Rattle.std.specs.Prelude.{◌≡◌, ◌/◌, ◌≤◌, T, pos, unsigned_abs};
 ghost use Rattle.std.specs.Float.Ieee.Positive.{num, den};
 ghost use Rattle.calendar.specs.Clock.{clock};

@@ -1,5 +1,6 @@
 // The share of a fixed processing time that a part of a split activity takes.
 #![tactic(auto)]
+
 ghost use Rattle.std.specs.Prelude.{◌≡◌, ◌≤◌};
 ghost use Rattle.std.proofs.Math.Option.{some};
 ghost use Rattle.rounding.specs.inner.Limited.{limited};

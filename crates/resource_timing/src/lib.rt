@@ -1,5 +1,6 @@
 // The time of a piece, an activity or one of its parts, on the resources that it runs on.
 #![tactic(auto)]
+
 ghost use Rattle.std.specs.Prelude.{◌≡◌, ◌+◌};
 ghost use Rattle.std.proofs.Math.Option.{some};
 ghost use Rattle.rounding.specs.inner.Limited.{limited};

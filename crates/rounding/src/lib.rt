@@ -1,5 +1,6 @@
 // Times in whole ms that floats yield: a processing time divided by a product of speeds, and rounded.
 #![tactic(auto)]
+
 ghost use Rattle.std.specs.Prelude.{◌≡◌, from_bits};
 ghost use Rattle.std.proofs.Math.Option.{some};
 ghost use Rattle.std.specs.Float.{binary64};

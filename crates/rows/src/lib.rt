@@ -1,6 +1,7 @@
 // The rows of a sheet: ten numbers each, a kind, its columns, then zeros. What each kind's columns are stands in one table, which the
 // validation of rows and the text reader read.
 #![tactic(auto)]
+
 ghost use Rattle.std.specs.Prelude.{◌≡◌, ◌&&◌, suc, ◌+◌, ◌<◌, pos, eqb, get_or};
 ghost use Rattle.loops.specs.Numbers.{to_nat};
 ghost use Rattle.rows.specs.Table.{class_of, width};

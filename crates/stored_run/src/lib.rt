@@ -1,5 +1,6 @@
 // The run over stored lists of cases: what is counted and told, the room that is lent, and the reading of a list. The programs replay_.. judge.
 #![tactic(auto)]
+
 ghost use Rattle.std.specs.Prelude.{◌≡◌, cond, ◌&&◌, eqb, pos, ◌<◌, length, replicate};
 ghost use Rattle.io.specs.Counts.{IsPrefixLen};
 ghost use Rattle.stored_run.specs.inner.Count.{more};
@@ -40,7 +41,7 @@ pub fn next_list(run: Run) -> Run
     }
 }
 
-fn one_more_lem(n: u64) -> u64
+fn one_more(n: u64) -> u64
     ensures { result ≡ more n }
 {
     if n < 1000000 { n + 1 } else { n }
@@ -51,7 +52,7 @@ fn line_feeds(text: &[u8]) -> u64 {
     let mut n = 0;
     let mut i = 0;
     while i < text.len() {
-        n = if text[i] == b'\n' { one_more_lem(n) } else { n };
+        n = if text[i] == b'\n' { one_more(n) } else { n };
         i += 1;
     }
     n
@@ -64,7 +65,7 @@ fn name_case(name: &[u8], list: &[u8], at: usize, why: &[u8]) {
     }
     io::write_all(STDOUT_FILENO, name);
     io::write_all(STDOUT_FILENO, b":");
-    io::print_decimal(STDOUT_FILENO, one_more_lem(line_feeds(&list[..at])));
+    io::print_decimal(STDOUT_FILENO, one_more(line_feeds(&list[..at])));
     io::write_all(STDOUT_FILENO, why);
     io::write_all(STDOUT_FILENO, text_fields::first_part(&list[at..], b'\n'));
     io::write_all(STDOUT_FILENO, b"\n");
@@ -89,12 +90,12 @@ fn both(a: bool, b: bool) -> bool
 pub fn judged(run: Run, formed: bool, passes: bool, next: usize, name: &[u8], list: &[u8]) -> Run
     ensures { (result.at ≡ next) × (result.cases ≡ more run.cases) × (result.passed ≡ cond (formed && passes) (more run.passed) run.passed) }
 {
-    let cases = one_more_lem(run.cases);
+    let cases = one_more(run.cases);
     if both(formed, passes) {
         return Run {
             at: next,
             cases,
-            passed: one_more_lem(run.passed),
+            passed: one_more(run.passed),
         };
     }
     name_failed(name, list, run.at, formed);

@@ -1,5 +1,6 @@
 // A field of a line: the part of the text that it is, and the number that it spells.
 #![tactic(auto)]
+
 ghost use Rattle.std.specs.Prelude.{◌≡◌, ◌^◌, ◌<◌};
 ghost use Rattle.text_fields.specs.Parts.{until_byte};
 ghost use Rattle.text_fields.specs.Spelling.{digits_from, limited, digits_of, number_of, negative};

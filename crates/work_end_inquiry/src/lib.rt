@@ -1,5 +1,6 @@
 // The work-end inquiry on a sheet: when work ends that is started on a resource and runs only in its working time.
 #![tactic(auto)]
+
 ghost use Rattle.std.specs.Prelude.{◌≡◌, true, [], ◌∷◌, length};
 ghost use Rattle.std.proofs.Math.Option.{none};
 ghost use Rattle.calendar.specs.Clock.{clock};
@@ -32,7 +33,7 @@ pub enum InquiryAnswer {
     Refused(u64, usize),
 }
 
-fn in_order_lem(start: i64, work: i64) -> bool
+fn in_order(start: i64, work: i64) -> bool
     ensures { result ≡ in_order start work }
 {
     let ranges = rows::range_table();
@@ -117,7 +118,7 @@ pub fn work_end(rows: &[i64], resource: i64, start: i64, work: i64) -> InquiryAn
     match v {
         Verdict::Refused(n, k) => InquiryAnswer::Refused(n, k),
         Verdict::Fine => {
-            if in_order_lem(start, work) {
+            if in_order(start, work) {
                 return ending(rows, &kinds, &owned, resource, start, work);
             }
             InquiryAnswer::Refused(refusals::OUT_OF_RANGE, 0)

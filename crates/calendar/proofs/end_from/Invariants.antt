@@ -1,0 +1,12 @@
+-- `calendar::end_from` meets its contract: from each place of the walk the end is the one asked for. Assumes nothing.
+use Prim.Native.Nat.{◌-◌}
+use Rattle.calendar.proofs.Stretches.{joint_at}
+use Rattle.calendar.proofs.Walk.{EndInv}
+use Rattle.calendar.proofs.Answers.{last_instant}
+use Rattle.calendar.proofs.end_from.Given as goal
+
+abbrev pub invariant-loop-t : goal.invariant-loop-t
+invariant-loop-t l = EndInv (joint_at l.w l.cs) last_instant l.start l.work l.t l.left
+
+abbrev pub decreases-loop-t : goal.decreases-loop-t
+decreases-loop-t l = last_instant - l.t

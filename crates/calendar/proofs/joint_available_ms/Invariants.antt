@@ -1,0 +1,12 @@
+-- `calendar::joint_available_ms` meets its contract: what is left to count is the rest of the range. Assumes nothing.
+use Prim.Native.Nat.{◌+◌, ◌-◌}
+use mathlib.Core.Path.{◌≡◌}
+use Rattle.calendar.proofs.Stretches.{joint_at}
+use Rattle.calendar.proofs.Walk.{available_at}
+use Rattle.calendar.proofs.joint_available_ms.Given as goal
+
+abbrev pub invariant-loop-t : goal.invariant-loop-t
+invariant-loop-t l = l.sum + available_at (joint_at l.w l.cs) l.t l.e ≡ available_at (joint_at l.w l.cs) l.a l.e
+
+abbrev pub decreases-loop-t : goal.decreases-loop-t
+decreases-loop-t l = l.e - l.t

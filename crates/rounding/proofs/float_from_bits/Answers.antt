@@ -1,0 +1,15 @@
+-- `rounding::float_from_bits` meets its contract. Assumes nothing.
+use lib.Ieee.{of_bits, div}
+use Rattle.std.proofs.Common.{refl}
+use Rattle.rounding.proofs.Laws.{nan_above, number_below}
+use Rattle.rounding.proofs.float_from_bits.Goals as goal
+
+pub returns-then-bits-gt9218868437227405312 : goal.returns-then-bits-gt9218868437227405312
+unfolding of_bits div
+returns-then-bits-gt9218868437227405312 c = nan_above _ c.if-bits-gt9218868437227405312.true
+
+pub float_from_bits-result : goal.float_from_bits-result
+float_from_bits-result c = number_below _ c.if-bits-gt9218868437227405312.false
+
+pub returns : goal.returns
+returns c = refl

@@ -1,0 +1,13 @@
+use Rattle.loops.proofs.SignLaws.{cast_sign, cast_fits}
+use borrow.Author.Rules.{rules}
+use Rattle.rows.proofs.Signs.{nat_under, nat_over}
+use Rattle.rows.proofs.nat.Goals as goal
+
+pub overflow_cast-result : goal.overflow_cast-result
+overflow_cast-result c = (search (rules, cast_sign), search (rules, cast_fits))
+
+pub returns-then-x-lt0 : goal.returns-then-x-lt0
+returns-then-x-lt0 c = search (rules, nat_under)
+
+pub returns-else-x-lt0 : goal.returns-else-x-lt0
+returns-else-x-lt0 c = search (rules, nat_over)
