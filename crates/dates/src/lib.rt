@@ -1,5 +1,6 @@
 // Dates and times as RFC 5545 writes them, in UTC, to milliseconds from 1 January 1970.
 #![tactic(auto)]
+
 ghost use Rattle.std.specs.Prelude.{◌≡◌, ◌+◌, ◌*◌, ◌-◌, ◌<◌, ◌≤◌, length};
 ghost use Rattle.loops.specs.Lists.{all_of};
 ghost use Rattle.text_fields.specs.Spelling.{is_digit};

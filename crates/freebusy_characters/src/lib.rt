@@ -1,5 +1,6 @@
 // The value of a parameter: characters of one byte or, above 127, of more, with quotes around them or without.
 #![tactic(auto)]
+
 ghost use Rattle.std.specs.Prelude.{◌≡◌, false, ◌<◌, length, get_or};
 ghost use Rattle.freebusy_characters.specs.Utf8.{between, utf8_tail, utf8_2, starts_three, utf8_3, starts_four, utf8_4, non_us_ascii, characters};
 ghost use Rattle.freebusy_characters.specs.ParamValue.{qsafe_char, safe_char, quoted_string, param_value};

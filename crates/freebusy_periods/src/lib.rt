@@ -1,5 +1,6 @@
 // Durations and periods of an office calendar, and the windows that they stand for.
 #![tactic(auto)]
+
 ghost use Rattle.std.specs.Prelude.{◌≡◌, ◌≤◌, length};
 ghost use Rattle.dates.specs.DateTime.{told};
 ghost use Rattle.freebusy_periods.specs.Duration.{counted, then_maybe, nothing_more, dur_second, dur_minute, dur_time, dur_unsigned, dur_value, is_back};

@@ -1,5 +1,6 @@
 // The line FREEBUSY of an office calendar, unfolded: whether it is one, whether it keeps to the grammar, whether it says FREE, and its value.
 #![tactic(auto)]
+
 ghost use Rattle.std.specs.Prelude.{◌≡◌};
 ghost use Rattle.loops.specs.Lists.{any_of};
 ghost use Rattle.freebusy_lines.specs.Bytes.{SEMICOLON, is_name_byte, iana_token, leading};

@@ -1,5 +1,6 @@
 // Bytes as digits, and as letters in either case.
 #![tactic(auto)]
+
 ghost use Rattle.std.specs.Prelude.{◌≡◌, ◌-◌, ◌<◌};
 ghost use Rattle.text_fields.specs.Spelling.{is_digit};
 ghost use Rattle.letters.specs.Letters.{capital, is_letter};

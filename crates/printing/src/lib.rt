@@ -1,6 +1,7 @@
 // What programs print, written to a lent buffer of bytes as far as it goes. Each function takes the place to write from, and answers the place
 // after what it wrote, or the buffer's end.
 #![tactic(auto)]
+
 ghost use Rattle.std.specs.Prelude.{◌≡◌, [], ◌∷◌, ◌+◌, ◌<◌, ◌≤◌, min, nat_abs, length, take};
 ghost use Rattle.std.proofs.lemmas.List.Edits.{sets};
 ghost use Rattle.loops.specs.inner.Wrote.{Wrote};

@@ -1,6 +1,7 @@
 // The rows of a sheet by kind, and by kind and name. Both are chains of places: a table has the first place of each chain and the next place after
 // each place. A lookup answers an enum; a table of places holds what was found as a number.
 #![tactic(auto)]
+
 ghost use Rattle.std.specs.Prelude.{◌≡◌, suc, ◌+◌, ◌<◌, ◌≤◌, length, get_or, set, replicate};
 ghost use Rattle.loops.specs.Search.{any_below};
 ghost use Rattle.loops.specs.inner.Chain.{First, Stands, same};

@@ -1,6 +1,7 @@
 // The lines of stored lists of cases: some gather numbers and bytes, and one, with a capital letter, has what was gathered judged
 // (tools/cases/README.md has the form). Here are the fields of a line, whether lines are formed, and where a case ends.
 #![tactic(auto)]
+
 ghost use Rattle.std.specs.Prelude.{◌≡◌, ◌+◌, ◌-◌, ◌≤◌, ltb, length, take, drop};
 ghost use Rattle.loops.specs.Lists.{all_of};
 ghost use Rattle.text_fields.specs.Parts.{parts};

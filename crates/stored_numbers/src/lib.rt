@@ -1,6 +1,7 @@
 // The numbers that the lines of a stored case gather: plain ones, rows, those expected (tools/cases/README.md has the form); and what is told of
 // whatever a case gathers.
 #![tactic(auto)]
+
 ghost use Rattle.std.specs.Prelude.{◌≡◌, [], ◌∷◌, ◌≤◌, pos, length, replicate};
 ghost use Rattle.std.proofs.lemmas.List.Edits.{sets};
 ghost use Rattle.loops.specs.Lists.{each};

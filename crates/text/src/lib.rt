@@ -1,5 +1,6 @@
 // The text of a sheet: lines of numbers. A text is read to lent rows, or refused with a number and a place.
 #![tactic(auto)]
+
 ghost use Rattle.std.specs.Prelude.{◌≡◌, ◌/◌, ◌<◌, length};
 ghost use Rattle.std.proofs.lemmas.List.Edits.{sets};
 ghost use Rattle.rows.specs.inner.Codes.{class_table};

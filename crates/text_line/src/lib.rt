@@ -1,5 +1,6 @@
 // A line of a text: its fields are read to the ten numbers of a row, or it is refused with a number.
 #![tactic(auto)]
+
 ghost use Rattle.std.specs.Prelude.{◌≡◌, ◌&&◌, map, ◌+◌, ◌-◌, ◌^◌, ◌<◌, pos, length, set, replicate};
 ghost use Rattle.std.proofs.lemmas.List.Edits.{sets};
 ghost use Rattle.rows.specs.inner.Codes.{class_table};

@@ -8,7 +8,11 @@ unfolding in_float
 int_to_float-x c = search span_held
 
 pub truncating_f64_to_u64-cut-requires : goal.truncating_f64_to_u64-cut-requires
-truncating_f64_to_u64-cut-requires c = (search cut_above, search cut_below)
+truncating_f64_to_u64-cut-requires c =
+    record {
+      lower_bound = search cut_above;
+      upper_bound = search cut_below;
+    }
 
 pub int_to_float-cut : goal.int_to_float-cut
 unfolding in_float

@@ -1,5 +1,7 @@
 use Rattle.resource_timing.proofs.Laws.{time_told}
 use Rattle.resource_timing.specs.inner.Limits.{time_of}
+use Rattle.std.proofs.Common.{arith}
+use Rattle.std.proofs.lemmas.Grind.{common_steps}
 use borrow.Author.Rules.{rules}
 use Rattle.resource_timing.proofs.Derived.total_ms.Goals as goal
 
@@ -8,4 +10,4 @@ returns-in-Within c = search (rules, time_told)
 
 pub returns-in-TooLarge : goal.returns-in-TooLarge
 unfolding time_of
-returns-in-TooLarge c = rw (c.enum_told-1.given.1)
+returns-in-TooLarge c = grind (arith, common_steps)

@@ -2,8 +2,5 @@ use Rattle.resource_timing.proofs.Laws.{with_longer}
 use borrow.Author.Rules.{rules}
 use Rattle.resource_timing.proofs.Fixed.with.Goals as goal
 
-pub returns-in-Nothing : goal.returns-in-Nothing
-returns-in-Nothing c = rw (c.enum_told-1.given.1)
-
 pub returns-in-Standing : goal.returns-in-Standing
 returns-in-Standing c = search (rules, with_longer)

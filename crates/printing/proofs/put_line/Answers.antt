@@ -1,0 +1,24 @@
+use Prim.Native.Nat.{◌-◌}
+use borrow.Author.Rules.{rules}
+use Rattle.loops.specs.Range.{collect}
+use Rattle.printing.specs.NumberLines.{number_line}
+use Rattle.loops.proofs.StoreLaws.{wrote_none, wrote_within, wrote_long}
+use Rattle.printing.proofs.PutLaws.{wrote_line, wrote_upto}
+use Rattle.printing.proofs.put_line.Goals as goal
+
+pub loop-c-init : goal.loop-c-init
+unfolding collect
+loop-c-init c = search (rules, wrote_none)
+
+pub put_field-at-requires : goal.put_field-at-requires
+put_field-at-requires c = search (rules, wrote_within)
+
+pub loop-c-preserved : goal.loop-c-preserved
+loop-c-preserved c = search (rules, wrote_line)
+
+pub shape_of-out : goal.shape_of-out
+shape_of-out c = search (rules, wrote_long)
+
+pub returns : goal.returns
+unfolding number_line
+returns c = search (rules, wrote_upto)

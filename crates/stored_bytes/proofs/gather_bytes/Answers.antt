@@ -1,0 +1,11 @@
+use Rattle.loops.proofs.StoreLaws.{wrote_there}
+use Rattle.stored_numbers.proofs.PutLaws.{told_all}
+use borrow.Author.Rules.{rules}
+use Rattle.stored_bytes.proofs.gather_bytes.Goals as goal
+
+pub returns : goal.returns
+returns c =
+    record {
+      value = search (rules, told_all);
+      out_after = search (rules, wrote_there);
+    }

@@ -1,0 +1,10 @@
+use Rattle.loops.proofs.BranchLaws.{matched}
+use Rattle.text_line.proofs.LineLaws.{value_held, none_held}
+use borrow.Author.Rules.{rules}
+use Rattle.stored_lines.proofs.number_of.Goals as goal
+
+pub returns-in-Value : goal.returns-in-Value
+returns-in-Value c = search (rules, value_held, matched)
+
+pub returns-in-Misspelt : goal.returns-in-Misspelt
+returns-in-Misspelt c = search (rules, none_held, matched)

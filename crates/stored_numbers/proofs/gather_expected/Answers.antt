@@ -1,0 +1,12 @@
+use Rattle.loops.proofs.StoreLaws.{wrote_there}
+use Rattle.stored_numbers.proofs.GivesLaws.{all_expected}
+use Rattle.stored_numbers.proofs.PutLaws.{told_all}
+use borrow.Author.Rules.{rules}
+use Rattle.stored_numbers.proofs.gather_expected.Goals as goal
+
+pub returns : goal.returns
+returns c =
+    record {
+      value = search (rules, told_all, all_expected);
+      out_after = search (rules, wrote_there, all_expected);
+    }
