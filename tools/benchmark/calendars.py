@@ -3,7 +3,7 @@
 
     calendars.py [--calls N] [--staticlib FILE | --shared FILE] [--crate NAME]
 
-Links the static library (by default that of `hutchdecade`, built by `rt staticlib`) to a shared object and calls `sheet_read_freebusy` on each text N
+Links the static library (by default that of `hutchdecade`, built by `tools/build`) to a shared object and calls `sheet_read_freebusy` on each text N
 times (101), the texts in turn. Prints for each the least and the median of the processor time in microseconds and what was answered, the slowest
 first. The exit status is 1 where a median is 2 ms or more.
 """

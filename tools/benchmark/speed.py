@@ -13,10 +13,9 @@ ROOM = 399_000  # bytes for their texts
 
 def program():
     """Its path; it is proved and compiled where that is to be done."""
-    done = subprocess.run(["rt", "check", "speed"], cwd=ROOT, capture_output=True, text=True)
-    if done.returncode:
-        raise SystemExit(done.stdout[-4000:] + done.stderr[-4000:] + "\nbenchmark: rt check speed failed")
-    return os.path.join(ROOT, "target", "bin", "speed")
+    if subprocess.run([os.path.join(ROOT, "tools", "build"), "speed"], stdout=subprocess.DEVNULL).returncode:
+        raise SystemExit(1)
+    return os.path.join(ROOT, "crates", "speed", "out", "speed")
 
 
 def processor_seconds(program, part, count, text):

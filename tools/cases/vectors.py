@@ -24,11 +24,11 @@ definition = importlib.util.module_from_spec(importlib.util.spec_from_loader("de
 loader.exec_module(definition)
 
 SHEET = re.compile(r"^abbrev sheet(\d+) : List ℤ\nsheet\d+ =\n((?: +.*\n)+)", re.M)
-CELL = re.compile(r"none′|\((pos|negsuc) (\d+)\)")
+CELL = re.compile(r"none'|\((pos|negsuc) (\d+)\)")
 
 
 def cell(match):
-    if match[0] == "none′":
+    if match[0] == "none'":
         return NONE
     return int(match[2]) if match[1] == "pos" else -int(match[2]) - 1
 

@@ -4,7 +4,7 @@
     freebusy_run.py [--count N] [--seed S] [--families all] [--crate NAME | --staticlib FILE | --shared FILE]
                     [--program FILE] [--programs N] [--keep FILE]
 
-Links the static library of the crate NAME (by default `hutchdecade`, built by `rt staticlib`) to a shared object and calls it;
+Links the static library of the crate NAME (by default `hutchdecade`, built by `tools/build`) to a shared object and calls it;
 compares number, place and every lent number, and looks at guards before and after the lent numbers and at the text. Then N texts go
 through the program `closures`, if it is there. Last, examples/calendars is held to the reading and the program. Prints each case that
 differs, the counts by refusal and cause, and how many differ; the exit status is 0 where none does.
@@ -82,8 +82,9 @@ def shared_object(staticlib):
 
 
 def static_library(crate):
-    subprocess.run(["rt", "staticlib", crate], check=True, cwd=ROOT)
-    return os.path.join(ROOT, "target", "staticlib", f"lib{crate}.a")
+    if subprocess.run([os.path.join(ROOT, "tools", "build"), crate], stdout=subprocess.DEVNULL).returncode:
+        raise SystemExit(1)
+    return os.path.join(ROOT, "crates", crate, "out", f"lib{crate}.a")
 
 
 # ---- comparing --------------------------------------------------------------------------------------------
@@ -189,7 +190,7 @@ def main():
     parser.add_argument("--crate", default="hutchdecade")
     parser.add_argument("--staticlib")
     parser.add_argument("--shared")
-    parser.add_argument("--program", default=os.path.join(ROOT, "target", "bin", "closures"))
+    parser.add_argument("--program", default=os.path.join(ROOT, "crates", "closures", "out", "closures"))
     parser.add_argument("--programs", type=int, default=300)
     parser.add_argument("--keep", help="a file that the cases that differ are added to")
     options = parser.parse_args()

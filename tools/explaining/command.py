@@ -43,7 +43,7 @@ def options(words):
     parser.add_argument("--version", action="version", version=version())
     parser.add_argument("--margins", action="store_true", help="how late or how early each task is, and what each resource has left")
     parser.add_argument("--closures", type=int, metavar="RESOURCE", help="SHEET is an office calendar: its busy periods as closed windows of this resource")
-    parser.add_argument("--program", metavar="FILE", help="the program (by default target/bin/check_schedule of this repository, or margins or closures there)")
+    parser.add_argument("--program", metavar="FILE", help="the program (by default check_schedule of this repository, as tools/build leaves it, or margins or closures)")
     parser.add_argument("--width", type=int, metavar="N", help=f"columns to print (by default the terminal's, or {PRINTED})")
     parser.add_argument("--all", action="store_true", help="show every row, also long runs about which nothing is said")
     group = parser.add_argument_group("check of the tool itself")

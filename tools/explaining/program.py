@@ -4,10 +4,8 @@ import os
 import re
 import subprocess
 
-BUILT = os.path.normpath(os.path.join(os.path.dirname(os.path.abspath(__file__)), "..", "..", "target", "bin"))
-PROGRAM = os.path.join(BUILT, "check_schedule")
-MARGINS = os.path.join(BUILT, "margins")
-CLOSURES = os.path.join(BUILT, "closures")
+CRATES = os.path.normpath(os.path.join(os.path.dirname(os.path.abspath(__file__)), "..", "..", "crates"))
+PROGRAM, MARGINS, CLOSURES = (os.path.join(CRATES, name, "out", name) for name in ("check_schedule", "margins", "closures"))
 
 Finding = collections.namedtuple("Finding", "check type entity severity")
 Answer = collections.namedtuple("Answer", "first refusal findings")  # refusal: None, or number and place
@@ -25,7 +23,7 @@ def run(program, text, *arguments):
     try:
         done = subprocess.run([program, *arguments], input=text, capture_output=True, check=False)
     except OSError as error:
-        raise Unanswered(f"{program}: {error.strerror}. Build it by 'rt check check_schedule margins closures', or name it by --program") from None
+        raise Unanswered(f"{program}: {error.strerror}. Build it by 'tools/build check_schedule margins closures', or name it by --program") from None
     lines = done.stdout.decode("ascii", "replace").split("\n")
     refused = re.fullmatch(r"refused,(\d+),(\d+)", lines[0])
     return done, lines, (int(refused[1]), int(refused[2])) if refused and lines[1:] == [""] and done.returncode == 0 else None
