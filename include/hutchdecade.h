@@ -42,8 +42,8 @@
            return found.place > 0;
        }
 
-       $ rt staticlib hutchdecade
-       $ cc -I include -o example example.c target/staticlib/libhutchdecade.a
+       $ tools/build hutchdecade
+       $ cc -I include -o example example.c crates/hutchdecade/out/libhutchdecade.a
        $ ./example
        check 8, type 1, entity 1, severity 80
 

@@ -4,7 +4,7 @@
    Exit status: 0 no finding, 1 findings, 2 refused, 3 no answer (the sheet could not be read, the answer could not be written,
    or the command is misspelt; standard error says which).
 
-       cc -I include -o check_sheet bindings/c/check_sheet.c target/staticlib/libhutchdecade.a */
+       cc -I include -o check_sheet bindings/c/check_sheet.c crates/hutchdecade/out/libhutchdecade.a */
 #include "hutchdecade.h"
 
 #include <errno.h>

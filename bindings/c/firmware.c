@@ -3,7 +3,7 @@
    findings, 2 for a refusal, 3 where nothing was read, 4 where the stack was too small.
 
        cc -O2 -ffreestanding -fno-stack-protector -nostdlib -static -I include -o firmware \
-           bindings/c/firmware.c bindings/c/memory.c target/staticlib/libhutchdecade.a
+           bindings/c/firmware.c bindings/c/memory.c crates/hutchdecade/out/libhutchdecade.a
        ./firmware < SHEET; echo $? */
 #include "hutchdecade.h"
 

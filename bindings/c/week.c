@@ -1,7 +1,7 @@
 /* A week that is built from rows, as a planning program would do it: no text is read. Prints what is wrong, in words, how late or how early
    the job is, and when work that is started at 6:00 would end.
 
-       cc -I include -o week bindings/c/week.c target/staticlib/libhutchdecade.a && ./week */
+       cc -I include -o week bindings/c/week.c crates/hutchdecade/out/libhutchdecade.a && ./week */
 #include "hutchdecade.h"
 
 #include <inttypes.h>
