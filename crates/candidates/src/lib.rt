@@ -1,5 +1,6 @@
 // Which resources a requirement takes, and what an activity uses of a resource: `is_candidate` and `usage_on` of models/activity.rs.
 #![tactic(auto)]
+
 ghost use Rattle.std.specs.Prelude.{◌≡◌, true, false, ◌<◌, ◌≤◌};
 ghost use Rattle.std.proofs.Math.Option.{none, some};
 ghost use Rattle.loops.specs.Lists.{among};

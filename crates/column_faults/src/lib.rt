@@ -1,5 +1,6 @@
 // Refusals 2 and 3 of one row: its kind, the classes of its columns, half a part.
 #![tactic(auto)]
+
 ghost use Rattle.std.specs.Prelude.{◌≡◌};
 ghost use Rattle.loops.specs.Search.{any_below};
 ghost use Rattle.rows.specs.Cells.{cell};

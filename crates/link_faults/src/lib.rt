@@ -1,5 +1,6 @@
 // Refusals 4 and 5 of one row, which look at the others: an owner that is not in the sheet, a repeat of an earlier row.
 #![tactic(auto)]
+
 ghost use Rattle.std.specs.Prelude.{◌≡◌, ◌<◌, ◌≤◌};
 ghost use Rattle.std.proofs.Math.Option.{some};
 ghost use Rattle.loops.specs.Search.{any_below};

@@ -2,6 +2,7 @@
 //
 // Bookings are lent as numbers, three to a booking: start, end, units. A booking takes its units from its start on, up to its end and not with it.
 #![tactic(auto)]
+
 ghost use Rattle.std.specs.Prelude.{◌≡◌, true, false, suc, ◌+◌, ◌*◌, ◌<◌, ◌≤◌, max, length, get_or, pos};
 ghost use Rattle.std.proofs.Math.Option.{none, some};
 ghost use Rattle.std.specs.Int.Signed.{lt_z};

@@ -1,6 +1,7 @@
 // The row that each row belongs to, and the rows that belong to a row. Owners are found once and kept in a table; the rows of a kind that
 // belong to a row are chains of places, as the rows of a kind are.
 #![tactic(auto)]
+
 ghost use Rattle.std.specs.Prelude.{◌≡◌, suc, ◌+◌, ◌*◌, ◌%◌, ◌<◌, ◌≤◌, true, cond, length, get_or, set};
 ghost use Rattle.loops.specs.Search.{first_place, any_below};
 ghost use Rattle.loops.specs.inner.Chain.{First, Stands, same};

@@ -1,5 +1,6 @@
 // Refusals 1 to 5 of a sheet: the first that applies, with its place, and the index of a sheet that none of them refuses.
 #![tactic(auto)]
+
 ghost use Rattle.std.specs.Prelude.{◌≡◌, length};
 ghost use Rattle.loops.specs.Search.{first};
 ghost use Rattle.rows.specs.Cells.{row_count};

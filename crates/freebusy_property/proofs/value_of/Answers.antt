@@ -11,3 +11,6 @@ returns-then-l-n c = search Line-read
 
 pub returns : goal.returns
 returns c = search Line-read
+
+pub slice_bounds-result-start : goal.slice_bounds-result-start
+slice_bounds-result-start c = search (rules, unquoted_short)

@@ -1,0 +1,12 @@
+use borrow.Author.Rules.{rules}
+use Rattle.validation.specs.inner.Answer.{link_refusal}
+use Rattle.validation.proofs.Order.{ends, goes_on}
+use Rattle.validation.proofs.link_fault.Goals as goal
+
+pub returns-in_default : goal.returns-in_default
+unfolding link_refusal
+returns-in_default c = search (rules, ends)
+
+pub returns : goal.returns
+unfolding link_refusal
+returns c = search (rules, goes_on)
