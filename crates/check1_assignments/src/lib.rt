@@ -1,6 +1,7 @@
 // Check 1, `check_assignments` of scheduler/feasibility.rs: each booking under a task of the sheet names one of its activities, takes no more units than
 // the activity's requirements, lasts as long as its work, and starts no earlier than the releases.
 #![tactic(auto)]
+
 ghost use Rattle.std.specs.Prelude.{◌≡◌, ◌+◌, ◌*◌, ◌<◌, ◌≤◌, true, false, cond, ltb, pos, ◌-ℤ◌, get_or};
 ghost use Rattle.std.proofs.Math.Option.{some};
 ghost use Rattle.std.specs.Int.Signed.{lt_z};

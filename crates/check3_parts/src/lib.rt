@@ -1,5 +1,6 @@
 // Check 3, `check_parts`: the parts that a split activity is booked in.
 #![tactic(auto)]
+
 ghost use Rattle.std.specs.Prelude.{◌≡◌, true, false, cond, not, ◌&&◌, ◌||◌, [], ◌∷◌, ◌+◌, ◌*◌, ◌<◌, ◌≤◌, eqb, ltb};
 ghost use Rattle.loops.specs.Lists.{given, option};
 ghost use Rattle.loops.specs.Range.{collect};

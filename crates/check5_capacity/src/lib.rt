@@ -1,5 +1,6 @@
 // Check 5, `check_capacity`: each booked resource whose load exceeds its limit.
 #![tactic(auto)]
+
 ghost use Rattle.std.specs.Prelude.{◌≡◌, ◌<◌, pos, length};
 ghost use Rattle.std.specs.Int.Signed.{lt_z};
 ghost use Rattle.calendar.specs.Clock.{clock};

@@ -1,5 +1,6 @@
 // The derived times of the bookings, found once for a sheet, and refusal 6.
 #![tactic(auto)]
+
 ghost use Rattle.std.specs.Prelude.{◌≡◌, ◌<◌, ◌≤◌, true, set};
 ghost use Rattle.std.proofs.Math.Option.{some};
 ghost use Rattle.loops.specs.Lists.{any_of};

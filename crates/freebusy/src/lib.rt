@@ -1,5 +1,6 @@
 // Office calendars: busy periods are read to lent rows as closed windows of a resource, or the calendar is refused with a number and a place.
 #![tactic(auto)]
+
 ghost use Rattle.std.specs.Prelude.{◌≡◌, cond, ◌&&◌, not, [], ◌∷◌, map, ◌/◌, ◌^◌, ◌<◌, ◌≤◌, ltb, pos, length};
 ghost use Rattle.loops.specs.Search.{or_else};
 ghost use Rattle.line_buffer.specs.Lines.{flat_lines};

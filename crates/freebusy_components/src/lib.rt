@@ -1,5 +1,6 @@
 // The components VFREEBUSY of an office calendar, by its unfolded lines: which is open, and the first line that is against the rules.
 #![tactic(auto)]
+
 ghost use Rattle.std.specs.Prelude.{◌≡◌, ◌+◌, ◌<◌, ◌≤◌, min, length};
 ghost use Rattle.std.proofs.Math.Option.{none};
 ghost use Rattle.freebusy_lines.specs.Lines.{line, unfolded, lines};

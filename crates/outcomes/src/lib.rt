@@ -1,5 +1,6 @@
 // The answers of the calls as numbers, as programs in other languages get them.
 #![tactic(auto)]
+
 ghost use Rattle.std.specs.Prelude.{◌≡◌};
 ghost use Rattle.refusals.specs.Refusals.{verdict_of};
 ghost use Rattle.work_end_inquiry.specs.Inquiry.{outcome_of};

@@ -1,6 +1,7 @@
 // The pieces of the bookings, an activity or one of its parts, and who is held only as a companion: `piece_key` and `companions_among` of
 // scheduler/feasibility.rs. Each is found along chains of rows; who is held is found once for a sheet.
 #![tactic(auto)]
+
 ghost use Rattle.std.specs.Prelude.{◌≡◌, ◌<◌, ◌≤◌, true, cond, not, ◌&&◌, set};
 ghost use Rattle.loops.specs.inner.Chain.{Blind};
 ghost use Rattle.loops.specs.Search.{any_below, first_place};

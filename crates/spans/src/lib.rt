@@ -1,5 +1,6 @@
 // When a task completes and when an activity runs, of models/schedule.rs and `activity_span` of scheduler/feasibility.rs.
 #![tactic(auto)]
+
 ghost use Rattle.std.specs.Prelude.{◌≡◌, cond, ◌<◌, pos};
 ghost use Rattle.std.proofs.Math.Option.{none};
 ghost use Rattle.calendar.specs.Clock.{clock};

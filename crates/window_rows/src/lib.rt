@@ -1,5 +1,6 @@
 // The windows of a resource or of an activity: whether they hold an interval, and laid out for the calendar functions.
 #![tactic(auto)]
+
 ghost use Rattle.std.specs.Prelude.{◌≡◌, ◌+◌, ◌<◌, ◌≤◌, pos, length};
 ghost use Rattle.calendar.specs.Clock.{clock};
 ghost use Rattle.calendar.specs.Calendar.{interval_fits};

@@ -8,7 +8,7 @@ pub loop-k-init : goal.loop-k-init
 loop-k-init c = (search rules, fold_first_lem _ _ c.first_of-k.ensures (quiet_only _ _))
 
 pub loop-k-preserved : goal.loop-k-preserved
-loop-k-preserved c = (search rules, only_next _ _ _ c.next_of-k.ensures c.before.before.before.loop-k-test.true c.before.before.before.before.before.before.row_count-n.ensures (c.before.before.before.before.loop-k.invariant.0) (c.before.before.before.before.loop-k.invariant.1) (later_turn _ _ _ _ c.before.before.cap_at.ensures c.before.or_else-f.ensures))
+loop-k-preserved c = (search rules, only_next _ _ _ c.next_of-k.ensures c.loop-k-test.true c.row_count-n.ensures (c.loop-k.invariant.0) (c.loop-k.invariant.1) (later_turn _ _ _ _ c.cap_at.ensures c.or_else-f.ensures))
 
 pub returns : goal.returns
 returns c = search (rules, override_is, fold_end)

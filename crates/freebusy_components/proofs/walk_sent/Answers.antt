@@ -1,0 +1,23 @@
+use Rattle.freebusy_lines.proofs.LineLaws.{front_fits, front_long}
+use Rattle.freebusy_components.proofs.StepLaws.{open_unfolded, wrong_unfolded, space_unfolded, open_plain, wrong_plain, space_plain}
+use Rattle.freebusy_components.proofs.walk_sent.Goals as goal
+
+pub slice_bounds-walk_line-end : goal.slice_bounds-walk_line-end
+slice_bounds-walk_line-end c = search front_fits
+
+pub slice_bounds-walk_line-end-then-has_fold : goal.slice_bounds-walk_line-end-then-has_fold
+slice_bounds-walk_line-end-then-has_fold c = search front_long
+
+pub returns-then-has_fold : goal.returns-then-has_fold
+returns-then-has_fold c =
+    record {
+      begun_value = (search open_unfolded, search wrong_unfolded);
+      space_after = search space_unfolded;
+    }
+
+pub returns : goal.returns
+returns c =
+    record {
+      begun_value = (search open_plain, search wrong_plain);
+      space_after = search space_plain;
+    }

@@ -1,0 +1,15 @@
+use Rattle.pieces.proofs.Chains.{first_holds}
+use Rattle.sheet.specs.Places.{named}
+use Rattle.rows.specs.Cells.{row_count}
+use Rattle.loops.specs.Search.{any_below}
+use Rattle.loops.specs.inner.Chain.{Stands}
+use mathlib.Core.Bool.{false}
+use Prim.Native.Nat.{◌-◌}
+use mathlib.Core.Path.{◌≡◌}
+use Rattle.pieces.proofs.is_held.Given as goal
+
+abbrev pub invariant-loop-j : goal.invariant-loop-j
+invariant-loop-j l = Stands (named l.rows 23 l.activity) (row_count l.rows) l.j × (any_below (first_holds l.rows l.k) l.j ≡ false)
+
+abbrev pub decreases-loop-j : goal.decreases-loop-j
+decreases-loop-j l = l.n - l.j
