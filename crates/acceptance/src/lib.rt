@@ -1,5 +1,6 @@
 // Whether a sheet is accepted: refusals 1 to 6. A call begins so that needs no derived time beside them; the check keeps the times, and takes the steps itself.
 #![tactic(auto)]
+
 ghost use Rattle.std.specs.Prelude.{◌≡◌, length};
 ghost use Rattle.acceptance.specs.inner.Accepting.{Accepting};
 

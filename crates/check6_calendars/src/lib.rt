@@ -1,6 +1,7 @@
 // Check 6, `check_calendars` of scheduler/feasibility.rs: a booking that may not pause is held whole by a window of its resource and of its activity;
 // resumable work starts in the joint working time of its piece, and that time within its span covers it.
 #![tactic(auto)]
+
 ghost use Rattle.std.specs.Prelude.{◌≡◌, ◌+◌, ◌<◌, ◌≤◌, true, not, ◌||◌, ltb, pos, get_or};
 ghost use Rattle.std.proofs.Math.Option.{some};
 ghost use Rattle.loops.specs.Lists.{given};

@@ -1,6 +1,7 @@
 // The calendars of a piece, for `check_calendars` of scheduler/feasibility.rs: those of the resources that its bookings are on, each resource once,
 // and that of its activity, laid out for the calendar functions.
 #![tactic(auto)]
+
 ghost use Rattle.std.specs.Prelude.{◌≡◌, suc, ◌+◌, ◌*◌, ◌<◌, ◌≤◌, true, length};
 ghost use Rattle.std.proofs.Math.Option.{some};
 ghost use Rattle.loops.specs.Search.{count_below};

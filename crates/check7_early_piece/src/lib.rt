@@ -2,6 +2,7 @@
 // scheduler/feasibility.rs judges. A piece starts too early where one of its bookings starts before the work is moved to the resource of
 // one of its bookings, so each booking is judged with those of its piece, and no map is made.
 #![tactic(auto)]
+
 ghost use Rattle.std.specs.Prelude.{◌≡◌, true, false, ◌&&◌, ◌<◌, ◌≤◌, pos};
 ghost use Rattle.loops.specs.Lists.{any_of, option};
 ghost use Rattle.loops.specs.Search.{any_below};

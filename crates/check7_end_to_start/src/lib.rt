@@ -1,6 +1,7 @@
 // Activities that start before others that they follow: `end_to_start` of `check_precedence` in scheduler/feasibility.rs, for predecessors and
 // precedence constraints.
 #![tactic(auto)]
+
 ghost use Rattle.std.specs.Prelude.{◌≡◌, true, ◌<◌, ◌≤◌, pos, ◌+ℤ◌, nat_abs};
 ghost use Rattle.std.specs.Int.Signed.{lt_z};
 ghost use Rattle.loops.specs.Lists.{each};

@@ -1,5 +1,6 @@
 // A step of a task against the one before it: `check_precedence` of scheduler/feasibility.rs, for one pair of its `windows(2)`.
 #![tactic(auto)]
+
 ghost use Rattle.std.specs.Prelude.{◌≡◌, true, ◌++◌, ◌<◌, ◌≤◌, pos, nat_abs};
 ghost use Rattle.loops.specs.Lists.{given};
 ghost use Rattle.calendar.specs.Clock.{clock};

@@ -1,6 +1,7 @@
 // The time to move work between resources: `transport_to` and `transport_between` of models/resource.rs, for the resources that activities
 // are booked on. The moves of a resource are found along its chain of rows.
 #![tactic(auto)]
+
 ghost use Rattle.std.specs.Prelude.{◌≡◌, true, [], ◌∷◌, ◌<◌, ◌≤◌, max};
 ghost use Rattle.calendar.specs.Clock.{clock};
 ghost use Rattle.rows.specs.Cells.{row_count, num, is};

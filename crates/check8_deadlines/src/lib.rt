@@ -1,5 +1,6 @@
 // Check 8, `check_deadlines`: each task with a deadline that completes after it.
 #![tactic(auto)]
+
 ghost use Rattle.std.specs.Prelude.{◌≡◌, true, false, ◌<◌};
 ghost use Rattle.calendar.specs.Clock.{clock};
 ghost use Rattle.loops.specs.Lists.{each};

@@ -1,0 +1,14 @@
+use mathlib.Core.Logic.{inr}
+use mathlib.Core.Path.{refl}
+use native.Mathlib.Omega.{arith}
+use Rattle.sheet.proofs.Lookups.{placed}
+use Rattle.model.proofs.Finds.{found_self}
+use Rattle.check6_calendars.proofs.Plain.{resource_outside}
+use borrow.Author.Rules.{rules}
+use Rattle.check6_calendars.proofs.check_resource.Goals as goal
+
+pub fits_windows-outside-requires : goal.fits_windows-outside-requires
+fits_windows-outside-requires c = let w = placed _ 11 _ _ (c.requires.1) in (c.requires.0, omega (arith, w.within), inr (refl, found_self _ 11 _ _ (c.requires.1)))
+
+pub returns : goal.returns
+returns c = search (rules, resource_outside)
