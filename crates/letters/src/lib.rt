@@ -25,6 +25,7 @@ pub fn digit_of(x: u8) -> u64
 }
 
 // A letter in either case as its capital; other bytes as they are.
+#[tactic(auto, using(crate::proofs::LetterLaws::capital_low, crate::proofs::LetterLaws::capital_high, crate::proofs::LetterLaws::capital_small))]
 pub fn capital_of(x: u8) -> u8
     ensures { result ≡ capital x }
 {

@@ -14,7 +14,7 @@ use Rattle.text_fields.specs.Spelling.{is_digit, digits_from, limited, digits_of
 use Rattle.text_fields.specs.declared.Number.{Number}
 use Rattle.text_fields.specs.declared.Number.TheVariants.{Value, Misspelt}
 use lib.IntN.{pos, neg_ℤ}
-use mathlib.Core.Logic.{◌⊎◌, inl, inr, ⊎_elim}
+use mathlib.Core.Logic.{◌⊎◌, inl, inr}
 use mir.Syntax.{w64}
 use mir.Val.{to_z}
 use mir.Facts.{to_z_pos}
@@ -93,16 +93,11 @@ unfolding digits_of
 digits_zero [] e h = refl
 digits_zero (x ∷ xs) e h = rw (eq-eqb x 48 e, lt-ltb 0 (length xs) (omega arith))
 
-plain : (s : List ℕ) → (length s ≡ 0 → ⊥) → (get_or s 0 0 ≡ 48 → ⊥) ⊎ (length s ≤ 1) → digits_of s ≡ limited (digits_from 0 s)
+pub digits_plain : (s : List ℕ) → (length s ≡ 0 → ⊥) → (get_or s 0 0 ≡ 48 → ⊥) ⊎ (length s ≤ 1) → digits_of s ≡ limited (digits_from 0 s)
 unfolding digits_of
-plain [] n h = absurd (n refl)
-plain (x ∷ xs) n (inl h) = rw (ne_eqb x 48 h)
-plain (x ∷ xs) n (inr h) = rw (le-ltb 0 (length xs) (omega arith), and-false (eqb x 48))
-
--- as the code comes to the digits: on one of two ways
-pub digits_plain : {A B : Type 0} {r : Digits} (s : List ℕ) → A ⊎ B → (length s ≡ 0 → ⊥) → (A → length s ≤ 1) → (B → get_or s 0 0 ≡ 48 → ⊥)
-    → r ≡ limited (digits_from 0 s) → r ≡ digits_of s
-digits_plain s w n a b e = e ∙ sym (plain s n (⊎_elim (λ x. inr (a x)) (λ y. inl (b y)) w))
+digits_plain [] n h = absurd (n refl)
+digits_plain (x ∷ xs) n (inl h) = rw (ne_eqb x 48 h)
+digits_plain (x ∷ xs) n (inr h) = rw (le-ltb 0 (length xs) (omega arith), and-false (eqb x 48))
 
 pub number_empty : (s : List ℕ) → length s ≡ 0 → number_of s ≡ Value held_none
 unfolding number_of

@@ -71,6 +71,7 @@ fn digits_value(s: &[u8]) -> Digits
 }
 
 // At least one digit, and no zero in front of another.
+#[tactic(auto, using(crate::proofs::DigitLaws::digits_empty, crate::proofs::DigitLaws::digits_zero, crate::proofs::DigitLaws::digits_plain))]
 fn read_digits(s: &[u8]) -> Digits
     ensures { result ≡ digits_of s.now }
 {
