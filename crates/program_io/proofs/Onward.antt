@@ -8,7 +8,8 @@ use borrow.Author.Rules.{rules}
 use borrow.Author.Tests.{leb-false, eqb-false}
 use lib.Dec.{leb, eqb}
 use lib.ListN.{length}
-use Rattle.io.proofs.Counting.{prefix_len_of_le}
+use Rattle.std.proofs.lemmas.List.{length-take-le}
+use Rattle.std.specs.Counts.{IsPrefixLen}
 use Rattle.program_io.specs.Ending.{begun, further, again, after_more, read_again, after_read, after_taken, write_again, after_write}
 use Rattle.program_io.specs.inner.Input.{Held}
 use Rattle.program_io.specs.declared.Input.{Input}
@@ -113,6 +114,9 @@ module _ {step : WriteStep} (place next : Place) (lent room : ℕ) (t : Transfer
 
   pub write_nearer : ahead next room < ahead place room
   write_nearer = onward_nearer room (write_on place lent t (sym q ∙ e)) l w
+
+prefix_len_of_le : (n : ℕ) (xs : List ℕ) → n ≤ length xs → IsPrefixLen n xs
+prefix_len_of_le n xs l = (l, sym (length-take-le n xs l))
 
 -- the bytes that are counted are held
 module _ (place : Place) (lent : ℕ) (buffer : List ℕ) (l : place.done + lent ≡ length buffer) {i : Input} where

@@ -1,7 +1,11 @@
 -- How reading and writing go on and end, one answer of the system after the other. What it answers, no contract can say; what is made of each answer is said
 -- here: a read that failed is no end of the input, and neither is one that was interrupted. Left to believe is that `read` and `write` of `system.rt` lend the
--- bytes that they are handed and tell the answer as it came: the fields of `Answer` are private, so no other code makes one. Assumes nothing.
-use Rattle.std.specs.Prelude.{ℕ, ◌+◌, ◌-◌, Bool, false, cond, ◌≡◌, leb, eqb, ℤ, pos, negsuc}
+-- bytes that they are handed, and that the standard library tells the answer as it came: the fields of `Answer` are private, so no other code makes one.
+-- Assumes nothing.
+use Rattle.std.specs.Prelude.{ℕ, ◌+◌, ◌-◌, Bool, false, cond, ◌≡◌, ◌↔◌, IsTrue, leb, eqb, ℤ, pos, negsuc}
+use Rattle.std.specs.IoError.{error_kind}
+use Rattle.std.specs.declared.io.Error.{Error}
+use Rattle.std.specs.declared.io.ErrorKind.TheVariants as kind
 use Rattle.program_io.specs.declared.system.Answer.{Answer}
 use Rattle.program_io.specs.declared.system.Transfer.{Transfer}
 use Rattle.program_io.specs.declared.system.Transfer.TheVariants.{Moved, Interrupted, Failed}
@@ -15,7 +19,15 @@ use Rattle.program_io.specs.declared.Output.TheVariants as output
 use Rattle.program_io.specs.declared.Reading.{Reading}
 use Rattle.program_io.specs.declared.Writing.{Writing}
 
--- an answer from 0 on counts the bytes that moved; any other is a failure, unless errno told of an interruption
+-- the answer where the standard library tells of a count, and where it tells of an error
+abbrev pub IsCount : ℕ → Answer → Type 0
+IsCount n answer = answer.got ≡ pos n
+
+pub record IsFailure (e : Error) (answer : Answer) : Type 0 where
+  pub below : answer.got ≡ negsuc 0
+  pub interrupted : IsTrue answer.interrupted ↔ (error_kind e ≡ kind.Interrupted)
+
+-- an answer from 0 on counts the bytes that moved; any other is a failure, unless the system told of an interruption
 unfoldable pub said_by : ℤ → Bool → Transfer
 said_by (pos n) interrupted = Moved n
 said_by (negsuc n) interrupted = cond interrupted Interrupted Failed

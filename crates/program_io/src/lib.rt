@@ -2,16 +2,23 @@
 // not be written is never lost in silence: each is told in a line on standard error. What the outside gives and takes, no contract can say; what is made of
 // each answer of the system, the page `Ending` says.
 #![tactic(auto)]
+
 mod steps;
 mod system;
+mod words;
 
 ghost use Rattle.std.specs.Prelude.{◌≡◌, ◌+◌, ◌≤◌, eqb, length, take, drop};
 ghost use Rattle.program_io.specs.Ending.{ReadToEnd, WrittenToEnd};
 ghost use Rattle.program_io.specs.inner.Input.{Held};
 
-use libc::{STDERR_FILENO, STDIN_FILENO, STDOUT_FILENO};
+use std::env::FillError;
+use std::fs::{OpenFile, OpenOptions};
+use std::io::{ErrorKind, IsTerminal};
+use std::os::fd::AsFd;
+use std::rt::Env;
+use std::{fs, io};
 use steps::{Place, ReadStep, WriteStep};
-use system::Answer;
+use system::{Answer, Sink, Source};
 
 // What came of reading: so many bytes at the start of the buffer, after which the input ended or the buffer was full; or a read failed.
 #[derive(Clone, Copy)]
@@ -44,10 +51,18 @@ struct Writing {
     output: Output,
 }
 
-// A line on standard error.
-pub fn tell(words: &[u8]) {
-    io::write_all(STDERR_FILENO, words);
-    io::write_all(STDERR_FILENO, b"\n");
+// A line on standard error. Where that fails, nobody is left to be told.
+pub fn tell(rt: &HostRuntime, words: &[u8]) {
+    let _ = rt.stderr().write_all(words);
+    let _ = rt.stderr().write_all(b"\n");
+}
+
+// A line on standard error: what failed, and the system's words.
+fn tell_failure(rt: &HostRuntime, what: &[u8], reason: io::Error) {
+    let words = words::words_of(reason);
+    let _ = rt.stderr().write_all(what);
+    let _ = rt.stderr().write_all(b": ");
+    tell(rt, words.alone().as_bytes());
 }
 
 // How many arguments the program was started with, and whether it takes so many.
@@ -57,23 +72,31 @@ pub struct Started {
     pub taken: bool,
 }
 
-// The system counts the program's name as one, if it has one.
-fn given_arguments() -> usize {
-    let words = os::arg_count();
-    if words > 0 {
-        return words - 1;
+// Whether the program was started with a word i, however long; word 0 is its name.
+fn has_word(rt: &HostRuntime, i: usize) -> bool {
+    let mut start = [0u8; 1];
+    let word = rt.arg(i, &mut start);
+    !matches!(word, Err(FillError::NotPresent))
+}
+
+// The words after the program's name.
+fn given_arguments(rt: &HostRuntime) -> usize {
+    for i in 1..usize::MAX {
+        if !has_word(rt, i) {
+            return i - 1;
+        }
     }
-    0
+    usize::MAX
 }
 
 // The arguments of a program that takes `count`. Where it was given more or fewer, a line says how it is used.
-pub fn arguments(count: usize, usage: &[u8]) -> Started
+pub fn arguments(rt: &HostRuntime, count: usize, usage: &[u8]) -> Started
     ensures { result.taken ≡ eqb result.given count }
 {
-    let given = given_arguments();
+    let given = given_arguments(rt);
     let taken = given == count;
     if !taken {
-        tell(usage);
+        tell(rt, usage);
     }
     Started {
         given: given,
@@ -82,7 +105,7 @@ pub fn arguments(count: usize, usage: &[u8]) -> Started
 }
 
 // The system's answer to a read to the buffer's bytes from the place on; those before it stay. Where there are none, it is not asked.
-fn read_at(fd: i32, buffer: &mut [u8], place: Place) -> Answer
+fn read_at(source: &mut Source, buffer: &mut [u8], place: Place) -> Answer
     requires { place.done ≤ length buffer.old }
     ensures lent_value { place.done + result.lent ≡ length buffer.new }
     ensures buffer_unchanged { take place.done buffer.new ≡ take place.done buffer.old }
@@ -91,17 +114,17 @@ fn read_at(fd: i32, buffer: &mut [u8], place: Place) -> Answer
     if buffer.len() <= done {
         return Answer::none();
     }
-    system::read(fd, &mut buffer[done..])
+    system::read(source, &mut buffer[done..])
 }
 
 // Reads until the input ends or the buffer is full. No read follows the end: at a terminal it would wait for more.
-fn read_to_end(fd: i32, buffer: &mut [u8]) -> Reading
+fn read_to_end(source: &mut Source, buffer: &mut [u8]) -> Reading
     ensures read_to_end { ReadToEnd result (length buffer.new) }
     ensures held { Held result.input buffer.new }
 {
     let mut place = Place::begin();
     loop {
-        let last = read_at(fd, buffer, place);
+        let last = read_at(source, buffer, place);
         let step = steps::after_read(place, last);
         match step {
             ReadStep::On(next) => {
@@ -120,17 +143,19 @@ fn read_to_end(fd: i32, buffer: &mut [u8]) -> Reading
 
 // Reads standard input to its end, or to the buffer's. At a terminal a line says first what is awaited. Where a read fails, a line names the input and
 // gives the system's words.
-pub fn read_input(input: &[u8], awaited: &[u8], buffer: &mut [u8]) -> Reading
+pub fn read_input(rt: &HostRuntime, input: &[u8], awaited: &[u8], buffer: &mut [u8]) -> Reading
     ensures read_to_end { ReadToEnd result (length buffer.new) }
     ensures held { Held result.input buffer.new }
 {
-    if libc::isatty(STDIN_FILENO) == 1 {
-        tell(awaited);
+    let stdin = rt.stdin();
+    if stdin.is_terminal() {
+        tell(rt, awaited);
     }
-    let reading = read_to_end(STDIN_FILENO, buffer);
+    let mut source = Source::new(stdin);
+    let reading = read_to_end(&mut source, buffer);
     let read = reading.input;
     if let Input::Failed = read {
-        os::fail(input);
+        tell_failure(rt, input, source.reason());
     }
     reading
 }
@@ -144,7 +169,7 @@ fn rest_of(bytes: &[u8], done: usize) -> &[u8]
 }
 
 // The system's answer to a write of them. Where there are none, it is not asked.
-fn write_at(fd: i32, bytes: &[u8], place: Place) -> Answer
+fn write_at(sink: &mut Sink, bytes: &[u8], place: Place) -> Answer
     requires { place.done ≤ length bytes.now }
     ensures { place.done + result.lent ≡ length bytes.now }
 {
@@ -152,16 +177,16 @@ fn write_at(fd: i32, bytes: &[u8], place: Place) -> Answer
     if bytes.len() <= done {
         return Answer::none();
     }
-    system::write(fd, rest_of(bytes, done))
+    system::write(sink, rest_of(bytes, done))
 }
 
 // Writes until every byte is taken, or a write fails or takes nothing.
-fn write_to_end(fd: i32, bytes: &[u8]) -> Writing
+fn write_to_end(sink: &mut Sink, bytes: &[u8]) -> Writing
     ensures { WrittenToEnd result (length bytes.now) }
 {
     let mut place = Place::begin();
     loop {
-        let last = write_at(fd, bytes, place);
+        let last = write_at(sink, bytes, place);
         let step = steps::after_write(place, last);
         match step {
             WriteStep::On(next) => {
@@ -180,32 +205,53 @@ fn write_to_end(fd: i32, bytes: &[u8]) -> Writing
 
 // Writes all that the program has to say to standard output, and closes it, since a file on another machine may fail only then. Where that fails, a line
 // names the output and gives the system's words; what went out stays.
-pub fn write_output(output: &[u8], bytes: &[u8]) {
-    let writing = write_to_end(STDOUT_FILENO, bytes);
+pub fn write_output(rt: &HostRuntime, output: &[u8], bytes: &[u8]) {
+    let mut sink = Sink::new(rt.stdout());
+    let writing = write_to_end(&mut sink, bytes);
     let written = writing.output;
     match written {
-        Output::Written => close_output(output),
-        Output::Failed => os::fail(output),
-        Output::Cut => tell_cut(output),
+        Output::Written => close_output(rt, output),
+        Output::Failed => tell_failure(rt, output, sink.reason()),
+        Output::Cut => tell_cut(rt, output),
     }
 }
 
 // The same of an answer that may be no line at all. A line on standard error then says so: silence on both outputs would be no answer.
-pub fn write_lines(output: &[u8], lines: &[u8]) {
+pub fn write_lines(rt: &HostRuntime, output: &[u8], lines: &[u8]) {
     if lines.len() == 0 {
-        tell(b"0 lines");
+        tell(rt, b"0 lines");
     }
-    write_output(output, lines);
+    write_output(rt, output, lines);
 }
 
-fn close_output(output: &[u8]) {
-    if libc::close(STDOUT_FILENO) < 0 {
-        os::fail(output);
+// Where standard output is a file, what was written is made to reach its disk.
+fn reach_disk(rt: &HostRuntime) -> io::Result<()> {
+    let path = "/proc/self/fd/1";
+    let Ok(facts) = fs::metadata(rt, path) else {
+        return Ok(());
+    };
+    if !facts.is_file() {
+        return Ok(());
+    }
+    let Ok(file) = OpenOptions::new().write(true).open(rt, path) else {
+        return Ok(());
+    };
+    file.sync_all()
+}
+
+fn keep_output(rt: &HostRuntime) -> io::Result<()> {
+    let _open = rt.stdout().as_fd().try_clone_to_owned()?;
+    reach_disk(rt)
+}
+
+fn close_output(rt: &HostRuntime, output: &[u8]) {
+    if let Err(reason) = keep_output(rt) {
+        tell_failure(rt, output, reason);
     }
 }
 
 // The system gives no words for a write that takes nothing.
-fn tell_cut(output: &[u8]) {
-    io::write_all(STDERR_FILENO, output);
-    tell(b": no more was taken");
+fn tell_cut(rt: &HostRuntime, output: &[u8]) {
+    let _ = rt.stderr().write_all(output);
+    tell(rt, b": no more was taken");
 }

@@ -1,0 +1,37 @@
+// The system's words for a failure.
+use std::io;
+use std::io::{Cursor, Write};
+
+// What the standard library writes of a failure: the system's words, and after them its number in brackets.
+#[derive(Drop)]
+pub struct Words {
+    bytes: [u8; 256],
+    length: u64,
+}
+
+pub fn words_of(reason: io::Error) -> Words {
+    let mut cursor = Cursor::new([0u8; 256]);
+    let _ = write!(cursor, "{reason}");
+    let length = cursor.position();
+    Words {
+        bytes: cursor.into_inner(),
+        length: length,
+    }
+}
+
+impl Words {
+    // The words alone.
+    pub fn alone(&self) -> &str {
+        let length = self.length;
+        if length > 256 {
+            return "";
+        }
+        let Ok(text) = std::str::from_utf8(&self.bytes[..length as usize]) else {
+            return "";
+        };
+        match text.split_once(" (os error ") {
+            Some((words, _)) => words,
+            None => text,
+        }
+    }
+}
