@@ -72,7 +72,7 @@ pub struct Started {
     pub taken: bool,
 }
 
-// Whether the program was started with a word i, however long; word 0 is its name.
+// Whether the program was started with a word i, however long. Word 0 is its name, if it has one.
 fn has_word(rt: &HostRuntime, i: usize) -> bool {
     let mut start = [0u8; 1];
     let word = rt.arg(i, &mut start);
@@ -203,14 +203,14 @@ fn write_to_end(sink: &mut Sink, bytes: &[u8]) -> Writing
     }
 }
 
-// Writes all that the program has to say to standard output, and closes it, since a file on another machine may fail only then. Where that fails, a line
-// names the output and gives the system's words; what went out stays.
+// Writes all that the program has to say to standard output, and has it kept there, since a file on another machine may fail only then. Where that fails, a
+// line names the output and gives the system's words; what went out stays.
 pub fn write_output(rt: &HostRuntime, output: &[u8], bytes: &[u8]) {
     let mut sink = Sink::new(rt.stdout());
     let writing = write_to_end(&mut sink, bytes);
     let written = writing.output;
     match written {
-        Output::Written => close_output(rt, output),
+        Output::Written => keep_output(rt, output),
         Output::Failed => tell_failure(rt, output, sink.reason()),
         Output::Cut => tell_cut(rt, output),
     }
@@ -224,7 +224,7 @@ pub fn write_lines(rt: &HostRuntime, output: &[u8], lines: &[u8]) {
     write_output(rt, output, lines);
 }
 
-// Where standard output is a file, what was written is made to reach its disk.
+// Has what was written reach the disk, where standard output is a file that can be asked to.
 fn reach_disk(rt: &HostRuntime) -> io::Result<()> {
     let path = "/proc/self/fd/1";
     let Ok(facts) = fs::metadata(rt, path) else {
@@ -236,16 +236,20 @@ fn reach_disk(rt: &HostRuntime) -> io::Result<()> {
     let Ok(file) = OpenOptions::new().write(true).open(rt, path) else {
         return Ok(());
     };
-    file.sync_all()
+    match file.sync_all() {
+        Err(reason) if reason.kind() != ErrorKind::InvalidInput => Err(reason),
+        _ => Ok(()),
+    }
 }
 
-fn keep_output(rt: &HostRuntime) -> io::Result<()> {
+// Fails where standard output is not open, also if nothing was written, and where a file does not keep what was written.
+fn kept(rt: &HostRuntime) -> io::Result<()> {
     let _open = rt.stdout().as_fd().try_clone_to_owned()?;
     reach_disk(rt)
 }
 
-fn close_output(rt: &HostRuntime, output: &[u8]) {
-    if let Err(reason) = keep_output(rt) {
+fn keep_output(rt: &HostRuntime, output: &[u8]) {
+    if let Err(reason) = kept(rt) {
         tell_failure(rt, output, reason);
     }
 }
