@@ -1,8 +1,10 @@
 // A program's arguments that are numbers, spelt as in the text of a sheet. What the system hands over, no contract can say; what it is as a number, this one says.
 #![tactic(auto)]
+
 ghost use Rattle.std.specs.Prelude.{◌≡◌, take};
 ghost use Rattle.number_arguments.specs.Argument.{argument_number};
 
+use std::rt::Env;
 use text_fields::Number;
 
 // What an argument spells.
@@ -24,11 +26,11 @@ pub struct Argument {
 }
 
 // Argument i, counted from 1. No number has more than 20 bytes: of a longer argument nothing is handed over, as of a missing one.
-pub fn number_argument(i: usize) -> Argument
+pub fn number_argument(rt: &HostRuntime, i: usize) -> Argument
     ensures { result.number ≡ argument_number (take result.length result.bytes) }
 {
     let mut bytes = [0u8; 21];
-    let length = os::arg(i, &mut bytes);
+    let length = rt.arg(i, &mut bytes).unwrap_or(0);
     let number = number_of(&bytes[..length]);
     Argument {
         bytes: bytes,
