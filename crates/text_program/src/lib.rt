@@ -1,5 +1,6 @@
 // What the programs share that read a sheet as text: the room that they lend. The length is what lending an array as a slice asks for.
 #![tactic(auto)]
+
 ghost use Rattle.std.specs.Prelude.{◌≡◌, pos, length, replicate};
 
 // 800 rows.
