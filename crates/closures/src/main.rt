@@ -1,5 +1,6 @@
 // The program: reads an office calendar from standard input, and prints its busy periods as closed windows of the resource that is its argument.
 #![tactic(auto)]
+
 ghost use Rattle.std.specs.Prelude.{◌≡◌, ◌≤◌, length, take};
 ghost use Rattle.loops.specs.inner.Wrote.{Wrote};
 ghost use Rattle.closures.specs.Program.{printed_closures};
@@ -54,20 +55,21 @@ fn print_closures(text: &[u8], resource: i64, out: &mut [u8]) -> usize
     }
 }
 
-fn main() {
+fn main(rt: HostRuntime) {
     let usage = b"usage: closures RESOURCE < CALENDAR (RESOURCE is a number, spelt as in a sheet)";
-    let started = program_io::arguments(1, usage);
+    let started = program_io::arguments(&rt, 1, usage);
     if !started.taken {
         return;
     }
-    let argument = number_arguments::number_argument(1);
+    let argument = number_arguments::number_argument(&rt, 1);
     let number = argument.number;
     let Number::Value(resource) = number else {
-        program_io::tell(usage);
+        program_io::tell(&rt, usage);
         return;
     };
     let mut text = text_program::no_text();
     let reading = program_io::read_input(
+        &rt,
         b"closures: standard input",
         b"closures: a calendar is read from standard input, up to the end of input (Ctrl-D)",
         &mut text,
@@ -78,5 +80,5 @@ fn main() {
     };
     let mut out = longest_answer();
     let m = print_closures(&text[..n], resource, &mut out);
-    program_io::write_lines(b"closures: standard output", &out[..m]);
+    program_io::write_lines(&rt, b"closures: standard output", &out[..m]);
 }
