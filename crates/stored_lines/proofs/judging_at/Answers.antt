@@ -2,7 +2,6 @@ use Rattle.loops.proofs.BranchLaws.{matched}
 use borrow.Author.Rules.{rules}
 use Rattle.stored_lines.proofs.LineLaws.{judges_here, judges_nowhere, judges_later, judges_past}
 use mathlib.Core.Path.{refl}
-use Prim.Native.Nat.{◌-◌}
 use Rattle.stored_lines.proofs.judging_at.Goals as goal
 
 pub loop-at-init : goal.loop-at-init
