@@ -1,7 +1,6 @@
 use borrow.Author.Rules.{rules}
 use Rattle.stored_numbers.proofs.PutLaws.{yet_all}
 use Rattle.stored_bytes.proofs.ByteLaws.{bytes_less, bytes_none}
-use Prim.Native.Nat.{◌-◌}
 use Rattle.stored_bytes.proofs.put_bytes.Goals as goal
 
 pub loop-i-init : goal.loop-i-init
