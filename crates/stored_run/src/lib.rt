@@ -1,13 +1,15 @@
 // The run over stored lists of cases: what is counted and told, the room that is lent, and the reading of a list. The programs replay_.. judge.
 #![tactic(auto)]
 
-ghost use Rattle.std.specs.Prelude.{◌≡◌, cond, ◌&&◌, eqb, pos, ◌<◌, length, replicate};
-ghost use Rattle.io.specs.Counts.{IsPrefixLen};
+ghost use Rattle.std.specs.Prelude.{◌≡◌, cond, ◌&&◌, eqb, pos, ◌<◌, ◌≤◌, length, take, replicate};
 ghost use Rattle.stored_run.specs.inner.Count.{more};
 ghost use Rattle.stored_run.specs.inner.Expected.{expected_at, differs_at, as_expected, passes};
 
-use libc::STDOUT_FILENO;
 use refusals::Answer;
+use std::fs::File;
+use std::io::Read;
+use std::rt::Files;
+use std::{io, str};
 
 // ---- what is told
 
@@ -59,24 +61,34 @@ fn line_feeds(text: &[u8]) -> u64 {
 }
 
 // Names the case that starts at a place of a list: the file, the number of its first line, and that line, which is its remark.
-fn name_case(name: &[u8], list: &[u8], at: usize, why: &[u8]) {
+fn name_case(rt: &impl Print, name: &[u8], list: &[u8], at: usize, why: &[u8]) -> io::Result<()> {
     if list.len() < at {
-        return;
+        return Ok(());
     }
-    io::write_all(STDOUT_FILENO, name);
-    io::write_all(STDOUT_FILENO, b":");
-    io::print_decimal(STDOUT_FILENO, one_more(line_feeds(&list[..at])));
-    io::write_all(STDOUT_FILENO, why);
-    io::write_all(STDOUT_FILENO, text_fields::first_part(&list[at..], b'\n'));
-    io::write_all(STDOUT_FILENO, b"\n");
+    let line = one_more(line_feeds(&list[..at]));
+    rt.write_all(name)?;
+    print!(rt; ":{line}")?;
+    rt.write_all(why)?;
+    rt.write_all(text_fields::first_part(&list[at..], b'\n'))?;
+    rt.write_all(b"\n")
 }
 
-fn name_failed(name: &[u8], list: &[u8], at: usize, formed: bool) {
-    if formed {
-        name_case(name, list, at, b": differs: ");
-    } else {
-        name_case(name, list, at, b": ill-formed: ");
+// Names the case that the list in a file was read to, where a line of it is ill-formed or it does not pass.
+pub fn name_failed(
+    rt: &impl Print,
+    run: Run,
+    formed: bool,
+    passes: bool,
+    name: &[u8],
+    list: &[u8],
+) -> io::Result<()> {
+    if !formed {
+        return name_case(rt, name, list, run.at, b": ill-formed: ");
     }
+    if !passes {
+        return name_case(rt, name, list, run.at, b": differs: ");
+    }
+    Ok(())
 }
 
 fn both(a: bool, b: bool) -> bool
@@ -85,9 +97,9 @@ fn both(a: bool, b: bool) -> bool
     a && b
 }
 
-// The case that the list in a file was read to is judged: it is counted, and named where a line of it is ill-formed or it does not pass. The list is
-// to be read on from the next one.
-pub fn judged(run: Run, formed: bool, passes: bool, next: usize, name: &[u8], list: &[u8]) -> Run
+// The case that a list was read to is judged: it is counted, and counted as one that passed where each line of it is formed and it does pass. The list
+// is to be read on from the next one.
+pub fn judged(run: Run, formed: bool, passes: bool, next: usize) -> Run
     ensures { (result.at ≡ next) × (result.cases ≡ more run.cases) × (result.passed ≡ cond (formed && passes) (more run.passed) run.passed) }
 {
     let cases = one_more(run.cases);
@@ -98,7 +110,6 @@ pub fn judged(run: Run, formed: bool, passes: bool, next: usize, name: &[u8], li
             passed: one_more(run.passed),
         };
     }
-    name_failed(name, list, run.at, formed);
     Run {
         at: next,
         cases,
@@ -107,11 +118,10 @@ pub fn judged(run: Run, formed: bool, passes: bool, next: usize, name: &[u8], li
 }
 
 // The last line that a program prints.
-pub fn print_run(run: Run) {
-    io::print_decimal(STDOUT_FILENO, run.cases);
-    io::write_all(STDOUT_FILENO, b" cases, ");
-    io::print_decimal(STDOUT_FILENO, run.passed);
-    io::write_all(STDOUT_FILENO, b" as expected\n");
+pub fn print_run(rt: &impl Print, run: Run) -> io::Result<()> {
+    let cases = run.cases;
+    let passed = run.passed;
+    println!(rt; "{cases} cases, {passed} as expected")
 }
 
 // ---- what is expected of a call that writes to lent numbers
@@ -223,14 +233,43 @@ pub fn no_list() -> [u8; 262144]
     [0; 262144]
 }
 
-// Reads the list in a file. One that cannot be read or fills the room is told of, and what was not read is missed in the count of cases.
-pub fn read_list(name: &[u8], list: &mut [u8]) -> usize
-    ensures { IsPrefixLen result list.new }
+// Reads from a file until its end, an error or the end of the room, and gives how many bytes were read.
+fn read_whole(from: &mut impl Read, room: &mut [u8]) -> usize
+    ensures { result ≤ length room.new }
 {
-    let n = io::read_full(os::open_read(name), list);
-    if n == 0 || n == list.len() {
-        io::write_all(STDOUT_FILENO, name);
-        io::write_all(STDOUT_FILENO, b": not read whole\n");
+    let mut n = 0;
+    while n < room.len() {
+        match from.read(&mut room[n..]) {
+            Ok(0) => return n,
+            Ok(more) => n += more,
+            Err(_) => return n,
+        }
     }
     n
+}
+
+// Reads the list in a file to the room lent, and gives how many bytes of it were read: none where the file cannot be opened.
+pub fn read_list(rt: &impl Files, name: &[u8], list: &mut [u8]) -> usize
+    ensures within { result ≤ length list.new }
+    ensures prefix { result ≡ length (take result list.new) }
+{
+    let Ok(path) = str::from_utf8(name) else {
+        return 0;
+    };
+    match File::open(rt, path) {
+        Ok(file) => {
+            let mut from = file;
+            read_whole(&mut from, list)
+        }
+        Err(_) => 0,
+    }
+}
+
+// Tells of a list that could not be read or fills the room; what was not read is missed in the count of cases.
+pub fn name_unread(rt: &impl Print, name: &[u8], list: &[u8], n: usize) -> io::Result<()> {
+    if n == 0 || n == list.len() {
+        rt.write_all(name)?;
+        return rt.write_all(b": not read whole\n");
+    }
+    Ok(())
 }
