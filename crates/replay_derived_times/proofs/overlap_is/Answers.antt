@@ -11,8 +11,7 @@ use Rattle.overlap.specs.inner.Shares.{is_share}
 use Rattle.overlap.specs.declared.Overlap.{Overlap}
 use Rattle.overlap.proofs.Laws.{bits_share}
 use borrow.Author.Rules.{rules}
-use Rattle.replay_derived_times.proofs.overlap_is.Statement.{statement}
-use Rattle.replay_derived_times.proofs.overlap_is.Tie as tie
+use Rattle.replay_derived_times.proofs.overlap_is.Goals as goal
 
 lag_most : (z : ℤ) → lt_z z (negsuc 3999999999999) ≡ false → lt_z (pos 4000000000000) z ≡ false → nat_abs z ≤ 4000000000000
 lag_most (pos n) e f = ltb-false 4000000000000 n f
@@ -26,51 +25,8 @@ made_lag : {o : Overlap} (bits : ℕ) (z : ℤ) → o ≡ overlap_of bits z → 
     → nat_abs o.finish_after_ms ≤ 4000000000000
 made_lag bits z e g h = subst (λ (o : Overlap). nat_abs o.finish_after_ms ≤ 4000000000000) (sym e) (lag_most z g h)
 
-returns : tie.Need-returns
-returns c = search rules
+pub earliest_start-requires : goal.earliest_start-requires
+earliest_start-requires c = search (rules, made_share)
 
-returns-2 : tie.Need-returns-2
-returns-2 c = search rules
-
-returns-3 : tie.Need-returns-3
-returns-3 c = search rules
-
-returns-4 : tie.Need-returns-4
-returns-4 c = search rules
-
-returns-5 : tie.Need-returns-5
-returns-5 c = search rules
-
-new-requires : tie.Need-new-requires
-new-requires c κs = search rules
-
-earliest-start-requires : tie.Need-earliest-start-requires
-earliest-start-requires c κs = search (rules, made_share)
-
-signed-requires : tie.Need-signed-requires
-signed-requires c κs = search rules
-
-earliest-end-requires : tie.Need-earliest-end-requires
-earliest-end-requires c κs = search (rules, made_lag)
-
-returns-6 : tie.Need-returns-6
-returns-6 c = search rules
-
-returns-7 : tie.Need-returns-7
-returns-7 c = search rules
-
-pub overlap-is-spec : {M : Type 1} → statement M
-overlap-is-spec =
-    tie.close
-    (tie.spec
-    returns
-    returns-2
-    returns-3
-    returns-4
-    returns-5
-    new-requires
-    earliest-start-requires
-    signed-requires
-    earliest-end-requires
-    returns-6
-    returns-7)
+pub earliest_end-requires : goal.earliest_end-requires
+earliest_end-requires c = search (rules, made_lag)
