@@ -1,5 +1,6 @@
 // The program: reads a sheet as text from standard input, checks it, and prints the answer.
 #![tactic(auto)]
+
 ghost use Rattle.std.specs.Prelude.{◌≡◌, ◌≤◌, length, take};
 ghost use Rattle.text_program.specs.Text.{printed_text};
 ghost use Rattle.check_schedule.specs.Program.{printed_sheet};

@@ -1,5 +1,6 @@
 // `check_schedule` of scheduler/feasibility.rs: refusals 1 to 7, the nine checks in call order, and what is written to the lent buffer.
 #![tactic(auto)]
+
 ghost use Rattle.std.specs.Prelude.{◌/◌, ◌≡◌, length};
 ghost use Rattle.std.proofs.Math.Option.{none};
 ghost use Rattle.findings.specs.inner.Sink.{sink, emit};

@@ -1,5 +1,6 @@
 // The lines of an office calendar: where they end, without their folds, and the words in them.
 #![tactic(auto)]
+
 ghost use Rattle.std.specs.Prelude.{◌≡◌, ◌++◌, ◌≤◌, length, drop};
 ghost use Rattle.freebusy_lines.specs.Bytes.{spells, is_name_byte};
 ghost use Rattle.freebusy_lines.specs.Lines.{is_blank, unfolded};

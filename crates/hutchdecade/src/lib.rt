@@ -1,5 +1,6 @@
 // The functions that programs in other languages call: a slice is passed as a pointer and a length.
 #![tactic(auto)]
+
 ghost use Rattle.std.specs.Prelude.{◌≡◌, ◌/◌, length};
 ghost use Rattle.text.specs.Text.{answer_of, rows_after};
 ghost use Rattle.freebusy.specs.Call.{freebusy_answer, freebusy_after};

@@ -1,5 +1,6 @@
 // Margins for the morning meeting: of each task with a deadline and a completion, and of each booked resource.
 #![tactic(auto)]
+
 ghost use Rattle.std.specs.Prelude.{◌≡◌, true, [], ◌∷◌, ◌/◌, ◌<◌, ◌≤◌, pos, ◌-ℤ◌, nat_abs, length};
 ghost use Rattle.std.proofs.Math.Option.{none};
 ghost use Rattle.loops.specs.Lists.{each};

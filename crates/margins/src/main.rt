@@ -1,5 +1,6 @@
 // The program: reads a sheet as text from standard input, and prints the margins of its tasks and resources.
 #![tactic(auto)]
+
 ghost use Rattle.std.specs.Prelude.{◌≡◌, ◌≤◌, length, take};
 ghost use Rattle.loops.specs.inner.Wrote.{Wrote};
 ghost use Rattle.text_program.specs.Text.{printed_text};

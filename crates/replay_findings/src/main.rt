@@ -1,5 +1,6 @@
 // Replays the stored calls. Each case that differs is named, and at the end is printed how many there were and how many came out as expected.
 #![tactic(auto)]
+
 ghost use Rattle.std.specs.Prelude.{◌≤◌, length};
 
 use refusals::Answer;

@@ -6,6 +6,7 @@
 // A part of 100 more is run on several sheets, which semicolons part, in turn, so that none is met twice in a row. Each is read and indexed
 // before, every time; part 100 does only that, and its time is to be taken off.
 #![tactic(auto)]
+
 ghost use Rattle.std.specs.Prelude.{◌≡◌, length};
 ghost use Rattle.model.specs.inner.Indexed.{Indexed};
 ghost use Rattle.pieces.specs.inner.Held.{Held};

@@ -1,6 +1,5 @@
 -- `calendar::end_from` meets its contract: from each place of the walk the end is the one asked for. Assumes nothing.
 use borrow.Author.Rules.{rules}
-use Prim.Native.Nat.{◌-◌}
 use Rattle.calendar.proofs.Answers.{end_first_lem, nearer_end, end_fits, end_next, answer_none, answer_here, answer_past, answer_still}
 use Rattle.calendar.proofs.end_from.Goals as goal
 

@@ -1,6 +1,5 @@
 -- `calendar::interval_fits` meets its contract: f is the fit of the windows passed. Assumes nothing.
 use borrow.Author.Rules.{rules}
-use Prim.Native.Nat.{◌-◌}
 use native.Mathlib.Omega.{arith}
 use Rattle.calendar.proofs.Fitting.{fit_start, fit_next, fit_end}
 use Rattle.calendar.proofs.interval_fits.Goals as goal

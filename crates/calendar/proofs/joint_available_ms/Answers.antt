@@ -1,7 +1,6 @@
 -- `calendar::joint_available_ms` meets its contract: what is left to count is the rest of the range. Assumes nothing.
 use borrow.Author.Rules.{rules}
 use Rattle.calendar.proofs.Answers.{nearer_end, sum_next, sum_fits, sum_end}
-use Prim.Native.Nat.{◌-◌}
 use native.Mathlib.Omega.{arith}
 use Rattle.calendar.proofs.joint_available_ms.Goals as goal
 

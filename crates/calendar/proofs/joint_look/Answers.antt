@@ -1,6 +1,5 @@
 -- `calendar::joint_look` meets its contract: `s` is what the calendars passed leave. Assumes nothing.
 use borrow.Author.Rules.{rules}
-use Prim.Native.Nat.{◌-◌}
 use native.Mathlib.Omega.{arith}
 use Rattle.calendar.specs.inner.Scan.{joint_look}
 use Rattle.calendar.proofs.Places.{joint_start, joint_next, joint_end}

@@ -1,6 +1,5 @@
 -- `calendar::look` meets its contract: `s` is what the windows passed leave. Assumes nothing.
 use borrow.Author.Rules.{rules}
-use Prim.Native.Nat.{◌-◌}
 use native.Mathlib.Omega.{arith}
 use Rattle.calendar.specs.inner.Scan.{look_at}
 use Rattle.calendar.proofs.Places.{scan_start, scan_more, scan_end}

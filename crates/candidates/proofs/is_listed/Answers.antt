@@ -1,5 +1,4 @@
 use borrow.Author.Rules.{rules}
-use Prim.Native.Nat.{◌-◌}
 use Rattle.loops.proofs.SearchLaws.{any_hit}
 use Rattle.loops.proofs.Walks.{any_first, any_next, any_end}
 use Rattle.candidates.proofs.Uses.{lists_blind, lists_test, listed_are}

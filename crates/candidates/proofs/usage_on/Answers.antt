@@ -2,7 +2,6 @@ use Rattle.sheet.proofs.Lookups.{place_low}
 use Rattle.model.proofs.Standing.{stands_owned}
 use borrow.Author.Rules.{rules}
 use Rattle.candidates.proofs.Uses.{takes_blind, takes_test, usage_most, usage_here, usage_none}
-use Prim.Native.Nat.{◌-◌}
 use native.Mathlib.Omega.{arith}
 use Rattle.loops.proofs.Walks.{seek_first, seek_next}
 use Rattle.candidates.proofs.usage_on.Goals as goal

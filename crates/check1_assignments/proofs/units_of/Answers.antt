@@ -1,5 +1,4 @@
 use Rattle.sheet.proofs.Lookups.{place_low}
-use Prim.Native.Nat.{◌-◌}
 use native.Mathlib.Omega.{arith}
 use Rattle.loops.proofs.Walks.{fold_first_lem, fold_end, quiet_only, only_next}
 use Rattle.check1_assignments.proofs.Summing.{stands_key, sum_step, raised_most, offset_most, sum_told}

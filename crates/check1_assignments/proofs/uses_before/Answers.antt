@@ -1,5 +1,4 @@
 use Rattle.loops.proofs.ChainLaws.{first_upto}
-use Prim.Native.Nat.{◌-◌}
 use Rattle.loops.proofs.PlaceLaws.{count_first}
 use Rattle.check1_assignments.proofs.Placing.{activity_most, owned_booking, next_upto}
 use Rattle.check1_assignments.proofs.Counting.{takes_blind, uses_told, uses_most, uses_fit, uses_next}

@@ -1,6 +1,5 @@
 use borrow.Author.Rules.{rules}
 use Rattle.check2_time_only.proofs.Told.{unplaced_silent, unplaced_next, unplaced_told, task_itself, activity_itself}
-use Prim.Native.Nat.{◌-◌}
 use Rattle.findings.proofs.SinkLaws.{kept}
 use Rattle.findings.proofs.Reports.{emit_first, emit_end}
 use Rattle.check2_time_only.proofs.check_task.Goals as goal

@@ -1,7 +1,6 @@
 use Rattle.sheet.proofs.Lookups.{place_low}
 use borrow.Author.Rules.{rules}
 use Rattle.check2_time_only.proofs.Spans.{spanned_blind, spanned_test, seen_hit, seen_none}
-use Prim.Native.Nat.{◌-◌}
 use Rattle.loops.proofs.Walks.{any_first, any_next}
 use Rattle.check2_time_only.proofs.is_seen.Goals as goal
 

@@ -1,7 +1,6 @@
 use Rattle.model.proofs.Standing.{stands_owned}
 use Rattle.check3_parts.proofs.Whole.{activities_turn}
 use borrow.Author.Rules.{rules}
-use Prim.Native.Nat.{◌-◌}
 use Rattle.findings.proofs.SinkLaws.{kept}
 use Rattle.findings.proofs.Reports.{emit_first, emit_end}
 use Rattle.loops.proofs.Walks.{silent_only}

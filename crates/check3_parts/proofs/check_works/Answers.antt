@@ -1,6 +1,5 @@
 use Rattle.model.proofs.Standing.{owned_here}
 use borrow.Author.Rules.{rules}
-use Prim.Native.Nat.{◌-◌}
 use Rattle.findings.proofs.SinkLaws.{kept}
 use Rattle.findings.proofs.Reports.{emit_first, emit_next}
 use Rattle.check3_parts.proofs.Works.{works_silent, works_end}

@@ -1,5 +1,4 @@
 use borrow.Author.Rules.{rules}
-use Prim.Native.Nat.{◌-◌}
 use native.Mathlib.Omega.{arith}
 use Rattle.findings.proofs.SinkLaws.{loop_start, loop_turn, loop_end, kept}
 use Rattle.check3_parts.proofs.report_short.Goals as goal

@@ -1,6 +1,5 @@
 use Rattle.model.proofs.Standing.{owned_here}
 use borrow.Author.Rules.{rules}
-use Prim.Native.Nat.{◌-◌}
 use native.Mathlib.Omega.{arith}
 use Rattle.check3_parts.proofs.Sums.{sum_first, sum_next, sum_end}
 use Rattle.check3_parts.proofs.sum_of.Goals as goal

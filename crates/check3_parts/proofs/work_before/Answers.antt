@@ -1,6 +1,5 @@
 use Rattle.loops.proofs.ChainLaws.{first_upto}
 use borrow.Author.Rules.{rules}
-use Prim.Native.Nat.{◌-◌}
 use Rattle.check3_parts.proofs.Works.{work_first, work_turn, work_end}
 use Rattle.check3_parts.proofs.work_before.Goals as goal
 

@@ -1,5 +1,4 @@
 use Rattle.model.proofs.Standing.{stands_owned}
-use Prim.Native.Nat.{◌-◌}
 use Rattle.check4_claims.proofs.Claiming.{claiming_start, claiming_turn, claiming_left, claiming_wrote, claiming_kept}
 use borrow.Author.Rules.{rules}
 use Rattle.check4_claims.proofs.fill.Goals as goal

@@ -1,5 +1,4 @@
 use Rattle.model.proofs.Standing.{stands_owned}
-use Prim.Native.Nat.{◌-◌}
 use Rattle.findings.proofs.SinkLaws.{kept}
 use Rattle.check4_claims.proofs.Claiming.{filling_start, filling_turn, filling_end}
 use borrow.Author.Rules.{rules}

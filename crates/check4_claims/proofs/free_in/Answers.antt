@@ -1,5 +1,4 @@
 use Rattle.check4_claims.proofs.Taking.{row_low}
-use Prim.Native.Nat.{◌-◌}
 use Rattle.check4_claims.proofs.Claiming.{free_start, free_turn, free_end}
 use borrow.Author.Rules.{rules}
 use Rattle.check4_claims.proofs.free_in.Goals as goal

@@ -1,4 +1,3 @@
-use Prim.Native.Nat.{◌-◌}
 use Rattle.check4_pieces.proofs.Along.{tested}
 use Rattle.check4_claims.specs.inner.Claims.{has_skill}
 use Rattle.check4_claims.proofs.has_skill.Goals as goal

@@ -1,6 +1,5 @@
 use Rattle.sheet.proofs.Lookups.{place_low}
 use Rattle.check4_claims.proofs.Taking.{lacking_one}
-use Prim.Native.Nat.{◌-◌}
 use Rattle.check4_pieces.proofs.Along.{reported}
 use borrow.Author.Rules.{rules}
 use Rattle.check4_claims.proofs.report_lacking.Goals as goal

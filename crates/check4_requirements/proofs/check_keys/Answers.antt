@@ -1,5 +1,4 @@
 use Rattle.check4_requirements.proofs.Steps.{keys_turn}
-use Prim.Native.Nat.{◌-◌}
 use Rattle.check4_pieces.proofs.Along.{reported}
 use borrow.Author.Rules.{rules}
 use Rattle.check4_requirements.proofs.check_keys.Goals as goal

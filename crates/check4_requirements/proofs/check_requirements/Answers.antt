@@ -1,4 +1,3 @@
-use Prim.Native.Nat.{◌-◌}
 use Rattle.check4_pieces.proofs.Along.{reported}
 use Rattle.check4_requirements.proofs.Whole.{by_rows}
 use Rattle.check4_requirements.proofs.check_requirements.Goals as goal

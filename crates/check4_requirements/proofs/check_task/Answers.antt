@@ -1,4 +1,3 @@
-use Prim.Native.Nat.{◌-◌}
 use Rattle.check4_pieces.proofs.Along.{reported}
 use Rattle.check4_requirements.specs.inner.ByRow.{check_task}
 use Rattle.check4_requirements.proofs.check_task.Goals as goal

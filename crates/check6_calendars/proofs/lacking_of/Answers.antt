@@ -1,5 +1,4 @@
 use borrow.Author.Rules.{rules}
-use Prim.Native.Nat.{◌-◌}
 use Rattle.loops.proofs.StoreLaws.{filled_start}
 use Rattle.check6_calendars.proofs.Resumable.{row_few, lacking_turn, lacking_end}
 use Rattle.check6_calendars.proofs.lacking_of.Goals as goal

@@ -1,5 +1,4 @@
 use borrow.Author.Rules.{rules}
-use Prim.Native.Nat.{◌-◌}
 use Rattle.check6_joint_calendars.proofs.Gathering.{room_windows, room_calendars, gather_first, gather_next, gather_end}
 use Rattle.check6_joint_calendars.proofs.gather_resources.Goals as goal
 

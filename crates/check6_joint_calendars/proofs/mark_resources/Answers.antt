@@ -1,6 +1,5 @@
 use Rattle.sheet.proofs.Lookups.{place_low}
 use borrow.Author.Rules.{rules}
-use Prim.Native.Nat.{◌-◌}
 use Rattle.check6_joint_calendars.proofs.Marking.{mark_first, mark_next, mark_end}
 use Rattle.check6_joint_calendars.proofs.mark_resources.Goals as goal
 

@@ -1,6 +1,5 @@
 use Rattle.model.proofs.Standing.{owned_here}
 use borrow.Author.Rules.{rules}
-use Prim.Native.Nat.{◌-◌}
 use Rattle.loops.proofs.SearchLaws.{any_hit}
 use Rattle.loops.proofs.Walks.{any_first, any_next, any_end}
 use Rattle.check7_early_piece.proofs.Judged.{judged_blind, judged_here, judged_not}

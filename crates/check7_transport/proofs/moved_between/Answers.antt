@@ -1,5 +1,4 @@
 use borrow.Author.Rules.{rules}
-use Prim.Native.Nat.{◌-◌}
 use native.Mathlib.Omega.{arith}
 use Rattle.loops.proofs.Walks.{fold_first_lem, fold_end, quiet_only, only_next}
 use Rattle.check7_transport.proofs.Longest.{to_turn, to_is}

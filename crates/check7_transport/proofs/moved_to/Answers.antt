@@ -1,6 +1,5 @@
 use Rattle.model.proofs.Standing.{stands_owned}
 use borrow.Author.Rules.{rules}
-use Prim.Native.Nat.{◌-◌}
 use native.Mathlib.Omega.{arith}
 use Rattle.loops.proofs.Walks.{fold_first_lem, fold_end, quiet_only, only_next}
 use Rattle.check7_transport.proofs.Longest.{from_turn, from_is}

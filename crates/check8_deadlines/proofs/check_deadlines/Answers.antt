@@ -1,6 +1,5 @@
 use borrow.Author.Rules.{rules}
 use Rattle.check8_deadlines.proofs.Lateness.{deadline_silent, deadlines_told}
-use Prim.Native.Nat.{◌-◌}
 use Rattle.findings.proofs.SinkLaws.{kept}
 use Rattle.findings.proofs.Reports.{emit_first, emit_next, emit_end}
 use Rattle.model.proofs.Standing.{stands_kind}

@@ -1,5 +1,4 @@
 use borrow.Author.Rules.{rules}
-use Prim.Native.Nat.{◌-◌}
 use Rattle.sheet.proofs.Keeping.{keeping_start, keeping_end}
 use Rattle.check9_constraints.proofs.Pairs.{booking_found, booking_turn}
 use Rattle.check9_constraints.proofs.bookings_of.Goals as goal

@@ -1,7 +1,6 @@
 use Rattle.check9_constraints.proofs.ConstraintRows.{placed_zero, place_most, place_again}
 use Rattle.definition.specs.CheckConstraints.{check_constraints}
 use Rattle.findings.proofs.SinkLaws.{kept, loop_start, loop_turn, loop_end}
-use Prim.Native.Nat.{◌-◌}
 use borrow.Author.Rules.{rules}
 use Rattle.check9_constraints.proofs.check_constraints.Goals as goal
 

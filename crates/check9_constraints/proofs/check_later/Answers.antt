@@ -1,7 +1,6 @@
 use Rattle.check9_constraints.proofs.Pairs.{pair_silent, pair_next}
 use Rattle.findings.proofs.Reports.{emit_first, emit_end}
 use Rattle.findings.proofs.SinkLaws.{kept}
-use Prim.Native.Nat.{◌-◌}
 use borrow.Author.Rules.{rules}
 use Rattle.check9_constraints.proofs.check_later.Goals as goal
 

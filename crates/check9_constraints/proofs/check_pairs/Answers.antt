@@ -1,7 +1,6 @@
 use Rattle.check9_constraints.proofs.Pairs.{pairs_silent}
 use Rattle.findings.proofs.Reports.{emit_first, emit_next, emit_end}
 use Rattle.findings.proofs.SinkLaws.{kept}
-use Prim.Native.Nat.{◌-◌}
 use borrow.Author.Rules.{rules}
 use Rattle.check9_constraints.proofs.check_pairs.Goals as goal
 

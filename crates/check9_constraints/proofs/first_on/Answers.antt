@@ -1,6 +1,5 @@
 use Rattle.check9_constraints.proofs.Pairs.{booked_blind, booked_test}
 use Rattle.loops.proofs.Walks.{seek_first, seek_next, seek_end, seek_hit}
-use Prim.Native.Nat.{◌-◌}
 use borrow.Author.Rules.{rules}
 use Rattle.check9_constraints.proofs.first_on.Goals as goal
 

@@ -1,5 +1,4 @@
 use Rattle.loops.proofs.Walks.{fold_first_lem, fold_end, quiet_only, only_next}
-use Prim.Native.Nat.{◌-◌}
 use borrow.Author.Rules.{rules}
 use Rattle.check9_constraints.proofs.starts_of.Goals as goal
 

@@ -1,6 +1,5 @@
 use Rattle.loops.proofs.BranchLaws.{told}
 use borrow.Author.Rules.{rules}
-use Prim.Native.Nat.{◌-◌}
 use Rattle.loops.proofs.SearchLaws.{any_zero, any_miss, any_hit, any_done}
 use Rattle.column_faults.proofs.has_bad_cell.Goals as goal
 

@@ -1,4 +1,3 @@
-use Prim.Native.Nat.{◌-◌}
 use Rattle.letters.proofs.EveryLaws.{every}
 use Rattle.dates.proofs.is_digits.Goals as goal
 

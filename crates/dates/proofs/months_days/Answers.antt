@@ -1,4 +1,3 @@
-use Prim.Native.Nat.{◌-◌}
 use Rattle.dates.proofs.DayLaws.{summing}
 use Rattle.dates.proofs.months_days.Goals as goal
 

@@ -1,7 +1,6 @@
 use Rattle.derived_times.proofs.Parts.{times_next, times_end}
 use borrow.Author.Rules.{rules}
 use Rattle.loops.proofs.StoreLaws.{filled_start}
-use Prim.Native.Nat.{◌-◌}
 use Rattle.derived_times.proofs.needs_of.Goals as goal
 
 pub loop-k-init : goal.loop-k-init

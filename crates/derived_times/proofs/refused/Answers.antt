@@ -1,6 +1,5 @@
 use borrow.Author.Rules.{rules}
 use Rattle.loops.proofs.SearchLaws.{first_zero, first_miss}
-use Prim.Native.Nat.{◌-◌}
 use Rattle.derived_times.proofs.Refusing.{refused_at, fault_some, fault_none, not_refused}
 use Rattle.derived_times.proofs.refused.Goals as goal
 

@@ -1,5 +1,4 @@
 use borrow.Author.Rules.{rules}
-use Prim.Native.Nat.{◌-◌}
 use Rattle.derived_times.proofs.Derivation.{timed_quiet, known_first, known_next, known_end}
 use Rattle.derived_times.proofs.timed_of.Goals as goal
 

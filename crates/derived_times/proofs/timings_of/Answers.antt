@@ -1,5 +1,4 @@
 use borrow.Author.Rules.{rules}
-use Prim.Native.Nat.{◌-◌}
 use Rattle.derived_times.proofs.Parts.{timings_start, timings_turn, timings_end, timing_found}
 use Rattle.derived_times.proofs.timings_of.Goals as goal
 

@@ -1,4 +1,3 @@
-use Prim.Native.Nat.{◌-◌}
 use mathlib.Core.Path.{refl}
 use Rattle.freebusy_characters.proofs.TextLaws.{texts, length_fits}
 use Rattle.freebusy_characters.proofs.are_characters.Goals as goal

@@ -1,4 +1,3 @@
-use Prim.Native.Nat.{◌-◌}
 use Rattle.freebusy_lines.proofs.FoldLaws.{plain}
 use Rattle.freebusy_lines.proofs.has_fold.Goals as goal
 

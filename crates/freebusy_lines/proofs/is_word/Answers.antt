@@ -1,4 +1,3 @@
-use Prim.Native.Nat.{◌-◌}
 use Rattle.freebusy_lines.proofs.WordLaws.{matching}
 use Rattle.freebusy_lines.proofs.is_word.Goals as goal
 

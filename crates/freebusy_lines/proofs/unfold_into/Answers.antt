@@ -1,4 +1,3 @@
-use Prim.Native.Nat.{◌-◌}
 use Rattle.freebusy_lines.proofs.FoldLaws.{copies}
 use Rattle.freebusy_lines.proofs.unfold_into.Goals as goal
 

@@ -1,4 +1,3 @@
-use Prim.Native.Nat.{◌-◌}
 use Rattle.freebusy_periods.specs.inner.Capped.{count_of}
 use Rattle.freebusy_periods.proofs.CapLaws.{readings}
 use Rattle.freebusy_periods.proofs.read_amount.Goals as goal

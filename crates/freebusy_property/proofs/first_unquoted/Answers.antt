@@ -1,4 +1,3 @@
-use Prim.Native.Nat.{◌-◌}
 use lib.Seq.{length-take-le}
 use mathlib.Core.Path.{sym}
 use native.Mathlib.Omega.{arith}

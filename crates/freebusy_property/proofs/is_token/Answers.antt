@@ -1,4 +1,3 @@
-use Prim.Native.Nat.{◌-◌}
 use Rattle.letters.proofs.EveryLaws.{every}
 use Rattle.freebusy_property.proofs.ParamLaws.{token_empty, token_all}
 use Rattle.freebusy_property.proofs.is_token.Goals as goal

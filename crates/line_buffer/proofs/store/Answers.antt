@@ -1,4 +1,3 @@
-use Prim.Native.Nat.{◌-◌}
 use Rattle.line_buffer.proofs.Storing.{stored_none, stored_next, stored_all}
 use borrow.Author.Rules.{rules}
 use Rattle.line_buffer.proofs.store.Goals as goal

@@ -1,6 +1,5 @@
 use borrow.Author.Rules.{rules}
 use Rattle.load.proofs.Caps.{later_turn, override_is}
-use Prim.Native.Nat.{◌-◌}
 use Rattle.loops.proofs.Walks.{fold_first_lem, fold_end, quiet_only, only_next}
 use Rattle.load.proofs.cap_override.Goals as goal
 

@@ -1,6 +1,5 @@
 use Rattle.loops.proofs.BranchLaws.{told}
 use borrow.Author.Rules.{rules}
-use Prim.Native.Nat.{◌-◌}
 use Rattle.loops.proofs.TableLaws.{seeking_start, seeking_hit, seeking_next, seeking_end}
 use Rattle.model.proofs.Standing.{stands_kind}
 use Rattle.load.proofs.Firsts.{first_blind}

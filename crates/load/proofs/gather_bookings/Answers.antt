@@ -1,6 +1,5 @@
 use borrow.Author.Rules.{rules}
 use Rattle.load.proofs.Gathering.{gather_first, gather_next, gather_end, behind_self, behind_then}
-use Prim.Native.Nat.{◌-◌}
 use Rattle.model.proofs.Standing.{stands_kind}
 use Rattle.load.proofs.gather_bookings.Goals as goal
 

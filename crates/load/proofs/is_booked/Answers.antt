@@ -1,6 +1,5 @@
 use borrow.Author.Rules.{rules}
 use Rattle.load.proofs.Firsts.{booked_blind, booked_test, booked_hit, booked_none}
-use Prim.Native.Nat.{◌-◌}
 use Rattle.loops.proofs.Walks.{any_first, any_next}
 use Rattle.load.proofs.is_booked.Goals as goal
 

@@ -1,5 +1,4 @@
 use borrow.Author.Rules.{rules}
-use Prim.Native.Nat.{◌-◌}
 use native.Mathlib.Omega.{arith}
 use Rattle.loops.proofs.RangeLaws.{fold_start, fold_again}
 use Rattle.load.proofs.Loads.{held_sum, held_fits, add_turn, load_end}

@@ -1,5 +1,4 @@
 use borrow.Author.Rules.{rules}
-use Prim.Native.Nat.{◌-◌}
 use native.Mathlib.Omega.{arith}
 use Rattle.loops.proofs.RangeLaws.{fold_start}
 use Rattle.load.proofs.Loads.{higher_again, peak_end}

@@ -4,7 +4,6 @@ use Rattle.sheet.proofs.Lookups.{nth_blind}
 use Rattle.sheet.specs.Places.{nth_place}
 use Rattle.loops.proofs.PlaceLaws.{count_first}
 use Rattle.loops.proofs.Walks.{itself, seek_first, seek_end}
-use Prim.Native.Nat.{◌-◌}
 use Rattle.owners.proofs.find_requirement.Goals as goal
 
 pub loop-i-init : goal.loop-i-init

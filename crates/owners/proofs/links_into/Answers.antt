@@ -1,5 +1,4 @@
 use borrow.Author.Rules.{rules}
-use Prim.Native.Nat.{◌-◌}
 use Rattle.owners.proofs.Tables.{filling_start, filling_turn, filling_end, own_read, res_read}
 use Rattle.owners.proofs.links_into.Goals as goal
 

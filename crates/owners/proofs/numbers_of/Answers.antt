@@ -1,5 +1,4 @@
 use borrow.Author.Rules.{rules}
-use Prim.Native.Nat.{◌-◌}
 use native.Mathlib.Omega.{arith}
 use Rattle.loops.proofs.SearchLaws.{counted_le}
 use Rattle.owners.proofs.Tables.{numbering_start, numbering_turn, numbering_end, numbering_fits}

@@ -1,5 +1,4 @@
 use borrow.Author.Rules.{rules}
-use Prim.Native.Nat.{◌-◌}
 use Rattle.owners.proofs.Owning.{skip_start, skip_hit, skip_next, skip_end, skip_fits, skip_less}
 use Rattle.owners.proofs.skip_to.Goals as goal
 

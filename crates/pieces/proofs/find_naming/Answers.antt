@@ -2,7 +2,6 @@ use Rattle.loops.proofs.BranchLaws.{told}
 use borrow.Author.Rules.{rules}
 use Rattle.pieces.proofs.Chains.{found_here, found_none}
 use Rattle.loops.proofs.Walks.{any_first, any_next}
-use Prim.Native.Nat.{◌-◌}
 use Rattle.pieces.proofs.find_naming.Goals as goal
 
 pub loop-i-init : goal.loop-i-init

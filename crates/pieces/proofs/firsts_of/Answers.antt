@@ -1,6 +1,5 @@
 use borrow.Author.Rules.{rules}
 use Rattle.pieces.proofs.Marks.{marking_start, marking_turn, firsts_end}
-use Prim.Native.Nat.{◌-◌}
 use Rattle.pieces.proofs.firsts_of.Goals as goal
 
 pub loop-k-init : goal.loop-k-init

@@ -2,7 +2,6 @@ use Rattle.loops.proofs.BranchLaws.{told}
 use borrow.Author.Rules.{rules}
 use Rattle.pieces.proofs.Chains.{same_blind, not_first, is_first_lem}
 use Rattle.loops.proofs.Walks.{any_first, any_next}
-use Prim.Native.Nat.{◌-◌}
 use Rattle.pieces.proofs.is_first.Goals as goal
 
 ruleset walk = (rules, any_first, any_next, same_blind, told)

@@ -3,7 +3,6 @@ use borrow.Author.Rules.{rules}
 use Rattle.loops.proofs.SearchLaws.{any_hit}
 use Rattle.pieces.proofs.Chains.{first_blind, firsts_enough}
 use Rattle.loops.proofs.Walks.{any_first, any_next, any_end}
-use Prim.Native.Nat.{◌-◌}
 use mathlib.Core.Path.{◌∙◌}
 use Rattle.pieces.proofs.is_held.Goals as goal
 

@@ -1,5 +1,4 @@
 use borrow.Author.Rules.{rules}
-use Prim.Native.Nat.{◌-◌}
 use Rattle.loops.proofs.StoreLaws.{wrote_none, wrote_within, wrote_long}
 use Rattle.printing.proofs.PutLaws.{wrote_next, wrote_all}
 use Rattle.printing.proofs.put_bytes.Goals as goal

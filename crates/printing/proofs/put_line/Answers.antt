@@ -1,4 +1,3 @@
-use Prim.Native.Nat.{◌-◌}
 use borrow.Author.Rules.{rules}
 use Rattle.loops.specs.Range.{collect}
 use Rattle.printing.specs.NumberLines.{number_line}

@@ -1,4 +1,3 @@
-use Prim.Native.Nat.{◌-◌}
 use borrow.Author.Rules.{rules}
 use Rattle.printing.specs.NumberLines.{number_lines}
 use Rattle.loops.proofs.StoreLaws.{wrote_within, wrote_long}

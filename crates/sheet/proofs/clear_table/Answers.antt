@@ -1,5 +1,4 @@
 use borrow.Author.Rules.{rules}
-use Prim.Native.Nat.{◌-◌}
 use Rattle.loops.proofs.TableLaws.{cleared_start, cleared_turn, cleared_all}
 use Rattle.sheet.proofs.clear_table.Goals as goal
 

@@ -1,6 +1,5 @@
 use Rattle.loops.proofs.BranchLaws.{told}
 use borrow.Author.Rules.{rules}
-use Prim.Native.Nat.{◌-◌}
 use mathlib.Core.Path.{sym}
 use Rattle.loops.proofs.SearchLaws.{any_hit}
 use Rattle.loops.proofs.Walks.{any_first, any_next}

@@ -1,6 +1,5 @@
 use Rattle.loops.proofs.BranchLaws.{told}
 use borrow.Author.Rules.{rules}
-use Prim.Native.Nat.{◌-◌}
 use Rattle.loops.proofs.TableLaws.{seeking_start, seeking_hit, seeking_next, seeking_end}
 use Rattle.sheet.proofs.Naming.{name_blind}
 use Rattle.sheet.proofs.skip_named.Goals as goal

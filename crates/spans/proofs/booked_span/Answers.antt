@@ -1,5 +1,4 @@
 use borrow.Author.Rules.{rules}
-use Prim.Native.Nat.{◌-◌}
 use Rattle.loops.proofs.Walks.{fold_first_lem, fold_next, fold_end}
 use Rattle.spans.proofs.Running.{widen_quiet, widen_here}
 use Rattle.spans.proofs.booked_span.Goals as goal

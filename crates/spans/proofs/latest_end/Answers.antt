@@ -1,5 +1,4 @@
 use borrow.Author.Rules.{rules}
-use Prim.Native.Nat.{◌-◌}
 use Rattle.loops.proofs.Walks.{fold_first_lem, fold_end, quiet_only, only_next}
 use Rattle.spans.proofs.latest_end.Goals as goal
 

@@ -1,4 +1,3 @@
-use Prim.Native.Nat.{◌-◌}
 use mathlib.Core.Path.{refl, ◌∙◌}
 use borrow.Author.Rules.{rules}
 use Rattle.text_fields.proofs.DigitLaws.{at_end, digit_low, digit_high, digit_in, soon_too_large, too_large_lem}

@@ -1,5 +1,4 @@
 use borrow.Author.Rules.{rules}
-use Prim.Native.Nat.{◌-◌}
 use Rattle.loops.proofs.SearchLaws.{first_zero, first_miss, first_done}
 use Rattle.validation.proofs.Order.{stops, passed}
 use Rattle.validation.proofs.first_repeat_fault.Goals as goal

@@ -1,6 +1,5 @@
 use borrow.Author.Rules.{rules}
 use Rattle.window_rows.proofs.Laying.{laying_first, laying_next, room, one_fits, below, laid, counted}
-use Prim.Native.Nat.{◌-◌}
 use Rattle.window_rows.proofs.gather_windows.Goals as goal
 
 ruleset walk = (rules, laying_first, laying_next, room, one_fits, below, laid, counted)

@@ -1,5 +1,4 @@
 use borrow.Author.Rules.{rules}
-use Prim.Native.Nat.{◌-◌}
 use Rattle.window_rows.proofs.Fitting.{fitting_first, fitting_next, fitted}
 use Rattle.window_rows.proofs.Laying.{below}
 use Rattle.window_rows.proofs.interval_fits.Goals as goal
