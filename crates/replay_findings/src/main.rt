@@ -4,6 +4,8 @@
 ghost use Rattle.std.specs.Prelude.{◌≤◌, length};
 
 use refusals::Answer;
+use std::io;
+use std::rt::Files;
 use stored_numbers::Gathered;
 use stored_run::Run;
 
@@ -131,7 +133,7 @@ fn passes(lines: &[u8], line: &[u8]) -> bool {
 
 // ---- the lists
 
-fn next_case(name: &[u8], list: &[u8], run: Run) -> Run
+fn next_case(rt: &impl Print, name: &[u8], list: &[u8], run: Run) -> io::Result<Run>
     requires { run.at ≤ length list.now }
 {
     let at = run.at;
@@ -143,32 +145,34 @@ fn next_case(name: &[u8], list: &[u8], run: Run) -> Run
         stored_lines::between(list, at, line),
         stored_lines::between(list, line, end),
     );
-    stored_run::judged(run, formed, fine, case.next, name, list)
+    stored_run::name_failed(rt, run, formed, fine, name, list)?;
+    Ok(stored_run::judged(run, formed, fine, case.next))
 }
 
 // A list has no more cases than bytes.
-fn replay(name: &[u8], list: &[u8], before: Run) -> Run {
+fn replay(rt: &impl Print, name: &[u8], list: &[u8], before: Run) -> io::Result<Run> {
     let mut run = stored_run::next_list(before);
     for k in 0..list.len() {
         if run.at < list.len() {
-            run = next_case(name, list, run);
+            run = next_case(rt, name, list, run)?;
         }
     }
-    run
+    Ok(run)
 }
 
-fn replay_file(name: &[u8], before: Run) -> Run {
+fn replay_file(rt: &(impl Files + Print), name: &[u8], before: Run) -> io::Result<Run> {
     let mut list = stored_run::no_list();
-    let n = stored_run::read_list(name, &mut list);
-    replay(name, &list[..n], before)
+    let n = stored_run::read_list(rt, name, &mut list);
+    stored_run::name_unread(rt, name, &list, n)?;
+    replay(rt, name, &list[..n], before)
 }
 
-fn main() {
+fn main(rt: HostRuntime) -> io::Result<()> {
     let mut run = stored_run::no_cases();
-    run = replay_file(b"findings-1.txt", run);
-    run = replay_file(b"findings-2.txt", run);
-    run = replay_file(b"findings-3.txt", run);
-    run = replay_file(b"findings-4.txt", run);
-    run = replay_file(b"findings-5.txt", run);
-    stored_run::print_run(run);
+    run = replay_file(&rt, b"findings-1.txt", run)?;
+    run = replay_file(&rt, b"findings-2.txt", run)?;
+    run = replay_file(&rt, b"findings-3.txt", run)?;
+    run = replay_file(&rt, b"findings-4.txt", run)?;
+    run = replay_file(&rt, b"findings-5.txt", run)?;
+    stored_run::print_run(&rt, run)
 }
