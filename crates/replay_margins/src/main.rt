@@ -4,6 +4,7 @@
 ghost use Rattle.std.specs.Prelude.{◌≤◌, length};
 
 use refusals::Answer;
+use std::io;
 use stored_numbers::Gathered;
 use stored_run::Run;
 
@@ -60,7 +61,7 @@ fn passes(lines: &[u8], line: &[u8]) -> bool {
 
 // ---- the lists
 
-fn next_case(name: &[u8], list: &[u8], run: Run) -> Run
+fn next_case(rt: &impl Print, name: &[u8], list: &[u8], run: Run) -> io::Result<Run>
     requires { run.at ≤ length list.now }
 {
     let at = run.at;
@@ -72,22 +73,26 @@ fn next_case(name: &[u8], list: &[u8], run: Run) -> Run
         stored_lines::between(list, at, line),
         stored_lines::between(list, line, end),
     );
-    stored_run::judged(run, formed, fine, case.next, name, list)
+    stored_run::name_failed(rt, run, formed, fine, name, list)?;
+    Ok(stored_run::judged(run, formed, fine, case.next))
 }
 
 // A list has no more cases than bytes.
-fn replay(name: &[u8], list: &[u8], before: Run) -> Run {
+fn replay(rt: &impl Print, name: &[u8], list: &[u8], before: Run) -> io::Result<Run> {
     let mut run = stored_run::next_list(before);
     for k in 0..list.len() {
         if run.at < list.len() {
-            run = next_case(name, list, run);
+            run = next_case(rt, name, list, run)?;
         }
     }
-    run
+    Ok(run)
 }
 
-fn main() {
+fn main(rt: HostRuntime) -> io::Result<()> {
+    let name = b"cases.txt";
     let mut list = stored_run::no_list();
-    let n = stored_run::read_list(b"cases.txt", &mut list);
-    stored_run::print_run(replay(b"cases.txt", &list[..n], stored_run::no_cases()));
+    let n = stored_run::read_list(&rt, name, &mut list);
+    stored_run::name_unread(&rt, name, &list, n)?;
+    let run = replay(&rt, name, &list[..n], stored_run::no_cases())?;
+    stored_run::print_run(&rt, run)
 }
