@@ -7,13 +7,14 @@
 // before, every time; part 100 does only that, and its time is to be taken off.
 #![tactic(auto)]
 
-ghost use Rattle.std.specs.Prelude.{◌≡◌, length};
+ghost use Rattle.std.specs.Prelude.{◌≡◌, ◌≤◌, length};
 ghost use Rattle.model.specs.inner.Indexed.{Indexed};
 ghost use Rattle.pieces.specs.inner.Held.{Held};
 ghost use Rattle.derived_times.specs.inner.Needs.{Needs};
 
-use libc::{STDIN_FILENO, STDOUT_FILENO};
 use refusals::{Answer, Verdict};
+use std::io;
+use std::io::Read;
 use text_fields::Number;
 
 // Room for two lines and many texts. The promises give the lengths, which is all that lending an array as a slice asks.
@@ -248,14 +249,28 @@ fn found_by(texts: &[u8], part: u64, count: u64) -> usize {
     in_turn(texts, part - 100, count)
 }
 
-fn main() {
+// Reads until the input ends, a read fails or the room is full, and gives how many bytes were read.
+fn read_whole(from: &mut impl Read, room: &mut [u8]) -> usize
+    ensures { result ≤ length room.new }
+{
+    let mut n = 0;
+    while n < room.len() {
+        match from.read(&mut room[n..]) {
+            Ok(0) => return n,
+            Ok(more) => n += more,
+            Err(_) => return n,
+        }
+    }
+    n
+}
+
+fn main(rt: HostRuntime) -> io::Result<()> {
     let mut input = no_text();
-    let n = io::read_full(STDIN_FILENO, &mut input);
+    let n = read_whole(&mut rt.stdin(), &mut input);
     let read = &input[..n];
     let part = text_fields::first_part(read, b'\n');
     let rest = after(read, part.len());
     let count = text_fields::first_part(rest, b'\n');
     let found = found_by(after(rest, count.len()), number_of(part), number_of(count));
-    io::print_decimal(STDOUT_FILENO, found as u64);
-    io::write_all(STDOUT_FILENO, b"\n");
+    println!(rt; "{found}")
 }
