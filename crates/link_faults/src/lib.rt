@@ -25,6 +25,7 @@ fn has_members(rows: &[i64], k: usize) -> bool
 }
 
 // Row k names an owner that is not in the sheet. The requirement that a row names is of the row's activity.
+#[tactic(auto, using(owners::proofs::Absent::booked))]
 fn is_unowned(rows: &[i64], links: &[u16; 1600], k: usize) -> bool
     requires { Linked rows.now links.now × (k < row_count rows.now) }
     ensures { result ≡ unowned rows.now k }

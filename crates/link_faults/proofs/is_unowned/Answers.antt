@@ -1,8 +1,5 @@
-use Rattle.owners.proofs.Absent.{booked, ownerless, gone, of_requirement, of_constraint, found}
+use Rattle.owners.proofs.Absent.{ownerless, gone, of_requirement, of_constraint, found}
 use Rattle.link_faults.proofs.is_unowned.Goals as goal
-
-pub returns-then-kind-gt22 : goal.returns-then-kind-gt22
-returns-then-kind-gt22 c = search booked
 
 pub returns-then-x-eq0 : goal.returns-then-x-eq0
 returns-then-x-eq0 c = search ownerless
