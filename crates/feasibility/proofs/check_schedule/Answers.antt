@@ -1,6 +1,10 @@
 use Rattle.feasibility.proofs.Top.{rows_answer, rows_left}
+use Rattle.acceptance.proofs.Order.{indexed_of}
 use borrow.Author.Rules.{rules}
 use Rattle.feasibility.proofs.check_schedule.Goals as goal
+
+pub check_times-requires : goal.check_times-requires
+check_times-requires c = indexed_of _ c.index-verdict.ensures c.in-Fine.is
 
 pub returns-in-Refused : goal.returns-in-Refused
 returns-in-Refused c =
