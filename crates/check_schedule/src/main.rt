@@ -58,13 +58,18 @@ fn print_text(text: &[u8], out: &mut [u8]) -> usize
     }
 }
 
-fn main() {
-    let started = program_io::arguments(0, b"usage: check_schedule < SHEET (it takes no argument)");
+fn main(rt: HostRuntime) {
+    let started = program_io::arguments(
+        &rt,
+        0,
+        b"usage: check_schedule < SHEET (it takes no argument)",
+    );
     if !started.taken {
         return;
     }
     let mut text = text_program::no_text();
     let reading = program_io::read_input(
+        &rt,
         b"check_schedule: standard input",
         b"check_schedule: a sheet is read from standard input, up to the end of input (Ctrl-D)",
         &mut text,
@@ -75,5 +80,5 @@ fn main() {
     };
     let mut out = longest_answer();
     let m = print_text(&text[..n], &mut out);
-    program_io::write_output(b"check_schedule: standard output", &out[..m]);
+    program_io::write_output(&rt, b"check_schedule: standard output", &out[..m]);
 }
