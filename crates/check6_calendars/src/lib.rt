@@ -168,7 +168,9 @@ fn lacks_at(
     false
 }
 
-// Which bookings of resumable activities lack working time. Found once for a sheet, since it is the dearest question of all checks.
+// Which bookings of resumable activities lack working time. Found once for a sheet, since it is the dearest question of all checks. Its calendars
+// need room that the calls after it do not: apart, they share the stack that the header states.
+#[inline(never)]
 pub fn lacking_of(
     rows: &[i64],
     kinds: &[u16; 3680],

@@ -118,6 +118,8 @@ fn put_resource(
     put(out, n, line)
 }
 
+// Apart from its caller, so that the call keeps to the stack that the header states.
+#[inline(never)]
 fn put_resources(
     rows: &[i64],
     kinds: &[u16; 3680],
