@@ -8,22 +8,12 @@ use mathlib.Core.Path.{◌≡◌, ap, ◌∙◌}
 use Rattle.work_end_inquiry.specs.Inquiry.{inquiry, InquiryOutcome}
 use Rattle.outcomes.specs.Outcome.{of_inquiry}
 use borrow.Author.Rules.{rules}
-use Rattle.hutchdecade.proofs.sheet_work_end.Statement.{statement}
-use Rattle.hutchdecade.proofs.sheet_work_end.Tie as tie
+use Rattle.hutchdecade.proofs.sheet_work_end.Goals as goal
 
 -- the numbers of the inquiry's outcome; what it was asked was read back from bits
 asked : {r : WorkEndOutcome} (rows : List ℤ) (o : InquiryOutcome) (x z y : ℤ) → SFits w64 x → SFits w64 z → SFits w64 y
     → o ≡ inquiry rows (to_z w64 (of_z w64 x)) (to_z w64 (of_z w64 z)) (to_z w64 (of_z w64 y)) → r ≡ of_inquiry o → r ≡ of_inquiry (inquiry rows x z y)
 asked rows o x z y f g h e q = q ∙ ap of_inquiry (rw (to_z-of_z f, to_z-of_z g, to_z-of_z h) at e)
 
-work-end-requires : tie.Need-work-end-requires
-work-end-requires c κs = search rules
-
-of-inquiry-requires : tie.Need-of-inquiry-requires
-of-inquiry-requires c κs = search rules
-
-returns : tie.Need-returns
+pub returns : goal.returns
 returns c = search (rules, asked)
-
-pub sheet-work-end-spec : {M : Type 1} → statement M
-sheet-work-end-spec = tie.close (tie.spec work-end-requires of-inquiry-requires returns)
