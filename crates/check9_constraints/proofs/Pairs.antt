@@ -282,6 +282,10 @@ module _ (rows : List ℤ) (a b : ℕ) {s e f t : ℕ} (w : s ≡ num rows a 4) 
   unfolding overlap_at
   overlap_not l = rw (← w, ← x, ← y, ← z, le-ltb s t l)
 
+pub pair_past : (rows : List ℤ) (p r a j k : ℕ) → k ≤ j → false ≡ pair_at rows p r a j k
+unfolding pair_at
+pair_past rows p r a j k l = rw (le-ltb j k l)
+
 module _ (rows : List ℤ) (p r : ℕ) {f : Found} where
   pub pair_none : (a j k : ℕ) → j < k → found_of f ≡ member_booking rows p r k → f ≡ Nothing → false ≡ pair_at rows p r a j k
   unfolding pair_at

@@ -126,6 +126,7 @@ fn is_overlap(rows: &[i64], a: usize, b: usize) -> bool
 }
 
 // Whether the member of row k stands after that of row j, and their bookings overlap; j's is of row a.
+#[tactic(auto, using(crate::proofs::Pairs::pair_past, crate::proofs::Pairs::pair_none, crate::proofs::Pairs::pair_told))]
 fn is_pair(
     rows: &[i64],
     bookings: &[u16; 800],
