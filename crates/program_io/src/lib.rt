@@ -1,6 +1,6 @@
-// A program's arguments, its standard input and its standard output. A read that failed is never taken for the end of the input, and an answer that could
-// not be written is never lost in silence: each is told in a line on standard error. What the outside gives and takes, no contract can say; what is made of
-// each answer of the system, the page `Ending` says.
+// A program's arguments, its standard input and its standard output. A read that failed is never taken for the end of the input, and a write that failed is
+// never lost in silence: each is told in a line on standard error, as is what a file tells when it is asked to keep what was written. What the outside gives
+// and takes, no contract can say; what is made of each answer of the system, the page `Ending` says.
 #![tactic(auto)]
 
 mod steps;

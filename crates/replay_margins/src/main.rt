@@ -8,6 +8,14 @@ use std::io;
 use stored_numbers::Gathered;
 use stored_run::Run;
 
+// Whether m numbers are the lines that the call counted, three to a line; none where it refused.
+fn are_lines(answer: Answer, m: usize) -> bool {
+    match answer {
+        Answer::Accepted(n) => n < 2800 && m == 3 * n,
+        Answer::Refused(_, _) => m == 0,
+    }
+}
+
 // Asks for the margins of the rows with the first `room` of the numbers lent, which are all 7, and says whether it came out as expected.
 fn call_passes(
     rows: &[i64],
@@ -22,7 +30,7 @@ fn call_passes(
         return false;
     }
     let answer: Answer = margin_lines::margins(rows, &mut found[..room]);
-    stored_run::came_out(answer, found, expected, m, number, place)
+    are_lines(answer, m) && stored_run::came_out(answer, found, expected, m, number, place)
 }
 
 // A line `MROOM,NUMBER,PLACE`: whether the margins of the numbers that were gathered come out so.
