@@ -27,7 +27,7 @@ module _ (rows : List ℤ) where
   indexed_of i e =
       let a : refusal_of rows ≡ none = sym i.verdict ∙ ap verdict_of e in
       let t = tables_of rows i a in
-      record { accepted = a; by_kind_lem = t.kinds; linked = t.links; by_owner = t.owned }
+      record { accepted = a; by_kind = t.kinds; linked = t.links; by_owner = t.owned }
 
   pub by_rows : {v : Verdict} {number place : ℕ} → verdict_of v ≡ refusal_of rows → v ≡ Refused number place
       → sheet_refusal rows ≡ some (record { number = number; place = place })
@@ -60,7 +60,7 @@ module _ (rows : List ℤ) where
     rows_accepted e = accepted rows (indexed_of i e).accepted
 
     pub rows_by_kind : v ≡ Fine → Kinds rows k
-    rows_by_kind e = (indexed_of i e).by_kind_lem
+    rows_by_kind e = (indexed_of i e).by_kind
 
     pub rows_linked : v ≡ Fine → Linked rows l
     rows_linked e = (indexed_of i e).linked
@@ -80,7 +80,7 @@ module _ (rows : List ℤ) where
     index_of e =
         let r : refusal_of rows ≡ none = or_none_left (refusal_of rows) (time_refusal rows) (passed_all e) in
         let t = a.tables (shape_passed rows r) in
-        record { accepted = r; by_kind_lem = t.kinds; linked = t.links; by_owner = t.owned }
+        record { accepted = r; by_kind = t.kinds; linked = t.links; by_owner = t.owned }
 
   -- a sheet that is not refused
   pub sheet_accepted : sheet_refusal rows ≡ none → Accepted rows

@@ -15,7 +15,7 @@ use Rattle.freebusy_characters.specs.ParamValue.{param_value}
 use Rattle.freebusy_periods.specs.Period.{period}
 use Rattle.freebusy_property.specs.Quotes.{until_in, after_in, unquoted_parts, until_unquoted, after_unquoted}
 use Rattle.freebusy_property.specs.Property.{FREEBUSY, FBTYPE, param_values, param, is_fbtype, fbtypeparam, other_param, one_fbparam, fbparam, params_in, named, fbvalue, freebusy}
-use Rattle.freebusy_grammar.specs.Grammar.{Listed, last_one, one_more_lem, Fbtypeparam, fbtypeparam_of, OtherParam, other_param_of, Fbparam, no_param, and_type, and_other, Freebusy, freebusy_of, Exactly}
+use Rattle.freebusy_grammar.specs.Grammar.{Listed, last_one, one_more, Fbtypeparam, fbtypeparam_of, OtherParam, other_param_of, Fbparam, no_param, and_type, and_other, Freebusy, freebusy_of, Exactly}
 use Rattle.freebusy_grammar.proofs.PeriodLaws.{period_clear, clear_part, clear_then, joined_plain}
 use Rattle.freebusy_grammar.proofs.ScanLaws.{Runs, stays, passes, runs_then, until_runs, after_runs, one_part, part_then, until_here, after_here, together, together_in, alone_in, joined, joined_parts}
 use Rattle.freebusy_grammar.proofs.ValueLaws.{Separates, comma, colon, semicolon, names_run, token_names, spells_names, name_until, name_after, value_run}
@@ -25,7 +25,7 @@ use Rattle.freebusy_grammar.proofs.ValueLaws.{Separates, comma, colon, semicolon
 module _ (b : ℕ) (s : Separates b) (c : eqb 44 b ≡ false) where
   values_run : {v : List ℕ} → Listed param_value v → Runs b false v false
   values_run (last_one v e) = value_run b s v e
-  values_run (one_more_lem v vs e r) = runs_then (value_run b s v e) (passes 44 c (values_run r))
+  values_run (one_more v vs e r) = runs_then (value_run b s v e) (passes 44 c (values_run r))
 
   type_run : {p : List ℕ} → Fbtypeparam p → Runs b false p false
   unfolding all_of
@@ -38,7 +38,7 @@ module _ (b : ℕ) (s : Separates b) (c : eqb 44 b ≡ false) where
 values_pass : {v : List ℕ} → Listed param_value v → param_values v ≡ true
 unfolding param_values all_of
 values_pass (last_one v e) = rw (one_part 44 v (value_run 44 comma v e), e)
-values_pass (one_more_lem v vs e r) = rw (part_then 44 v (value_run 44 comma v e) refl vs, e) (values_pass r)
+values_pass (one_more v vs e r) = rw (part_then 44 v (value_run 44 comma v e) refl vs, e) (values_pass r)
 
 type_passes : {p : List ℕ} → Fbtypeparam p → (one_fbparam p ≡ true) × (is_fbtype p ≡ true)
 unfolding one_fbparam fbtypeparam is_fbtype all_of
@@ -55,7 +55,7 @@ other_passes (other_param_of n v e f r) =
 periods_pass : {v : List ℕ} → Listed period v → fbvalue v ≡ true
 unfolding fbvalue all_of
 periods_pass (last_one p e) = rw (clear_part p (period_clear p e), e)
-periods_pass (one_more_lem p ps e r) = rw (clear_then ps p (period_clear p e), e) (periods_pass r)
+periods_pass (one_more p ps e r) = rw (clear_then ps p (period_clear p e), e) (periods_pass r)
 
 -- the parts that parameters come to
 parts_are : {k : ℕ} {ps : List ℕ} (p : List ℕ) → Runs 59 false p false → Fbparam k ps → unquoted_parts 59 (p ++ ps) ≡ p ∷ params_in ps
@@ -113,7 +113,7 @@ listed_of t [] v h e = absurd (let z : ◌≡◌ {A = ℕ} 0 1 = cc in omega ari
 listed_of t (p ∷ []) v h e = let q : p ++ [] ≡ v = cc in rw (← q, append-nil p) (last_one p (and_left (t p) true h))
 listed_of t (p ∷ r ∷ ps) v h e =
     let q : p ++ (44 ∷ (r ++ joined 44 ps)) ≡ v = cc in
-    rw (← q) (one_more_lem p (r ++ joined 44 ps) (and_left (t p) (all_of t (r ∷ ps)) h) (listed_of t (r ∷ ps) (r ++ joined 44 ps) (and_right (t p) (all_of t (r ∷ ps)) h) refl))
+    rw (← q) (one_more p (r ++ joined 44 ps) (and_left (t p) (all_of t (r ∷ ps)) h) (listed_of t (r ∷ ps) (r ++ joined 44 ps) (and_right (t p) (all_of t (r ∷ ps)) h) refl))
 
 values_found : (v : List ℕ) → param_values v ≡ true → Listed param_value v
 unfolding param_values

@@ -9,7 +9,7 @@ use Rattle.freebusy_property.specs.Property.{FREEBUSY, FBTYPE, freebusy}
 -- one *("," one), where the test says what is one
 pub data Listed (test : List ℕ → Bool) : List ℕ → Type 0 where
   last_one : (v : List ℕ) → test v ≡ true → Listed test v
-  one_more_lem : (v vs : List ℕ) → test v ≡ true → Listed test vs → Listed test (v ++ (COMMA ∷ vs))
+  one_more : (v vs : List ℕ) → test v ≡ true → Listed test vs → Listed test (v ++ (COMMA ∷ vs))
 
 -- fbtypeparam = "FBTYPE" "=" ("FREE" / "BUSY" / .. / x-name / iana-token)
 pub data Fbtypeparam : List ℕ → Type 0 where

@@ -25,7 +25,7 @@ columns =
     ∷ (id_c ∷ id_c ∷ g_c ∷ [])  -- 17 precedence: before, after, delay
     ∷ (id_c ∷ n_c ∷ [])  -- 18 capacity: resource, max
     ∷ (id_c ∷ t_c ∷ t_c ∷ [])  -- 19 time window: activity, start, end
-    ∷ (id_c ∷ [])  -- 20 no_overlap_lem: resource
+    ∷ (id_c ∷ [])  -- 20 no-overlap: resource
     ∷ ([])  -- 21 synchronize
     ∷ (constraint_c ∷ id_c ∷ [])  -- 22 member: constraint place, activity
     ∷ (id_c ∷ id_c ∷ id_c ∷ t_c ∷ t_c ∷ m_c ∷ n?_c ∷ m?_c ∷ [])  -- 23 booking: activity, task, resource, start, end, setup, part index, part work

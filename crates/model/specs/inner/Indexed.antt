@@ -8,6 +8,6 @@ use Rattle.owners.specs.inner.Owners.{Linked, Owned}
 pub record Indexed (rows : List ℤ) (kinds links owned : List ℕ) : Type 0 where
   -- refusals 1 to 5 do not refuse it
   pub accepted : refusal_of rows ≡ none
-  pub by_kind_lem : Kinds rows kinds
+  pub by_kind : Kinds rows kinds
   pub linked : Linked rows links
   pub by_owner : Owned rows owned
