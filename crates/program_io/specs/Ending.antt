@@ -2,7 +2,7 @@
 -- here: a read that failed is no end of the input, and neither is one that was interrupted. Left to believe is that `read` and `write` of `system.rt` lend the
 -- bytes that they are handed, and that the standard library tells the answer as it came: the fields of `Answer` are private, so no other code makes one.
 -- Assumes nothing.
-use Rattle.std.specs.Prelude.{ℕ, ◌+◌, ◌-◌, Bool, false, cond, ◌≡◌, ◌↔◌, IsTrue, leb, eqb, ℤ, pos, negsuc}
+use Rattle.std.specs.Prelude.{ℕ, ◌+◌, ◌-◌, Bool, false, cond, ◌≡◌, ◌↔◌, ◌⊎◌, IsTrue, leb, eqb, ℤ, pos, negsuc, Option, Some}
 use Rattle.std.specs.IoError.{error_kind}
 use Rattle.std.specs.declared.io.Error.{Error}
 use Rattle.std.specs.declared.io.ErrorKind.TheVariants as kind
@@ -19,13 +19,14 @@ use Rattle.program_io.specs.declared.Output.TheVariants as output
 use Rattle.program_io.specs.declared.Reading.{Reading}
 use Rattle.program_io.specs.declared.Writing.{Writing}
 
--- the answer where the standard library tells of a count, and where it tells of an error
-abbrev pub IsCount : ℕ → Answer → Type 0
-IsCount n answer = answer.got ≡ pos n
-
+-- the answer where the standard library tells of an error
 pub record IsFailure (e : Error) (answer : Answer) : Type 0 where
   pub below : answer.got ≡ negsuc 0
   pub interrupted : IsTrue answer.interrupted ↔ (error_kind e ≡ kind.Interrupted)
+
+-- a call that counts leaves the reason of an earlier failure as it was; one that fails has its own
+abbrev pub TellsWhy : Option Error → Option Error → Answer → Type 0
+TellsWhy before after answer = ((n : ℕ) × (answer.got ≡ pos n) × (after ≡ before)) ⊎ ((e : Error) × IsFailure e answer × (after ≡ Some e))
 
 -- an answer from 0 on counts the bytes that moved; any other is a failure, unless the system told of an interruption
 unfoldable pub said_by : ℤ → Bool → Transfer

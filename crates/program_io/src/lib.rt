@@ -65,6 +65,15 @@ fn tell_failure(rt: &HostRuntime, what: &[u8], reason: io::Error) {
     tell(rt, words.alone().as_bytes());
 }
 
+// The same of a call that failed, whose reason is there.
+fn tell_reason(rt: &HostRuntime, what: &[u8], reason: Option<io::Error>) {
+    if let Some(reason) = reason {
+        tell_failure(rt, what, reason);
+    } else {
+        tell(rt, what);
+    }
+}
+
 // How many arguments the program was started with, and whether it takes so many.
 #[derive(Clone, Copy)]
 pub struct Started {
@@ -155,7 +164,7 @@ pub fn read_input(rt: &HostRuntime, input: &[u8], awaited: &[u8], buffer: &mut [
     let reading = read_to_end(&mut source, buffer);
     let read = reading.input;
     if let Input::Failed = read {
-        tell_failure(rt, input, source.reason());
+        tell_reason(rt, input, source.reason());
     }
     reading
 }
@@ -211,7 +220,7 @@ pub fn write_output(rt: &HostRuntime, output: &[u8], bytes: &[u8]) {
     let written = writing.output;
     match written {
         Output::Written => keep_output(rt, output),
-        Output::Failed => tell_failure(rt, output, sink.reason()),
+        Output::Failed => tell_reason(rt, output, sink.reason()),
         Output::Cut => tell_cut(rt, output),
     }
 }

@@ -1,8 +1,8 @@
 // What the system answers to a read or a write. An answer's fields are private, so that no other page can make one up: all that the crate decides, it decides
 // of what `read` and `write` below were answered. That these lend the bytes that they are handed has to be believed, and that the standard library tells the
 // answer as it came: no contract can say what the outside gives and takes.
-ghost use Rattle.std.specs.Prelude.{◌≡◌, ◌<◌, ◌^◌, length, IfOk, IfErr};
-ghost use Rattle.program_io.specs.Ending.{said, said_by, unasked, IsCount, IsFailure};
+ghost use Rattle.std.specs.Prelude.{◌≡◌, ◌<◌, ◌^◌, length, pos, false, None};
+ghost use Rattle.program_io.specs.Ending.{said, said_by, unasked, IsFailure, TellsWhy};
 
 use std::io;
 use std::io::{ErrorKind, Read, Stdin, Stdout, Write};
@@ -27,86 +27,100 @@ pub enum Transfer {
 #[derive(Clone, Copy)]
 pub struct Source {
     stdin: Stdin,
-    reason: io::Error,
+    reason: Option<io::Error>,
 }
 
 // Standard output, and why its last write failed that did.
 #[derive(Clone, Copy)]
 pub struct Sink {
     stdout: Stdout,
-    reason: io::Error,
-}
-
-// Before any failed.
-fn no_error() -> io::Error {
-    io::Error::from_raw_os_error(0)
+    reason: Option<io::Error>,
 }
 
 impl Source {
-    pub fn new(stdin: Stdin) -> Source {
+    pub fn new(stdin: Stdin) -> Source
+        ensures { result ≡ record { stdin = stdin; reason = None } }
+    {
         Source {
             stdin: stdin,
-            reason: no_error(),
+            reason: None,
         }
     }
 
-    pub fn reason(self) -> io::Error {
+    pub fn reason(self) -> Option<io::Error>
+        ensures { result ≡ self.reason }
+    {
         self.reason
     }
 }
 
 impl Sink {
-    pub fn new(stdout: Stdout) -> Sink {
+    pub fn new(stdout: Stdout) -> Sink
+        ensures { result ≡ record { stdout = stdout; reason = None } }
+    {
         Sink {
             stdout: stdout,
-            reason: no_error(),
+            reason: None,
         }
     }
 
-    pub fn reason(self) -> io::Error {
+    pub fn reason(self) -> Option<io::Error>
+        ensures { result ≡ self.reason }
+    {
         self.reason
     }
 }
 
-// The answer that the standard library tells of.
-fn told(lent: usize, answered: io::Result<usize>) -> Answer
-    requires { IfOk answered (λ n. n < 2 ^ 63) }
-    ensures lent { result.lent ≡ lent }
-    ensures count { IfOk answered (λ n. IsCount n result) }
-    ensures failure { IfErr answered (λ e. IsFailure e result) }
+// The answer where the standard library tells of a count.
+fn counted(lent: usize, n: usize) -> Answer
+    requires { n < 2 ^ 63 }
+    ensures { result ≡ record { lent = lent; got = pos n; interrupted = false } }
 {
-    match answered {
-        Ok(n) => Answer {
-            lent: lent,
-            got: n as isize,
-            interrupted: false,
-        },
-        Err(reason) => Answer {
-            lent: lent,
-            got: -1,
-            interrupted: reason.kind() == ErrorKind::Interrupted,
-        },
+    Answer {
+        lent: lent,
+        got: n as isize,
+        interrupted: false,
+    }
+}
+
+// The answer where it tells of an error.
+fn failed(lent: usize, reason: io::Error) -> Answer
+    ensures lent { result.lent ≡ lent }
+    ensures failure { IsFailure reason result }
+{
+    Answer {
+        lent: lent,
+        got: -1,
+        interrupted: reason.kind() == ErrorKind::Interrupted,
     }
 }
 
 pub fn read(source: &mut Source, buffer: &mut [u8]) -> Answer
-    ensures { result.lent ≡ length buffer.new }
+    ensures lent { result.lent ≡ length buffer.new }
+    ensures stays { source.new.stdin ≡ source.old.stdin }
+    ensures reason { TellsWhy source.old.reason source.new.reason result }
 {
-    let answered = source.stdin.read(buffer);
-    if let Err(reason) = answered {
-        source.reason = reason;
+    match source.stdin.read(buffer) {
+        Ok(n) => counted(buffer.len(), n),
+        Err(reason) => {
+            source.reason = Some(reason);
+            failed(buffer.len(), reason)
+        }
     }
-    told(buffer.len(), answered)
 }
 
 pub fn write(sink: &mut Sink, bytes: &[u8]) -> Answer
-    ensures { result.lent ≡ length bytes.now }
+    ensures lent { result.lent ≡ length bytes.now }
+    ensures stays { sink.new.stdout ≡ sink.old.stdout }
+    ensures reason { TellsWhy sink.old.reason sink.new.reason result }
 {
-    let answered = sink.stdout.write(bytes);
-    if let Err(reason) = answered {
-        sink.reason = reason;
+    match sink.stdout.write(bytes) {
+        Ok(n) => counted(bytes.len(), n),
+        Err(reason) => {
+            sink.reason = Some(reason);
+            failed(bytes.len(), reason)
+        }
     }
-    told(bytes.len(), answered)
 }
 
 // An answer from 0 on counts bytes.

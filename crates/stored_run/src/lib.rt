@@ -1,7 +1,7 @@
 // The run over stored lists of cases: what is counted and told, the room that is lent, and the reading of a list. The programs replay_.. judge.
 #![tactic(auto)]
 
-ghost use Rattle.std.specs.Prelude.{◌≡◌, cond, ◌&&◌, eqb, pos, ◌<◌, ◌≤◌, length, take, replicate};
+ghost use Rattle.std.specs.Prelude.{◌≡◌, cond, ◌&&◌, eqb, true, pos, IsOk, ◌≢◌, ◌<◌, ◌≤◌, length, take, replicate};
 ghost use Rattle.stored_run.specs.inner.Count.{more};
 ghost use Rattle.stored_run.specs.inner.Expected.{expected_at, differs_at, as_expected, passes};
 
@@ -81,7 +81,9 @@ pub fn name_failed(
     passes: bool,
     name: &[u8],
     list: &[u8],
-) -> io::Result<()> {
+) -> io::Result<()>
+    ensures { (formed && passes) ≡ true → IsOk result }
+{
     if !formed {
         return name_case(rt, name, list, run.at, b": ill-formed: ");
     }
@@ -266,7 +268,9 @@ pub fn read_list(rt: &impl Files, name: &[u8], list: &mut [u8]) -> usize
 }
 
 // Tells of a list that could not be read or fills the room; what was not read is missed in the count of cases.
-pub fn name_unread(rt: &impl Print, name: &[u8], list: &[u8], n: usize) -> io::Result<()> {
+pub fn name_unread(rt: &impl Print, name: &[u8], list: &[u8], n: usize) -> io::Result<()>
+    ensures { n ≢ 0 → n ≢ length list.now → IsOk result }
+{
     if n == 0 || n == list.len() {
         rt.write_all(name)?;
         return rt.write_all(b": not read whole\n");
