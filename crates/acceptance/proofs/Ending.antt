@@ -3,7 +3,7 @@
 use Prim.Native.Nat.{ℕ, ◌*◌, ◌/◌, ◌^◌, ◌<◌, ◌≤◌}
 use mathlib.Core.Path.{◌≡◌, refl, ap, sym, ◌∙◌}
 use mathlib.Core.List.{List, ◌++◌}
-use mathlib.Core.Option.{none, some}
+use Rattle.std.specs.Prelude.{None, Some}
 use native.Mathlib.Omega.{arith}
 use native.Mathlib.Nat.{div-le_self}
 use lib.Dec.{ltb}
@@ -32,11 +32,11 @@ module _ {X : Type 0} (w : ℕ) (numbers : X → List ℤ) (some-w : 0 < w) (eac
       (answer ≡ answered (call_refusal rows (length xs) (length o / w)) (length xs))
       × (o' ≡ lent_after (call_refusal rows (length xs) (length o / w)) (flat_lines numbers xs) o)
 
-  pub ends_refused : {number place : ℕ} → sheet_refusal rows ≡ some (record { number = number; place = place }) → Ends (Refused number place) o
+  pub ends_refused : {number place : ℕ} → sheet_refusal rows ≡ Some (record { number = number; place = place }) → Ends (Refused number place) o
   unfolding call_refusal
   ends_refused h = (rw h, rw h)
 
-  module _ (passed : sheet_refusal rows ≡ none) where
+  module _ (passed : sheet_refusal rows ≡ None) where
     -- not refused: the count, and the buffer that holds the lines
     ends_accepted : {o' : List ℤ} {n : ℕ} → length xs ≤ length o / w → n ≡ length xs → o' ≡ flat_lines numbers xs ++ drop (length xs * w) o → Ends (Accepted n) o'
     unfolding call_refusal
@@ -82,11 +82,11 @@ module _ {X : Type 0} (w : ℕ) (numbers : X → List ℤ) (some-w : 0 < w) (eac
             ends_accepted (omega arith) (ap (λ s. s.count) whole) (ap (λ s. s.buf) whole)
 
 -- a call that is not refused had room for its lines
-pub had_room : (rows : List ℤ) (lines room : ℕ) → call_refusal rows lines room ≡ none → lines ≤ room
+pub had_room : (rows : List ℤ) (lines room : ℕ) → call_refusal rows lines room ≡ None → lines ≤ room
 unfolding call_refusal
 had_room rows lines room e = omega (arith, ltb-false room lines (if_none (ltb room lines) _ (or_none_right (sheet_refusal rows) _ e)))
 
 -- two accepted sheets in which equally many lines are found, and the same room
-pub same_refusal : (a b : List ℤ) {n m : ℕ} (room : ℕ) → sheet_refusal a ≡ none → sheet_refusal b ≡ none → n ≡ m → call_refusal a n room ≡ call_refusal b m room
+pub same_refusal : (a b : List ℤ) {n m : ℕ} (room : ℕ) → sheet_refusal a ≡ None → sheet_refusal b ≡ None → n ≡ m → call_refusal a n room ≡ call_refusal b m room
 unfolding call_refusal
 same_refusal a b room p q same = rw (p, q, same)

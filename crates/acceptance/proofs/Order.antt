@@ -2,7 +2,7 @@
 use Prim.Native.Nat.{ℕ}
 use mathlib.Core.Path.{◌≡◌, ap, sym, ◌∙◌}
 use mathlib.Core.List.{List}
-use mathlib.Core.Option.{none, some}
+use Rattle.std.specs.Prelude.{None, Some}
 use lib.IntN.{ℤ}
 use Rattle.loops.proofs.PlaceLaws.{or_none_left}
 use Rattle.refusals.specs.declared.Verdict.{Verdict}
@@ -25,21 +25,21 @@ use Rattle.acceptance.specs.inner.Accepting.{Accepting}
 module _ (rows : List ℤ) where
   pub indexed_of : {k₀ l₀ o₀ : List ℕ} {v : Verdict} {k l o : List ℕ} → Indexing rows k₀ l₀ o₀ v k l o → v ≡ Fine → Indexed rows k l o
   indexed_of i e =
-      let a : refusal_of rows ≡ none = sym i.verdict ∙ ap verdict_of e in
+      let a : refusal_of rows ≡ None = sym i.verdict ∙ ap verdict_of e in
       let t = tables_of rows i a in
       record { accepted = a; by_kind = t.kinds; linked = t.links; by_owner = t.owned }
 
   pub by_rows : {v : Verdict} {number place : ℕ} → verdict_of v ≡ refusal_of rows → v ≡ Refused number place
-      → sheet_refusal rows ≡ some (record { number = number; place = place })
+      → sheet_refusal rows ≡ Some (record { number = number; place = place })
   unfolding sheet_refusal
   by_rows q e = rw (sym q ∙ ap verdict_of e)
 
-  pub by_times : {v : Verdict} {number place : ℕ} → refusal_of rows ≡ none → verdict_of v ≡ time_refusal rows → v ≡ Refused number place
-      → sheet_refusal rows ≡ some (record { number = number; place = place })
+  pub by_times : {v : Verdict} {number place : ℕ} → refusal_of rows ≡ None → verdict_of v ≡ time_refusal rows → v ≡ Refused number place
+      → sheet_refusal rows ≡ Some (record { number = number; place = place })
   unfolding sheet_refusal
   by_times a q e = rw (a, sym q ∙ ap verdict_of e)
 
-  pub by_none : {v : Verdict} → refusal_of rows ≡ none → verdict_of v ≡ time_refusal rows → v ≡ Fine → sheet_refusal rows ≡ none
+  pub by_none : {v : Verdict} → refusal_of rows ≡ None → verdict_of v ≡ time_refusal rows → v ≡ Fine → sheet_refusal rows ≡ None
   unfolding sheet_refusal
   by_none a q e = rw (a, sym q ∙ ap verdict_of e)
 
@@ -69,21 +69,21 @@ module _ (rows : List ℤ) where
     rows_by_owner e = (indexed_of i e).by_owner
 
   module _ {k₀ l₀ o₀ k l o : List ℕ} {v : Verdict} (a : Accepting rows k₀ l₀ o₀ v k l o) where
-    pub refused_by : {number place : ℕ} → v ≡ Refused number place → sheet_refusal rows ≡ some (record { number = number; place = place })
+    pub refused_by : {number place : ℕ} → v ≡ Refused number place → sheet_refusal rows ≡ Some (record { number = number; place = place })
     refused_by e = sym a.verdict ∙ ap verdict_of e
 
-    pub passed_all : v ≡ Fine → sheet_refusal rows ≡ none
+    pub passed_all : v ≡ Fine → sheet_refusal rows ≡ None
     passed_all e = sym a.verdict ∙ ap verdict_of e
 
     pub index_of : v ≡ Fine → Indexed rows k l o
     unfolding sheet_refusal
     index_of e =
-        let r : refusal_of rows ≡ none = or_none_left (refusal_of rows) (time_refusal rows) (passed_all e) in
+        let r : refusal_of rows ≡ None = or_none_left (refusal_of rows) (time_refusal rows) (passed_all e) in
         let t = a.tables (shape_passed rows r) in
         record { accepted = r; by_kind = t.kinds; linked = t.links; by_owner = t.owned }
 
   -- a sheet that is not refused
-  pub sheet_accepted : sheet_refusal rows ≡ none → Accepted rows
+  pub sheet_accepted : sheet_refusal rows ≡ None → Accepted rows
   unfolding sheet_refusal
   sheet_accepted h = accepted rows (or_none_left (refusal_of rows) (time_refusal rows) h)
 

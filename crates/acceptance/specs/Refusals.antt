@@ -1,6 +1,6 @@
 -- The refusals of a call on a sheet, in order: 1 to 5 of the rows, 6 of the derived times, 7 of the lines that are found. Assumes nothing.
 use Rattle.std.specs.Prelude.{ℕ, List, ltb, ℤ}
-use Rattle.std.proofs.Math.Option.{Option}
+use Rattle.std.specs.Prelude.{Option}
 use Rattle.loops.specs.Search.{or_else}
 use Rattle.refusals.specs.Refusals.{FULL, Refusal, refuse}
 use Rattle.sheet.specs.Refusals.{refusal_of}

@@ -3,7 +3,7 @@ use Prim.Native.Nat.{ℕ, ◌<◌, ◌≤◌}
 use mathlib.Core.Path.{◌≡◌, refl, ap, sym, ◌∙◌}
 use mathlib.Core.Bool.{Bool, true, false, not, ◌&&◌}
 use mathlib.Core.List.{List}
-use mathlib.Core.Option.{Option, none, some}
+use Rattle.std.specs.Prelude.{Option, None, Some}
 use native.Mathlib.Omega.{arith}
 use lib.IntN.{ℤ}
 use Rattle.loops.specs.Lists.{keep, head, option, among, is_empty}
@@ -80,7 +80,7 @@ module _ (rows : List ℤ) (a k : ℕ) where
   unfolding takes
   takes_test l z s e f = rw (s.here (omega arith), ← e) f
 
-  requirement_at_lem : place_of rows 2 (num rows a 1) ≡ some a → (q : ℕ)
+  requirement_at_lem : place_of rows 2 (num rows a 1) ≡ Some a → (q : ℕ)
       → head (keep (λ q. is_candidate (sheet rows) q (resource_of rows k)) (requirement_at (sheet rows) (num rows a 1) q)) ≡ some_if (takes q) (requirement_of rows q)
   unfolding takes keep
   requirement_at_lem p q = rw (of_activity rows 5 a (num rows a 1) (unfold owner_kind in refl) p q) (go (is rows q 0 5) refl (is rows q 1 (num rows a 1)) refl)
@@ -92,7 +92,7 @@ module _ (rows : List ℤ) (a k : ℕ) where
       go true h false g = rw (requirement_row rows (num rows a 1) q h, h, g)
       go false h d g = rw (requirement_none rows (num rows a 1) q h, h)
 
-  usage_found : {x : Option ℕ} → place_of rows 2 (num rows a 1) ≡ some a → x ≡ first_place takes (row_count rows)
+  usage_found : {x : Option ℕ} → place_of rows 2 (num rows a 1) ≡ Some a → x ≡ first_place takes (row_count rows)
       → option x 1 (λ q. num rows q 4) ≡ usage_on (sheet rows) (activity_of rows a) (resource_of rows k)
   unfolding usage_on requirements
   usage_found {x} p e =
@@ -102,18 +102,18 @@ module _ (rows : List ℤ) (a k : ℕ) where
       ∙ head_collect (λ j. keep (λ q. is_candidate (sheet rows) q (resource_of rows k)) (requirement_at (sheet rows) (num rows a 1) j)) (row_count rows)
       ∙ first_same _ _ (row_count rows) (requirement_at_lem p)
       ∙ first_placed takes (requirement_of rows) (row_count rows)
-      ∙ ap (λ y. option y none (λ j. some (requirement_of rows j))) (sym e))
+      ∙ ap (λ y. option y None (λ j. Some (requirement_of rows j))) (sym e))
       ∙ go x)
     where
-      go : (x : Option ℕ) → option (option x none (λ j. some (requirement_of rows j))) 1 (λ q. q.usage) ≡ option x 1 (λ q. num rows q 4)
-      go none = refl
-      go (some j) = refl
+      go : (x : Option ℕ) → option (option x None (λ j. Some (requirement_of rows j))) 1 (λ q. q.usage) ≡ option x 1 (λ q. num rows q 4)
+      go None = refl
+      go (Some j) = refl
 
-  pub usage_most : {n N i r : ℕ} → refusal_of rows ≡ none → i < N → N ≡ n → Stands (owned_by rows a 5) n i → r ≡ num rows i 4 → r ≤ 1000000
+  pub usage_most : {n N i r : ℕ} → refusal_of rows ≡ None → i < N → N ≡ n → Stands (owned_by rows a 5) n i → r ≡ num rows i 4 → r ≤ 1000000
   usage_most {i = i} acc l z s e = rw e (at_most rows (accepted rows acc) i 5 4 (stands_owned rows a 5 l z s))
 
   -- what the loop answers, at the requirement that it stops at and at its end
-  module _ {n i : ℕ} (s : Stands (owned_by rows a 5) (row_count rows) i) (f : first_place takes i ≡ none) (p : place_of rows 2 (num rows a 1) ≡ some a)
+  module _ {n i : ℕ} (s : Stands (owned_by rows a 5) (row_count rows) i) (f : first_place takes i ≡ None) (p : place_of rows 2 (num rows a 1) ≡ Some a)
       (z : n ≡ row_count rows) where
     pub usage_here : {r : ℕ} {b : Bool} → b ≡ is_candidate (sheet rows) (requirement_of rows i) (resource_of rows k) → b ≡ true → i < n → r ≡ num rows i 4
         → r ≡ usage_on (sheet rows) (activity_of rows a) (resource_of rows k)

@@ -2,7 +2,7 @@
 #![tactic(auto)]
 
 ghost use Rattle.std.specs.Prelude.{◌≡◌, true, false, ◌<◌, ◌≤◌};
-ghost use Rattle.std.proofs.Math.Option.{none, some};
+ghost use Rattle.std.specs.Prelude.{None, Some};
 ghost use Rattle.loops.specs.Lists.{among};
 ghost use Rattle.rows.specs.Cells.{row_count, num, is};
 ghost use Rattle.sheet.specs.Places.{place_of};
@@ -41,7 +41,7 @@ pub fn is_candidate(rows: &[i64], owned: &[u16; 8810], q: usize, k: usize) -> bo
 
 // What the activity of row a uses of the resource of row k.
 pub fn usage_on(rows: &[i64], owned: &[u16; 8810], a: usize, k: usize) -> u64
-    requires { Owned rows.now owned.now × (refusal_of rows.now ≡ none) × (place_of rows.now 2 (num rows.now a 1) ≡ some a) }
+    requires { Owned rows.now owned.now × (refusal_of rows.now ≡ None) × (place_of rows.now 2 (num rows.now a 1) ≡ Some a) }
     ensures value { result ≡ usage_on (sheet rows.now) (activity_of rows.now a) (resource_of rows.now k) }
     ensures bound { result ≤ 1000000 }
 {

@@ -3,7 +3,7 @@ use Prim.Native.Nat.{ℕ, zero, suc}
 use mathlib.Core.Path.{◌≡◌, refl, ap, sym, ◌∙◌}
 use mathlib.Core.Bool.{Bool, true, false, ◌&&◌, ◌||◌}
 use mathlib.Core.List.{List}
-use mathlib.Core.Option.{Option, none, some}
+use Rattle.std.specs.Prelude.{Option, None, Some}
 use lib.Dec.{eqb}
 use lib.IntN.{ℤ}
 use Rattle.loops.specs.Lists.{given, head, is_some}
@@ -21,8 +21,8 @@ use Rattle.model.proofs.RowLaws.{row_none, row_here}
 use Rattle.model.proofs.OwnedLaws.{of_activity}
 
 some_either : {A : Type 0} (x y : Option A) → is_some (or_else x y) ≡ (is_some x || is_some y)
-some_either none y = refl
-some_either (some x) y = refl
+some_either None y = refl
+some_either (Some x) y = refl
 
 first_some : {A : Type 0} (f : ℕ → Option A) (n : ℕ) → is_some (first f n) ≡ any_below (λ k. is_some (f k)) n
 unfolding first any_below
@@ -37,7 +37,7 @@ module _ (rows : List ℤ) (a : ℕ) where
   given_some true x = refl
   given_some false x = refl
 
-  split_here : place_of rows 2 (num rows a 1) ≡ some a → (k : ℕ) → is_some (head (row_at (sheet rows) 4 split_at k)) ≡ owned_by rows a 4 k
+  split_here : place_of rows 2 (num rows a 1) ≡ Some a → (k : ℕ) → is_some (head (row_at (sheet rows) 4 split_at k)) ≡ owned_by rows a 4 k
   split_here q k = go (is rows k 0 4) refl ∙ sym (of_activity rows 4 a (num rows a 1) (unfold owner_kind in refl) q k)
     where
       go : (b : Bool) → is rows k 0 4 ≡ b → is_some (head (row_at (sheet rows) 4 split_at k)) ≡ (is rows k 0 4 && is rows k 1 (num rows a 1))
@@ -47,7 +47,7 @@ module _ (rows : List ℤ) (a : ℕ) where
       go false h = rw (row_none rows k 4 split_at h, h)
 
   -- an activity is split if a row of kind 4 belongs to it
-  pub split_told : {r : Bool} → r ≡ any_below (owned_by rows a 4) (row_count rows) → place_of rows 2 (num rows a 1) ≡ some a → r ≡ is_some (split (sheet rows) (num rows a 1))
+  pub split_told : {r : Bool} → r ≡ any_below (owned_by rows a 4) (row_count rows) → place_of rows 2 (num rows a 1) ≡ Some a → r ≡ is_some (split (sheet rows) (num rows a 1))
   unfolding split
   split_told e q =
       e

@@ -3,7 +3,7 @@ use Prim.Native.Nat.{ℕ, suc, ◌+◌, ◌<◌}
 use mathlib.Core.Path.{◌≡◌, refl, ap, ap₂, sym, ◌∙◌}
 use mathlib.Core.Bool.{Bool, true, false, cond, or-false}
 use mathlib.Core.List.{List, [], ◌∷◌, ◌++◌, append-nil}
-use mathlib.Core.Option.{Option, none, some}
+use Rattle.std.specs.Prelude.{Option, None, Some}
 use native.Mathlib.Omega.{arith}
 use native.Mathlib.Numerals.{add-one}
 use lib.Dec.{ltb}
@@ -55,22 +55,22 @@ module _ (rows : List ℤ) where
   early_is k r c = early_cell (assignment_of rows k) (num rows k 4) refl (cell rows r c)
 
   early_task : (a k : ℕ)
-      → early_assignment clock (sheet rows) (assignment_of rows k) (option (find_task (sheet rows) (num rows a 2)) none (λ x. x.release))
+      → early_assignment clock (sheet rows) (assignment_of rows k) (option (find_task (sheet rows) (num rows a 2)) None (λ x. x.release))
       ≡ given (option (place_of rows 1 (num rows a 2)) false (λ t. ltb (num rows k 4) (num rows t 3))) (early_start 1 (num rows k 1))
   early_task a k =
-      ap (λ x. early_assignment clock (sheet rows) (assignment_of rows k) (option x none (λ y. y.release))) (find_task_lem rows (num rows a 2))
+      ap (λ x. early_assignment clock (sheet rows) (assignment_of rows k) (option x None (λ y. y.release))) (find_task_lem rows (num rows a 2))
       ∙ go (place_of rows 1 (num rows a 2))
     where
       go : (x : Option ℕ)
-          → early_assignment clock (sheet rows) (assignment_of rows k) (option (option x none (λ j. some (task_of rows j))) none (λ y. y.release))
+          → early_assignment clock (sheet rows) (assignment_of rows k) (option (option x None (λ j. Some (task_of rows j))) None (λ y. y.release))
           ≡ given (option x false (λ t. ltb (num rows k 4) (num rows t 3))) (early_start 1 (num rows k 1))
-      go none = refl
-      go (some t) = early_is k t 3
+      go None = refl
+      go (Some t) = early_is k t 3
 
   -- ---- a booking of an activity
 
-  found : (a k : ℕ) → Booked rows a k → find_activity (sheet rows) (num rows k 1) ≡ some (activity_of rows a)
-  found a k b = find_activity_lem rows (num rows k 1) ∙ ap (λ x. option x none (λ j. some (activity_of rows j))) b.place
+  found : (a k : ℕ) → Booked rows a k → find_activity (sheet rows) (num rows k 1) ≡ Some (activity_of rows a)
+  found a k b = find_activity_lem rows (num rows k 1) ∙ ap (λ x. option x None (λ j. Some (activity_of rows j))) b.place
 
   cond_yes : {A : Type 0} {b : Bool} (x y : A) → b ≡ true → cond b x y ≡ x
   cond_yes x y e = rw e
@@ -97,7 +97,7 @@ module _ (rows : List ℤ) where
         (unknown_activity 1 (num rows k 1))
         ++ given (lt_z (pos (num rows k 5) -ℤ pos (num rows k 4)) (pos (needed_ms (sheet rows) (activity_of rows a) (assignment_of rows k) (runs_on (sheet rows) (assignment_of rows k))))) (duration_too_short 1 (num rows k 1))
         ++ early_assignment clock (sheet rows) (assignment_of rows k) (maybe_at rows a 8)
-        ++ early_assignment clock (sheet rows) (assignment_of rows k) (option (find_task (sheet rows) (num rows a 2)) none (λ t. t.release))
+        ++ early_assignment clock (sheet rows) (assignment_of rows k) (option (find_task (sheet rows) (num rows a 2)) None (λ t. t.release))
     unfolding check_known
     judged_is h g = cond_no _ _ h ∙ cond_no _ _ g
 
@@ -151,22 +151,22 @@ module _ (rows : List ℤ) where
     unfolding check_assignment_at each
     booking_is = rw (assignment_row rows k h) (append-nil _)
 
-    known_is : (a : ℕ) → place_of rows 2 (num rows k 1) ≡ some a → check_assignment_at clock (sheet rows) k ≡ known a k
+    known_is : (a : ℕ) → place_of rows 2 (num rows k 1) ≡ Some a → check_assignment_at clock (sheet rows) k ≡ known a k
     unfolding check_assignment
     known_is a q =
         booking_is
         ∙ ap
         (λ x. option x (given (is_some (find_task (sheet rows) (num rows k 2))) (unknown_activity 1 (num rows k 1))) (check_known clock (sheet rows) (assignments_below (sheet rows) k) (assignment_of rows k)))
-        (find_activity_lem rows (num rows k 1) ∙ ap (λ x. option x none (λ j. some (activity_of rows j))) q)
+        (find_activity_lem rows (num rows k 1) ∙ ap (λ x. option x None (λ j. Some (activity_of rows j))) q)
 
-    unknown_is : place_of rows 2 (num rows k 1) ≡ none
+    unknown_is : place_of rows 2 (num rows k 1) ≡ None
         → check_assignment_at clock (sheet rows) k ≡ given (is_some (find_task (sheet rows) (num rows k 2))) (unknown_activity 1 (num rows k 1))
     unfolding check_assignment
     unknown_is q =
         booking_is
         ∙ ap
         (λ x. option x (given (is_some (find_task (sheet rows) (num rows k 2))) (unknown_activity 1 (num rows k 1))) (check_known clock (sheet rows) (assignments_below (sheet rows) k) (assignment_of rows k)))
-        (find_activity_lem rows (num rows k 1) ∙ ap (λ x. option x none (λ j. some (activity_of rows j))) q)
+        (find_activity_lem rows (num rows k 1) ∙ ap (λ x. option x None (λ j. Some (activity_of rows j))) q)
 
   pub known_told : (k : ℕ) (s : Sink) {s' : Sink} (a : ℕ) → s' ≡ emit s (known a k) → Booked rows a k → s' ≡ emit s (check_assignment_at clock (sheet rows) k)
   known_told k s a q b = q ∙ ap (emit s) (sym (known_is k b.kind a b.place))
@@ -189,9 +189,9 @@ module _ (rows : List ℤ) where
 
   -- ---- a task
 
-  some_place : (x : Option ℕ) → is_some (option x none (λ k. some (task_of rows k))) ≡ is_some x
-  some_place none = refl
-  some_place (some k) = refl
+  some_place : (x : Option ℕ) → is_some (option x None (λ k. Some (task_of rows k))) ≡ is_some x
+  some_place None = refl
+  some_place (Some k) = refl
 
   task_known : (id : ℕ) {x : Option ℕ} → x ≡ place_of rows 1 id → is_some x ≡ is_some (find_task (sheet rows) id)
   task_known id e = ap is_some e ∙ sym (ap is_some (find_task_lem rows id) ∙ some_place (place_of rows 1 id))

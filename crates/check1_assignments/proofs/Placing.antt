@@ -4,7 +4,7 @@ use Prim.Native.Nat.{ℕ, suc, ◌<◌, ◌≤◌}
 use mathlib.Core.Path.{◌≡◌, refl, ap, ap₂, sym, ◌∙◌}
 use mathlib.Core.Bool.{Bool, true, false, not, ◌&&◌, ◌||◌}
 use mathlib.Core.List.{List}
-use mathlib.Core.Option.{Option, none, some}
+use Rattle.std.specs.Prelude.{Option, None, Some}
 use native.Mathlib.Omega.{arith}
 use lib.Dec.{eqb, ltb}
 use lib.IntN.{ℤ, negsuc}
@@ -37,8 +37,8 @@ use Rattle.check1_assignments.specs.inner.Bookings.{Booked}
 -- ---- whether a booking names a part
 
 part_index : (p : Option Part) → is_some p ≡ is_some (index_of p)
-part_index none = refl
-part_index (some p) = refl
+part_index None = refl
+part_index (Some p) = refl
 
 none_class : in_class n?_c (negsuc 9223372036854775807) ≡ true
 unfolding in_class in_range between is_none
@@ -48,13 +48,13 @@ none_key : index_key (negsuc 9223372036854775807) ≡ 0
 unfolding index_key
 none_key = refl
 
-none_index : index_in (negsuc 9223372036854775807) ≡ none
+none_index : index_in (negsuc 9223372036854775807) ≡ None
 unfolding is_none between
 none_index = refl
 
-after_none : (y : Option ℤ) → is_some y ≡ before_index none y
-after_none none = refl
-after_none (some y) = refl
+after_none : (y : Option ℤ) → is_some y ≡ before_index None y
+after_none None = refl
+after_none (Some y) = refl
 
 index_some : (x : ℤ) → in_class n?_c x ≡ true → is_some (index_in x) ≡ ltb 0 (index_key x)
 index_some x e =
@@ -116,7 +116,7 @@ module _ (rows : List ℤ) where
   activity_kind a k b = num_is rows a 0 2 (activity_named a k b).kind
 
   -- the row is found by its own id
-  pub activity_place_lem : (a k : ℕ) → Booked rows a k → place_of rows 2 (num rows a 1) ≡ some a
+  pub activity_place_lem : (a k : ℕ) → Booked rows a k → place_of rows 2 (num rows a 1) ≡ Some a
   activity_place_lem a k b = ap (place_of rows 2) (activity_named a k b).id_is ∙ b.place
 
   pub owned_booking : (a k : ℕ) → Booked rows a k → owned_by rows a 23 k ≡ true

@@ -3,7 +3,7 @@ use Prim.Native.Nat.{ℕ, zero, suc, ◌+◌, ◌-◌, ◌*◌, ◌^◌, ◌<◌
 use mathlib.Core.Path.{◌≡◌, refl, ap, sym, ◌∙◌}
 use mathlib.Core.Bool.{Bool, true, false, cond, ◌&&◌, and-true, and-false}
 use mathlib.Core.List.{List, map, foldl}
-use mathlib.Core.Option.{some}
+use Rattle.std.specs.Prelude.{Some}
 use native.Mathlib.Omega.{arith}
 use native.Mathlib.Decide.{dec_lt}
 use lib.Dec.{eqb, ltb}
@@ -118,7 +118,7 @@ module _ (rows : List ℤ) (a : ℕ) where
   folded true x c = refl
   folded false x c = refl
 
-  quantity_at : place_of rows 2 (num rows a 1) ≡ some a → (c : ℤ) (k : ℕ)
+  quantity_at : place_of rows 2 (num rows a 1) ≡ Some a → (c : ℤ) (k : ℕ)
       → foldl ◌+ℤ◌ c (map (λ q. q.quantity) (requirement_at (sheet rows) (num rows a 1) k)) ≡ only_at (owned_by rows a 5) (add_at rows) c k
   unfolding only_at add_at requirement_at is
   quantity_at p c k = go (is rows k 0 5) refl ∙ ap (λ b. cond b (c +ℤ cell rows k 3) c) (sym (of_activity rows 5 a (num rows a 1) (unfold owner_kind in refl) p k))
@@ -129,7 +129,7 @@ module _ (rows : List ℤ) (a : ℕ) where
       go true h = rw (h, is_num rows k 0 5 h) (folded (eqb (num rows k 1) (num rows a 1)) _ c)
       go false h = rw h
 
-  pub sum_told : {x : ℤ} → place_of rows 2 (num rows a 1) ≡ some a → x ≡ fold (only_at (owned_by rows a 5) (add_at rows)) (pos 0) (row_count rows) → x ≡ quantities rows a
+  pub sum_told : {x : ℤ} → place_of rows 2 (num rows a 1) ≡ Some a → x ≡ fold (only_at (owned_by rows a 5) (add_at rows)) (pos 0) (row_count rows) → x ≡ quantities rows a
   unfolding quantities requirements
   sum_told p e =
       e

@@ -3,7 +3,7 @@
 #![tactic(auto)]
 
 ghost use Rattle.std.specs.Prelude.{◌≡◌, ◌+◌, ◌*◌, ◌<◌, ◌≤◌, true, false, cond, ltb, pos, ◌-ℤ◌, get_or};
-ghost use Rattle.std.proofs.Math.Option.{some};
+ghost use Rattle.std.specs.Prelude.{Some};
 ghost use Rattle.std.specs.Int.Signed.{lt_z};
 ghost use Rattle.loops.specs.Lists.{given, option, is_some};
 ghost use Rattle.rows.specs.Cells.{row_count, cell, num, is};
@@ -33,7 +33,7 @@ use sheet::Found;
 
 // Whether the activity of row a is split.
 fn is_split(rows: &[i64], owned: &[u16; 8810], a: usize) -> bool
-    requires { Owned rows.now owned.now × (place_of rows.now 2 (num rows.now a 1) ≡ some a) }
+    requires { Owned rows.now owned.now × (place_of rows.now 2 (num rows.now a 1) ≡ Some a) }
     ensures { result ≡ is_some (split (sheet rows.now) (num rows.now a 1)) }
 {
     owners::has_owned(rows, owned, a, 4)
@@ -75,7 +75,7 @@ fn add_quantity(rows: &[i64], u: Units, q: usize) -> Units
 
 // What the requirements of the activity of row a take.
 fn units_of(rows: &[i64], owned: &[u16; 8810], a: usize) -> Units
-    requires { Accepted rows.now × Owned rows.now owned.now × (place_of rows.now 2 (num rows.now a 1) ≡ some a) }
+    requires { Accepted rows.now × Owned rows.now owned.now × (place_of rows.now 2 (num rows.now a 1) ≡ Some a) }
     ensures sum { pos result.raised -ℤ pos result.offset ≡ quantities rows.now a }
     ensures bound { result.offset ≤ 800000800 }
 {
@@ -94,7 +94,7 @@ fn units_of(rows: &[i64], owned: &[u16; 8810], a: usize) -> Units
 
 // Whether so many bookings are more than the units of the activity of row a.
 fn is_over(rows: &[i64], owned: &[u16; 8810], a: usize, used: u64) -> bool
-    requires { Accepted rows.now × Owned rows.now owned.now × (place_of rows.now 2 (num rows.now a 1) ≡ some a) × (used ≤ 801) }
+    requires { Accepted rows.now × Owned rows.now owned.now × (place_of rows.now 2 (num rows.now a 1) ≡ Some a) × (used ≤ 801) }
     ensures { result ≡ lt_z (units (sheet rows.now) (num rows.now a 1)) (pos used) }
 {
     let u = units_of(rows, owned, a);

@@ -4,7 +4,7 @@ use mathlib.Core.Path.{◌≡◌, refl, ap, ap₂, sym, ◌∙◌}
 use mathlib.Core.Bool.{Bool, true, false, cond, not, ◌&&◌, ◌||◌, or-false}
 use mathlib.Core.List.{List}
 use mathlib.Core.Logic.{inl}
-use mathlib.Core.Option.{none, some}
+use Rattle.std.specs.Prelude.{None, Some}
 use native.Mathlib.Omega.{arith}
 use native.Mathlib.Decide.{ℕ_discrete}
 use borrow.Author.Tests.{eq-eqb, ne_eqb}
@@ -38,12 +38,12 @@ use Rattle.definition.specs.CheckTimeOnly.{known, seen}
 use Rattle.check2_time_only.specs.inner.Known.{Known}
 
 -- an activity holds windows of kind 16
-pub own_windows : (rows : List ℤ) (id a : ℕ) → place_of rows 2 id ≡ some a → Holder rows a 16
+pub own_windows : (rows : List ℤ) (id a : ℕ) → place_of rows 2 id ≡ Some a → Holder rows a 16
 own_windows rows id a q = inl (refl, found_self rows 2 id a q)
 
 -- ---- an activity that holds no resource
 
-module _ (rows : List ℤ) (a : ℕ) (q : place_of rows 2 (num rows a 1) ≡ some a) where
+module _ (rows : List ℤ) (a : ℕ) (q : place_of rows 2 (num rows a 1) ≡ Some a) where
   none_required : is_empty (requirements (sheet rows) (num rows a 1)) ≡ not (any_below (owned_by rows a 5) (row_count rows))
   unfolding requirements
   none_required =
@@ -63,12 +63,12 @@ module _ (rows : List ℤ) (k : ℕ) (h : is rows k 0 24 ≡ true) where
     free = λ j w. absurd (none_some w);
   }
 
-  pub linked_self : {a : ℕ} {g : Found} → g ≡ At a → found_of g ≡ place_of rows 2 (num rows k 1) → place_of rows 2 (num rows a 1) ≡ some a
+  pub linked_self : {a : ℕ} {g : Found} → g ≡ At a → found_of g ≡ place_of rows 2 (num rows k 1) → place_of rows 2 (num rows a 1) ≡ Some a
   linked_self {a} z q = found_self rows 2 (num rows k 1) a (sym q ∙ ap found_of z)
 
-  module _ (a : ℕ) (q : place_of rows 2 (num rows k 1) ≡ some a) where
+  module _ (a : ℕ) (q : place_of rows 2 (num rows k 1) ≡ Some a) where
     known_is : known (sheet rows) (span_of rows k)
-        ≡ cond (is_empty (requirements (sheet rows) (num rows a 1)) && eqb (num rows a 2) (num rows k 2)) (some (activity_of rows a)) none
+        ≡ cond (is_empty (requirements (sheet rows) (num rows a 1)) && eqb (num rows a 2) (num rows k 2)) (Some (activity_of rows a)) None
     unfolding known
     known_is = rw (find_activity_lem rows (num rows k 1), q)
 
@@ -121,8 +121,8 @@ module _ (rows : List ℤ) (a : ℕ) where
   unfolding spanned
   spanned_test l z s e g f = rw (s.here (omega arith), ← e, ← g) f
 
-  module _ (q : place_of rows 2 (num rows a 1) ≡ some a) (w : is_empty (requirements (sheet rows) (num rows a 1)) ≡ true) where
-    some_known : (b : Bool) → is_some (cond b (some (activity_of rows a)) none) ≡ b
+  module _ (q : place_of rows 2 (num rows a 1) ≡ Some a) (w : is_empty (requirements (sheet rows) (num rows a 1)) ≡ true) where
+    some_known : (b : Bool) → is_some (cond b (Some (activity_of rows a)) None) ≡ b
     some_known true = refl
     some_known false = refl
 
@@ -157,9 +157,9 @@ module _ (rows : List ℤ) (a : ℕ) where
   -- the two answers of the search for a span above row k
   module _ (k : ℕ) {i : ℕ} where
     pub seen_hit : {n t : ℕ} {r : Bool} → i < k → k ≤ n → Stands (owned_by rows a 24) n i → t ≡ num rows a 2 → r ≡ is rows i 2 t → r ≡ true
-        → place_of rows 2 (num rows a 1) ≡ some a → is_empty (requirements (sheet rows) (num rows a 1)) ≡ true → true ≡ seen (sheet rows) (time_only_below (sheet rows) k) (num rows a 1)
+        → place_of rows 2 (num rows a 1) ≡ Some a → is_empty (requirements (sheet rows) (num rows a 1)) ≡ true → true ≡ seen (sheet rows) (time_only_below (sheet rows) k) (num rows a 1)
     seen_hit l m s e g f q w = any_hit spanned i k k l refl (spanned_test l m s e g f) ∙ seen_are q w k
 
     pub seen_none : any_below spanned i ≡ false → k ≤ i
-        → place_of rows 2 (num rows a 1) ≡ some a → is_empty (requirements (sheet rows) (num rows a 1)) ≡ true → false ≡ seen (sheet rows) (time_only_below (sheet rows) k) (num rows a 1)
+        → place_of rows 2 (num rows a 1) ≡ Some a → is_empty (requirements (sheet rows) (num rows a 1)) ≡ true → false ≡ seen (sheet rows) (time_only_below (sheet rows) k) (num rows a 1)
     seen_none e l q w = sym (any_less _ _ _ e l) ∙ seen_are q w k

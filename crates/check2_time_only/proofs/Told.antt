@@ -3,7 +3,7 @@ use Prim.Native.Nat.{ℕ, suc, ◌+◌, ◌<◌, ◌≤◌}
 use mathlib.Core.Path.{◌≡◌, refl, ap, ap₂, sym, ◌∙◌}
 use mathlib.Core.Bool.{Bool, true, false, cond, not, ◌&&◌, and-true}
 use mathlib.Core.List.{List, [], ◌∷◌, append-nil}
-use mathlib.Core.Option.{Option, none, some}
+use Rattle.std.specs.Prelude.{Option, None, Some}
 use native.Mathlib.Omega.{arith}
 use lib.Dec.{eqb, ltb}
 use lib.IntN.{ℤ, pos}
@@ -61,22 +61,22 @@ joint_one l t = and-true (is_working_time clock l t)
 -- ---- sums that fit
 
 module _ (rows : List ℤ) (a : ℕ) {s p : ℕ} where
-  pub part_fits : s ≡ num rows a 4 → p ≡ num rows a 5 → refusal_of rows ≡ none → is rows a 0 2 ≡ true → Fits w64 (s + p)
+  pub part_fits : s ≡ num rows a 4 → p ≡ num rows a 5 → refusal_of rows ≡ None → is rows a 0 2 ≡ true → Fits w64 (s + p)
   part_fits e f acc h = let x = at_most rows (accepted rows acc) a 2 4 h in let y = at_most rows (accepted rows acc) a 2 5 h in record { fits = omega arith }
 
-  pub work_fits : {t : ℕ} → t ≡ num rows a 6 → s ≡ num rows a 4 → p ≡ num rows a 5 → refusal_of rows ≡ none → is rows a 0 2 ≡ true → Fits w64 (s + p + t)
+  pub work_fits : {t : ℕ} → t ≡ num rows a 6 → s ≡ num rows a 4 → p ≡ num rows a 5 → refusal_of rows ≡ None → is rows a 0 2 ≡ true → Fits w64 (s + p + t)
   work_fits g e f acc h =
       let x = at_most rows (accepted rows acc) a 2 4 h in
       let y = at_most rows (accepted rows acc) a 2 5 h in
       let z = at_most rows (accepted rows acc) a 2 6 h in
       record { fits = omega arith }
 
-pub end_fits : (rows : List ℤ) (k : ℕ) {s w : ℕ} → s ≡ num rows k 3 → w ≤ 12000000000000 → refusal_of rows ≡ none → is rows k 0 24 ≡ true → Fits w64 (s + w)
+pub end_fits : (rows : List ℤ) (k : ℕ) {s w : ℕ} → s ≡ num rows k 3 → w ≤ 12000000000000 → refusal_of rows ≡ None → is rows k 0 24 ≡ true → Fits w64 (s + w)
 end_fits rows k e l acc h = let x = at_most rows (accepted rows acc) k 24 3 h in record { fits = omega arith }
 
 module _ (rows : List ℤ) (a k : ℕ) where
   -- what an activity needs
-  pub work_most : {s p t : ℕ} → refusal_of rows ≡ none → is rows a 0 2 ≡ true → s ≡ num rows a 4 → p ≡ num rows a 5 → t ≡ num rows a 6 → s + p + t ≤ 12000000000000
+  pub work_most : {s p t : ℕ} → refusal_of rows ≡ None → is rows a 0 2 ≡ true → s ≡ num rows a 4 → p ≡ num rows a 5 → t ≡ num rows a 6 → s + p + t ≤ 12000000000000
   work_most acc h e f g =
       let x = at_most rows (accepted rows acc) a 2 4 h in
       let y = at_most rows (accepted rows acc) a 2 5 h in
@@ -116,20 +116,20 @@ module _ (rows : List ℤ) (a k : ℕ) where
 
   early_is : (x : Option ℤ)
       → given (option x false (λ y. lt_z (pos (num rows k 3)) y)) (early_start 2 (num rows k 1)) ≡ early_span clock (sheet rows) (span_of rows k) x
-  early_is none = refl
-  early_is (some y) = refl
+  early_is None = refl
+  early_is (Some y) = refl
 
-  task_release : option (place_of rows 1 (num rows a 2)) none (λ t. maybe_at rows t 3) ≡ option (find_task (sheet rows) (num rows a 2)) none (λ y. y.release)
-  task_release = go (place_of rows 1 (num rows a 2)) ∙ sym (ap (λ y. option y none (λ t. t.release)) (find_task_lem rows (num rows a 2)))
+  task_release : option (place_of rows 1 (num rows a 2)) None (λ t. maybe_at rows t 3) ≡ option (find_task (sheet rows) (num rows a 2)) None (λ y. y.release)
+  task_release = go (place_of rows 1 (num rows a 2)) ∙ sym (ap (λ y. option y None (λ t. t.release)) (find_task_lem rows (num rows a 2)))
     where
-      go : (x : Option ℕ) → option x none (λ t. maybe_at rows t 3) ≡ option (option x none (λ j. some (task_of rows j))) none (λ t. t.release)
-      go none = refl
-      go (some t) = refl
+      go : (x : Option ℕ) → option x None (λ t. maybe_at rows t 3) ≡ option (option x None (λ j. Some (task_of rows j))) None (λ t. t.release)
+      go None = refl
+      go (Some t) = refl
 
   pub first_told : (s₀ : Sink) {s₁ s₂ s₃ s₄ : Sink} {b₁ b₂ b₃ b₄ : Bool} {id : ℕ} {x y : Option ℤ} → id ≡ num rows k 1
       → b₁ ≡ too_short clock (span_of rows k) (activity_of rows a) own → b₂ ≡ outside_own clock (span_of rows k) (activity_of rows a) own
       → x ≡ maybe_at rows a 8 → b₃ ≡ option x false (λ z. lt_z (pos (num rows k 3)) z)
-      → y ≡ option (place_of rows 1 (num rows a 2)) none (λ t. maybe_at rows t 3) → b₄ ≡ option y false (λ z. lt_z (pos (num rows k 3)) z)
+      → y ≡ option (place_of rows 1 (num rows a 2)) None (λ t. maybe_at rows t 3) → b₄ ≡ option y false (λ z. lt_z (pos (num rows k 3)) z)
       → s₁ ≡ emit s₀ (given b₁ (duration_too_short 2 id)) → s₂ ≡ emit s₁ (given b₂ (time_window_violation 2 id))
       → s₃ ≡ emit s₂ (given b₃ (early_start 2 id)) → s₄ ≡ emit s₃ (given b₄ (early_start 2 id))
       → s₄ ≡ emit s₀ (check_first clock (sheet rows) (span_of rows k) (activity_of rows a))
@@ -139,7 +139,7 @@ module _ (rows : List ℤ) (a k : ℕ) where
       (emit_then _ _ s₀
       (emit_then _ _ s₀ (rw (e₁, i) at h₁) (rw (e₂, i) at h₂))
       ((rw (e₃, rx, i) at h₃) ∙ ap (emit s₂) (early_is (maybe_at rows a 8))))
-      ((rw (e₄, ry ∙ task_release, i) at h₄) ∙ ap (emit s₃) (early_is (option (find_task (sheet rows) (num rows a 2)) none (λ z. z.release))))
+      ((rw (e₄, ry ∙ task_release, i) at h₄) ∙ ap (emit s₃) (early_is (option (find_task (sheet rows) (num rows a 2)) None (λ z. z.release))))
 
 -- ---- a span
 
@@ -148,16 +148,16 @@ module _ (rows : List ℤ) (k : ℕ) where
   unfolding check_span_at each
   span_at_lem h = rw (span_row rows k h) (append-nil _)
 
-  known_none : (f : Found) → Known rows k f → f ≡ Nothing → known (sheet rows) (span_of rows k) ≡ none
-  known_none f g e = sym g.means ∙ ap (λ x. option (found_of x) none (λ a. some (activity_of rows a))) e
+  known_none : (f : Found) → Known rows k f → f ≡ Nothing → known (sheet rows) (span_of rows k) ≡ None
+  known_none f g e = sym g.means ∙ ap (λ x. option (found_of x) None (λ a. Some (activity_of rows a))) e
 
-  known_some : (f : Found) (a : ℕ) → Known rows k f → f ≡ At a → known (sheet rows) (span_of rows k) ≡ some (activity_of rows a)
-  known_some f a g e = sym g.means ∙ ap (λ x. option (found_of x) none (λ a. some (activity_of rows a))) e
+  known_some : (f : Found) (a : ℕ) → Known rows k f → f ≡ At a → known (sheet rows) (span_of rows k) ≡ Some (activity_of rows a)
+  known_some f a g e = sym g.means ∙ ap (λ x. option (found_of x) None (λ a. Some (activity_of rows a))) e
 
-  pub known_place : {f : Found} {a : ℕ} → Known rows k f → f ≡ At a → place_of rows 2 (num rows k 1) ≡ some a
+  pub known_place : {f : Found} {a : ℕ} → Known rows k f → f ≡ At a → place_of rows 2 (num rows k 1) ≡ Some a
   known_place {f} {a} g e = g.place a (ap found_of e)
 
-  pub known_self : {f : Found} {a : ℕ} → Known rows k f → f ≡ At a → place_of rows 2 (num rows a 1) ≡ some a
+  pub known_self : {f : Found} {a : ℕ} → Known rows k f → f ≡ At a → place_of rows 2 (num rows a 1) ≡ Some a
   known_self {a = a} g e = found_self rows 2 (num rows k 1) a (known_place g e)
 
   pub known_free : {f : Found} {a : ℕ} → Known rows k f → f ≡ At a → is_empty (requirements (sheet rows) (num rows a 1)) ≡ true
@@ -222,10 +222,10 @@ module _ (rows : List ℤ) (t : ℕ) where
       (each_keep (check_unplaced clock (sheet rows)) (λ a. eqb a.task (num rows t 1)) (collect (activity_at (sheet rows)) (row_count rows))
       ∙ each_collect (λ (a : Activity ℤ). cond (eqb a.task (num rows t 1)) (check_unplaced clock (sheet rows) a) []) (activity_at (sheet rows)) (row_count rows)))
 
-  pub task_itself : refusal_of rows ≡ none → t < row_count rows → is rows t 0 1 ≡ true → place_of rows 1 (num rows t 1) ≡ some t
+  pub task_itself : refusal_of rows ≡ None → t < row_count rows → is rows t 0 1 ≡ true → place_of rows 1 (num rows t 1) ≡ Some t
   task_itself acc l h = found_again rows (accepted rows acc) t 1 l refl h
 
-  module _ (q : place_of rows 1 (num rows t 1) ≡ some t) where
+  module _ (q : place_of rows 1 (num rows t 1) ≡ Some t) where
     at_row : (k : ℕ) (b : Bool) → owned_by rows t 2 k ≡ b → unplaced_at k ≡ cond b (check_unplaced clock (sheet rows) (activity_of rows k)) []
     unfolding unplaced_at each is
     at_row k b e = go (is rows k 0 2) refl (is rows k 2 (num rows t 1)) refl b (sym (of_task rows 2 t (num rows t 1) (unfold owner_kind in refl) q k) ∙ e)
@@ -241,10 +241,10 @@ module _ (rows : List ℤ) (t : ℕ) where
     unplaced_silent = record { still = λ k h. at_row k false h }
 
   pub unplaced_next : (s₀ : Sink) {n N k j : ℕ} {s s' : Sink} → s' ≡ emit s (check_unplaced clock (sheet rows) (activity_of rows k)) → First (owned_by rows t 2) (suc k) n j
-      → k < N → N ≡ n → Stands (owned_by rows t 2) n k → s ≡ emit s₀ (collect unplaced_at k) → place_of rows 1 (num rows t 1) ≡ some t → s' ≡ emit s₀ (collect unplaced_at j)
+      → k < N → N ≡ n → Stands (owned_by rows t 2) n k → s ≡ emit s₀ (collect unplaced_at k) → place_of rows 1 (num rows t 1) ≡ Some t → s' ≡ emit s₀ (collect unplaced_at j)
   unplaced_next s₀ {k = k} {s = s} g x l z st r q = emit_next unplaced_at s₀ x (unplaced_silent q) r (g ∙ ap (emit s) (sym (at_row q k true (st.here (omega arith)))))
 
-  pub activity_itself : {n N a : ℕ} → refusal_of rows ≡ none → a < N → N ≡ n → n ≡ row_count rows → Stands (owned_by rows t 2) n a → place_of rows 2 (num rows a 1) ≡ some a
+  pub activity_itself : {n N a : ℕ} → refusal_of rows ≡ None → a < N → N ≡ n → n ≡ row_count rows → Stands (owned_by rows t 2) n a → place_of rows 2 (num rows a 1) ≡ Some a
   unfolding owned_by
   activity_itself {a = a} acc l z y s =
       found_again rows (accepted rows acc) a 2 (omega arith) refl

@@ -2,7 +2,7 @@
 #![tactic(auto)]
 
 ghost use Rattle.std.specs.Prelude.{◌≡◌, true, false, ◌<◌, ◌≤◌, pos, length};
-ghost use Rattle.std.proofs.Math.Option.{none, some};
+ghost use Rattle.std.specs.Prelude.{None, Some};
 ghost use Rattle.std.specs.Int.Signed.{lt_z};
 ghost use Rattle.loops.specs.Lists.{given, option, is_empty, each};
 ghost use Rattle.calendar.specs.Clock.{clock};
@@ -32,7 +32,7 @@ use spans::Instant;
 
 // Whether the activity of row a holds no resource.
 fn is_free(rows: &[i64], owned: &[u16; 8810], a: usize) -> bool
-    requires { Owned rows.now owned.now × (place_of rows.now 2 (num rows.now a 1) ≡ some a) }
+    requires { Owned rows.now owned.now × (place_of rows.now 2 (num rows.now a 1) ≡ Some a) }
     ensures { result ≡ is_empty (requirements (sheet rows.now) (num rows.now a 1)) }
 {
     !owners::has_owned(rows, owned, a, 5)
@@ -58,7 +58,7 @@ fn known(rows: &[i64], links: &[u16; 1600], owned: &[u16; 8810], k: usize) -> Fo
 
 // Whether a known span above row k is of the activity of row a.
 fn is_seen(rows: &[i64], owned: &[u16; 8810], a: usize, k: usize) -> bool
-    requires { Owned rows.now owned.now × (place_of rows.now 2 (num rows.now a 1) ≡ some a) × (is_empty (requirements (sheet rows.now) (num rows.now a 1)) ≡ true) × (k ≤ row_count rows.now) }
+    requires { Owned rows.now owned.now × (place_of rows.now 2 (num rows.now a 1) ≡ Some a) × (is_empty (requirements (sheet rows.now) (num rows.now a 1)) ≡ true) × (k ≤ row_count rows.now) }
     ensures { result ≡ seen (sheet rows.now) (time_only_below (sheet rows.now) k) (num rows.now a 1) }
 {
     let task = rows::num_at(rows, a, 2);
@@ -74,7 +74,7 @@ fn is_seen(rows: &[i64], owned: &[u16; 8810], a: usize, k: usize) -> bool
 
 // What the activity of row a needs.
 fn work_of(rows: &[i64], a: usize) -> u64
-    requires { (refusal_of rows.now ≡ none) × (is rows.now a 0 2 ≡ true) }
+    requires { (refusal_of rows.now ≡ None) × (is rows.now a 0 2 ≡ true) }
     ensures value { result ≡ total_ms (activity_of rows.now a).duration }
     ensures bound { result ≤ 12000000000000 }
 {
@@ -86,7 +86,7 @@ fn work_of(rows: &[i64], a: usize) -> u64
 
 // Whether the span of row k has less working time than the activity of row a needs.
 fn is_short(rows: &[i64], a: usize, k: usize, w: &[u64; 2400], to: usize) -> bool
-    requires { (refusal_of rows.now ≡ none) × (is rows.now a 0 2 ≡ true) × (is rows.now k 0 24 ≡ true) × (length w.now ≡ 2400) × (calendar_of w.now 0 to ≡ windows (sheet rows.now) 16 (num rows.now a 1)) }
+    requires { (refusal_of rows.now ≡ None) × (is rows.now a 0 2 ≡ true) × (is rows.now k 0 24 ≡ true) × (length w.now ≡ 2400) × (calendar_of w.now 0 to ≡ windows (sheet rows.now) 16 (num rows.now a 1)) }
     ensures { result ≡ too_short clock (span_of rows.now k) (activity_of rows.now a) (windows (sheet rows.now) 16 (num rows.now a 1)) }
 {
     let work = work_of(rows, a);
@@ -126,7 +126,7 @@ fn is_early(rows: &[i64], k: usize, release: Instant) -> bool
 // The release of the task that the activity of row a is of.
 fn task_release(rows: &[i64], links: &[u16; 1600], a: usize) -> Instant
     requires { Linked rows.now links.now × (a < row_count rows.now) × (is rows.now a 0 2 ≡ true) }
-    ensures { meant result ≡ option (task_place rows.now (num rows.now a 2)) none (λ t. maybe_at rows.now t 3) }
+    ensures { meant result ≡ option (task_place rows.now (num rows.now a 2)) None (λ t. maybe_at rows.now t 3) }
 {
     let Found::At(t) = owners::task_of(rows, links, a) else {
         return Instant::Nothing;
@@ -157,7 +157,7 @@ fn check_first(
     out: &mut [i64],
     n: usize,
 ) -> usize
-    requires { Linked rows.now links.now × Owned rows.now owned.now × (refusal_of rows.now ≡ none) × (is rows.now k 0 24 ≡ true) × (place_of rows.now 2 (num rows.now k 1) ≡ some a) }
+    requires { Linked rows.now links.now × Owned rows.now owned.now × (refusal_of rows.now ≡ None) × (is rows.now k 0 24 ≡ true) × (place_of rows.now 2 (num rows.now k 1) ≡ Some a) }
     ensures { sink out.new result ≡ emit (sink out.old n) (check_first clock (sheet rows.now) (span_of rows.now k) (activity_of rows.now a)) }
 {
     let mut w = [0u64; 2400];
@@ -182,7 +182,7 @@ fn check_span(
     out: &mut [i64],
     n: usize,
 ) -> usize
-    requires { Linked rows.now links.now × Owned rows.now owned.now × (refusal_of rows.now ≡ none) × (k < row_count rows.now) × (is rows.now k 0 24 ≡ true) }
+    requires { Linked rows.now links.now × Owned rows.now owned.now × (refusal_of rows.now ≡ None) × (k < row_count rows.now) × (is rows.now k 0 24 ≡ true) }
     ensures { sink out.new result ≡ emit (sink out.old n) (check_span_at clock (sheet rows.now) k) }
 {
     let id = rows::id_at(rows, k, 1);
@@ -221,7 +221,7 @@ fn check_spans(
 
 // The activity of row a, if it holds no resource and has no span.
 fn check_unplaced(rows: &[i64], owned: &[u16; 8810], a: usize, out: &mut [i64], n: usize) -> usize
-    requires { Owned rows.now owned.now × (place_of rows.now 2 (num rows.now a 1) ≡ some a) }
+    requires { Owned rows.now owned.now × (place_of rows.now 2 (num rows.now a 1) ≡ Some a) }
     ensures { sink out.new result ≡ emit (sink out.old n) (check_unplaced clock (sheet rows.now) (activity_of rows.now a)) }
 {
     if is_free(rows, owned, a) {
@@ -234,7 +234,7 @@ fn check_unplaced(rows: &[i64], owned: &[u16; 8810], a: usize, out: &mut [i64], 
 
 // The activities of the task of row t.
 fn check_task(rows: &[i64], owned: &[u16; 8810], t: usize, out: &mut [i64], n: usize) -> usize
-    requires { Owned rows.now owned.now × (refusal_of rows.now ≡ none) × (t < row_count rows.now) × (is rows.now t 0 1 ≡ true) }
+    requires { Owned rows.now owned.now × (refusal_of rows.now ≡ None) × (t < row_count rows.now) × (is rows.now t 0 1 ≡ true) }
     ensures { sink out.new result ≡ emit (sink out.old n) (each (check_unplaced clock (sheet rows.now)) (activities_of (sheet rows.now) (num rows.now t 1))) }
 {
     let count = rows::row_count(rows);

@@ -3,7 +3,7 @@ use Prim.Native.Nat.{ℕ, zero, suc, ◌+◌, ◌*◌, ◌-◌, ◌<◌, ◌≤�
 use mathlib.Core.Path.{◌≡◌, refl, ap, sym, ◌∙◌}
 use mathlib.Core.Bool.{Bool, true, false, cond, not, ◌||◌}
 use mathlib.Core.List.{List, [], ◌∷◌, ◌++◌, append-nil}
-use mathlib.Core.Option.{some}
+use Rattle.std.specs.Prelude.{Some}
 use native.Mathlib.Omega.{arith}
 use native.Mathlib.Decide.{ℕ_discrete}
 use borrow.Author.Tests.{eq-eqb, ne_eqb, lt-ltb, le-ltb}
@@ -31,9 +31,9 @@ use Rattle.check3_parts.proofs.Works.{parts_more, work_is, part_on, part_whole, 
 pub total_more : (g : ℤ → ℕ → ℕ) (l : List Part) (p : Part) → measured g (parts_of (l ++ p ∷ [])) + option (work_of l p.index) 0 (g p.index) ≡ measured g (parts_of l) + g p.index p.work
 total_more g l p = rw (parts_more l p, work_is l p.index) (total_upsert lt_z integer_order g p.index p.work (λ w. p.work) (parts_of l))
 
-pub decoded_some : (b : ℕ) → (b ≡ 0 → ⊥) → decoded b ≡ some (b - 1)
+pub decoded_some : (b : ℕ) → (b ≡ 0 → ⊥) → decoded b ≡ Some (b - 1)
 decoded_some zero h = absurd (h refl)
-decoded_some (suc w) h = ap some (omega arith)
+decoded_some (suc w) h = ap Some (omega arith)
 
 module _ (rows : List ℤ) (x mode : ℕ) where
   bit : (b : Bool) → cond b 1 0 ≤ 4000000000000

@@ -3,7 +3,7 @@ use Prim.Native.Nat.{ℕ, suc, ◌<◌, ◌≤◌}
 use mathlib.Core.Path.{◌≡◌, refl, ap, ap₂, sym, ◌∙◌}
 use mathlib.Core.Bool.{Bool, beq, true, false, cond, not, ◌&&◌, true≢false, or-false}
 use mathlib.Core.List.{List, [], ◌∷◌, ◌++◌, append-nil}
-use mathlib.Core.Option.{none, some}
+use Rattle.std.specs.Prelude.{None, Some}
 use lib.Dec.{eqb}
 use lib.IntN.{ℤ}
 use Rattle.loops.specs.Numbers.{to_nat}
@@ -137,7 +137,7 @@ module _ (rows : List ℤ) (acc : Accepted rows) where
         go true e = rw (is_num rows k 0 4 e) (head_given (eqb (num rows k 1) (num rows o 1)) (split_of rows k))
         go false e = rw e
 
-    split_is : split (sheet rows) (num rows o 1) ≡ option (first_place (owned_by rows o 4) (row_count rows)) none (λ k. some (split_of rows k))
+    split_is : split (sheet rows) (num rows o 1) ≡ option (first_place (owned_by rows o 4) (row_count rows)) None (λ k. Some (split_of rows k))
     unfolding split
     split_is = head_collect split_at (row_count rows) ∙ first_same _ _ (row_count rows) split_at_lem ∙ first_placed (owned_by rows o 4) (split_of rows) (row_count rows)
 
@@ -154,14 +154,14 @@ module _ (rows : List ℤ) (acc : Accepted rows) where
     activity_told_lem s {x = x} g f q r =
         emit_then _ _ s q r
         ∙ ap (emit s) (sym (ap (λ y. option y [] (check_split (sheet rows) (activity_of rows o)))
-        (split_is ∙ ap (λ y. option y none (λ k. some (split_of rows k))) (sym (rw g at f)))
+        (split_is ∙ ap (λ y. option y None (λ k. Some (split_of rows k))) (sym (rw g at f)))
         ∙ activity_with x))
 
     pub activity_quiet : (s : Sink) {f : Found} → f ≡ Nothing → found_of f ≡ first_place (owned_by rows o 4) (row_count rows) → s ≡ emit s (activity_findings rows o)
     unfolding check_activity_parts
     activity_quiet s g f =
         sym (ap (emit s) (ap (λ y. option y [] (check_split (sheet rows) (activity_of rows o)))
-        (split_is ∙ ap (λ y. option y none (λ k. some (split_of rows k))) (sym (rw g at f)))) ∙ emit_none s)
+        (split_is ∙ ap (λ y. option y None (λ k. Some (split_of rows k))) (sym (rw g at f)))) ∙ emit_none s)
 
   whole : collect (only (of_kind rows 1) (task_findings rows)) (row_count rows) ≡ check_parts (sheet rows)
   unfolding check_parts task_findings

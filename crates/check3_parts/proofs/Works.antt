@@ -3,7 +3,7 @@ use Prim.Native.Nat.{ℕ, zero, suc, ◌+◌, ◌<◌, ◌≤◌}
 use mathlib.Core.Path.{◌≡◌, refl, ap, ap₂, sym, ◌∙◌}
 use mathlib.Core.Bool.{Bool, true, false, cond, not, ◌&&◌, and_comm}
 use mathlib.Core.List.{List, [], ◌∷◌, ◌++◌, foldl, foldl-append, append-nil, append_assoc}
-use mathlib.Core.Option.{none, some}
+use Rattle.std.specs.Prelude.{None, Some}
 use native.Mathlib.Omega.{arith}
 use native.Mathlib.Numerals.{add-one}
 use lib.Dec.{eqb}
@@ -49,7 +49,7 @@ pub work_is : (l : List Part) (i : ℤ) → work_of l i ≡ lookup lt_z i (parts
 unfolding work_of parts_of
 work_is l i = scan_is lt_z integer_order i (parts_of l) (sorted_from l [] (unfold sorted in refl))
 
-pub work_more : (l : List Part) (p : Part) (i : ℤ) → work_of (l ++ p ∷ []) i ≡ cond (alike lt_z i p.index) (some p.work) (work_of l i)
+pub work_more : (l : List Part) (p : Part) (i : ℤ) → work_of (l ++ p ∷ []) i ≡ cond (alike lt_z i p.index) (Some p.work) (work_of l i)
 work_more l p i = rw (work_is (l ++ p ∷ []) i, parts_more l p, work_is l i) (lookup_upsert lt_z integer_order p.index p.work (λ w. p.work) i (parts_of l))
 
 -- the work of an index, after a booking
@@ -101,7 +101,7 @@ module _ (rows : List ℤ) (o : ℕ) where
     unfolding has_part key_at
     same_part i k a b p q =
         and_comm (not (lt_z (cell rows k 7) (cell rows i 7))) (not (lt_z (cell rows i 7) (cell rows k 7)))
-        ∙ sym (ap₂ same_index (ap (λ t. cond t none (some (cell rows i 7))) (not_true (is_none (cell rows i 7)) p)) (ap (λ t. cond t none (some (cell rows k 7))) (not_true (is_none (cell rows k 7)) q)))
+        ∙ sym (ap₂ same_index (ap (λ t. cond t None (Some (cell rows i 7))) (not_true (is_none (cell rows i 7)) p)) (ap (λ t. cond t None (Some (cell rows k 7))) (not_true (is_none (cell rows k 7)) q)))
         ∙ same_key (cell rows i 7) (cell rows k 7) (index_class rows acc i (owned_kind rows o 23 i a)) (index_class rows acc k (owned_kind rows o 23 k b))
 
     module _ (k : ℕ) (b : owned_by rows o 23 k ≡ true) (q : has_part rows k ≡ true) where
@@ -113,7 +113,7 @@ module _ (rows : List ℤ) (o : ℕ) where
           a : owned_by rows o 23 i ≡ true
           a = at.here (omega arith)
 
-          pick : (c : Bool) → decoded (cond c (num rows i 8 + 1) e) ≡ cond c (some (num rows i 8)) (decoded e)
+          pick : (c : Bool) → decoded (cond c (num rows i 8 + 1) e) ≡ cond c (Some (num rows i 8)) (decoded e)
           pick true = rw add-one
           pick false = refl
 
@@ -122,7 +122,7 @@ module _ (rows : List ℤ) (o : ℕ) where
           go true h =
               ap (λ c. decoded (cond (c && eqb (key_at rows i) (key_at rows k)) (num rows i 8 + 1) e)) h
               ∙ pick (eqb (key_at rows i) (key_at rows k))
-              ∙ ap₂ (λ c d. cond c (some (num rows i 8)) d) (sym (same_part i k a b h q)) r
+              ∙ ap₂ (λ c d. cond c (Some (num rows i 8)) d) (sym (same_part i k a b h q)) r
               ∙ sym (work_more (parts_below rows o i) (part_of rows i) (cell rows k 7))
               ∙ ap (λ l. work_of (parts_below rows o i ++ l) (cell rows k 7)) (sym (part_on i a h))
           go false h =

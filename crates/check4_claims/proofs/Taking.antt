@@ -3,7 +3,7 @@ use Prim.Native.Nat.{ℕ, ◌+◌, ◌<◌, ◌≤◌}
 use mathlib.Core.Path.{◌≡◌, refl, ap, sym, ◌∙◌}
 use mathlib.Core.Bool.{Bool, true, false, cond, not, ◌&&◌, true≢false, and-false}
 use mathlib.Core.List.{List, []}
-use mathlib.Core.Option.{Option, none, some}
+use Rattle.std.specs.Prelude.{Option, None, Some}
 use native.Mathlib.Omega.{arith}
 use lib.Dec.{eqb, ltb}
 use lib.IntN.{ℤ}
@@ -31,7 +31,7 @@ row_low h l = omega (arith, h.short)
 
 -- a row that was found
 -- a skill of the requirement
-pub lacking_one : (rows : List ℤ) (x k : ℕ) {r v : ℕ} {b : Bool} (s : Sink) {s' : Sink} → place_of rows 11 x ≡ some r → v ≡ num rows k 3 → b ≡ has_skill rows r v
+pub lacking_one : (rows : List ℤ) (x k : ℕ) {r v : ℕ} {b : Bool} (s : Sink) {s' : Sink} → place_of rows 11 x ≡ Some r → v ≡ num rows k 3 → b ≡ has_skill rows r v
     → s' ≡ emit s (given (not b) (skill_mismatch 4 x)) → s' ≡ emit s (lacking_for rows x k)
 unfolding lacking_for
 lacking_one rows x k s p e f h = rw (p, ← e, ← f) h
@@ -40,36 +40,36 @@ pub lacking_of_lem : (rows : List ℤ) (q k : ℕ) {x : ℕ} (s : Sink) {s' : Si
 lacking_of_lem rows q k s e h = rw e at h
 
 module _ (rows : List ℤ) (q k : ℕ) {f : Found} (e : found_of f ≡ place_of rows 11 (num rows k 3)) where
-  pub candidate_none : f ≡ Nothing → none ≡ cond (candidate_of rows q (num rows k 3)) (place_of rows 11 (num rows k 3)) none
+  pub candidate_none : f ≡ Nothing → None ≡ cond (candidate_of rows q (num rows k 3)) (place_of rows 11 (num rows k 3)) None
   candidate_none h = rw (← e, h)
 
   module _ {r : ℕ} {b : Bool} (g : f ≡ At r) (s : b ≡ is_candidate (sheet rows) (requirement_of rows q) (resource_of rows r)) where
-    pub candidate_yes : b ≡ true → some r ≡ cond (candidate_of rows q (num rows k 3)) (place_of rows 11 (num rows k 3)) none
+    pub candidate_yes : b ≡ true → Some r ≡ cond (candidate_of rows q (num rows k 3)) (place_of rows 11 (num rows k 3)) None
     candidate_yes h = rw (← e, g, sym s ∙ h)
 
-    pub candidate_no : b ≡ false → none ≡ cond (candidate_of rows q (num rows k 3)) (place_of rows 11 (num rows k 3)) none
+    pub candidate_no : b ≡ false → None ≡ cond (candidate_of rows q (num rows k 3)) (place_of rows 11 (num rows k 3)) None
     candidate_no h = rw (← e, g, sym s ∙ h)
 
 module _ (rows : List ℤ) (q : ℕ) (free : List ℕ) (k : ℕ) {b : Bool} (e : b ≡ eqb (get_or free k 0) 1) where
-  pub claimant_marked : {o : Option ℕ} → b ≡ true → o ≡ cond (candidate_of rows q (num rows k 3)) (place_of rows 11 (num rows k 3)) none
-      → o ≡ cond (claimable rows q free k) (place_of rows 11 (num rows k 3)) none
+  pub claimant_marked : {o : Option ℕ} → b ≡ true → o ≡ cond (candidate_of rows q (num rows k 3)) (place_of rows 11 (num rows k 3)) None
+      → o ≡ cond (claimable rows q free k) (place_of rows 11 (num rows k 3)) None
   unfolding claimable
   claimant_marked h s = rw (← e, h) s
 
-  pub claimant_unmarked : b ≡ false → none ≡ cond (claimable rows q free k) (place_of rows 11 (num rows k 3)) none
+  pub claimant_unmarked : b ≡ false → None ≡ cond (claimable rows q free k) (place_of rows 11 (num rows k 3)) None
   unfolding claimable
   claimant_unmarked h = rw (← e, h)
 
-module _ (rows : List ℤ) (q : ℕ) (free : List ℕ) (k : ℕ) {f : Found} (e : found_of f ≡ cond (claimable rows q free k) (place_of rows 11 (num rows k 3)) none) where
+module _ (rows : List ℤ) (q : ℕ) (free : List ℕ) (k : ℕ) {f : Found} (e : found_of f ≡ cond (claimable rows q free k) (place_of rows 11 (num rows k 3)) None) where
   module _ {r : ℕ} (h : f ≡ At r) where
     claim_may : claimable rows q free k ≡ true
     claim_may = go (claimable rows q free k) (sym (ap found_of h) ∙ e)
       where
-        go : (b : Bool) → some r ≡ cond b (place_of rows 11 (num rows k 3)) none → b ≡ true
+        go : (b : Bool) → Some r ≡ cond b (place_of rows 11 (num rows k 3)) None → b ≡ true
         go true f = refl
         go false f = absurd (let z : ◌≡◌ {A = ℕ} 0 1 = cc in omega arith)
 
-    pub claim_place : {x : ℕ} → x ≡ num rows k 3 → place_of rows 11 x ≡ some r
+    pub claim_place : {x : ℕ} → x ≡ num rows k 3 → place_of rows 11 x ≡ Some r
     claim_place n = rw n (sym (rw claim_may at (sym (ap found_of h) ∙ e)))
 
     pub claim_takes : (units : ℕ) {m : ℕ} → m ≡ num rows q 3 → units < m → takes rows q free units k ≡ true
@@ -81,7 +81,7 @@ module _ (rows : List ℤ) (q : ℕ) (free : List ℕ) (k : ℕ) {f : Found} (e 
   unfolding takes claimable
   claim_none units h = go (claimable rows q free k) refl (sym (ap found_of h) ∙ e)
     where
-      go : (b : Bool) → claimable rows q free k ≡ b → none ≡ cond b (place_of rows 11 (num rows k 3)) none → (ltb units (num rows q 3) && claimable rows q free k) ≡ false
+      go : (b : Bool) → claimable rows q free k ≡ b → None ≡ cond b (place_of rows 11 (num rows k 3)) None → (ltb units (num rows q 3) && claimable rows q free k) ≡ false
       go true h f = absurd (true≢false (sym (and_right (eqb (get_or free k 0) 1) (candidate_of rows q (num rows k 3)) h) ∙ (rw (← f))))
       go false h f = rw h (and-false (ltb units (num rows q 3)))
 

@@ -3,7 +3,7 @@
 #![tactic(auto)]
 
 ghost use Rattle.std.specs.Prelude.{◌≡◌, true, cond, [], ◌+◌, ◌<◌, ◌≤◌, length, get_or, set, eqb};
-ghost use Rattle.std.proofs.Math.Option.{none, some};
+ghost use Rattle.std.specs.Prelude.{None, Some};
 ghost use Rattle.findings.specs.inner.Sink.{sink, emit};
 ghost use Rattle.rows.specs.Cells.{row_count, num, is};
 ghost use Rattle.sheet.specs.Places.{resource_place};
@@ -33,7 +33,7 @@ fn free_in(rows: &[i64], owned: &[u16; 8810], held: &[u8; 800], o: usize, p: u64
 // The row of booking k's resource, if it is a candidate of the requirement at row q.
 fn candidate(rows: &[i64], links: &[u16; 1600], owned: &[u16; 8810], q: usize, k: usize) -> Found
     requires { Linked rows.now links.now × Owned rows.now owned.now × (q < row_count rows.now) × (is rows.now q 0 5 ≡ true) × (k < row_count rows.now) × (is rows.now k 0 23 ≡ true) }
-    ensures { found_of result ≡ cond (candidate_of rows.now q (num rows.now k 3)) (resource_place rows.now (num rows.now k 3)) none }
+    ensures { found_of result ≡ cond (candidate_of rows.now q (num rows.now k 3)) (resource_place rows.now (num rows.now k 3)) None }
 {
     let Found::At(r) = owners::booked_resource(rows, links, k) else {
         return Found::Nothing;
@@ -70,7 +70,7 @@ fn report_lacking(
     out: &mut [i64],
     n: usize,
 ) -> usize
-    requires { Owned rows.now owned.now × (q < row_count rows.now) × (resource_place rows.now x ≡ some r) × (x < 9223372036854775808) }
+    requires { Owned rows.now owned.now × (q < row_count rows.now) × (resource_place rows.now x ≡ Some r) × (x < 9223372036854775808) }
     ensures { sink out.new result ≡ emit (sink out.old n) (lacking_of rows.now q x) }
 {
     let end = rows::row_count(rows);
@@ -114,7 +114,7 @@ fn claimant(
     k: usize,
 ) -> Found
     requires { Linked rows.now links.now × Owned rows.now owned.now × (q < row_count rows.now) × (is rows.now q 0 5 ≡ true) × (k < row_count rows.now) × (is rows.now k 0 23 ≡ true) }
-    ensures { found_of result ≡ cond (claimable rows.now q free.now k) (resource_place rows.now (num rows.now k 3)) none }
+    ensures { found_of result ≡ cond (claimable rows.now q free.now k) (resource_place rows.now (num rows.now k 3)) None }
 {
     if is_marked(free, k) {
         return candidate(rows, links, owned, q, k);

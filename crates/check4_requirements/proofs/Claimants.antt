@@ -3,7 +3,7 @@ use Prim.Native.Nat.{ℕ, zero, suc, ◌<◌}
 use mathlib.Core.Path.{◌≡◌, refl, ap, ap₂, sym, ◌∙◌}
 use mathlib.Core.Bool.{Bool, true, false, cond, not, ◌&&◌, true≢false}
 use mathlib.Core.List.{List, [], ◌∷◌, ◌++◌, map}
-use mathlib.Core.Option.{Option, none, some}
+use Rattle.std.specs.Prelude.{Option, None, Some}
 use native.Mathlib.Omega.{arith}
 use lib.Dec.{eqb, ltb}
 use lib.ListN.{length}
@@ -65,11 +65,11 @@ module _ (rows : List ℤ) (acc : Accepted rows) where
   module _ (x : ℕ) (o : owner_kind x ≡ 11) (cl : (k : ℕ) → lacks (class_of x 1) rows k 1 ≡ is_absent (place_of rows 11 (num rows k 1)))
       (plain : (r k : ℕ) → is rows k 0 x ≡ true → given (eqb (num_at (sheet rows) k 1) r) (num_at (sheet rows) k 2) ≡ given (eqb (num rows k 1) r) (num rows k 2)) where
     -- rows of the kind name a resource of the sheet
-    known : (k : ℕ) → k < row_count rows → is rows k 0 x ≡ true → place_of rows 11 (num rows k 1) ≡ none → ⊥
+    known : (k : ℕ) → k < row_count rows → is rows k 0 x ≡ true → place_of rows 11 (num rows k 1) ≡ None → ⊥
     known k l e q = true≢false (sym (cl k ∙ ap is_absent q) ∙ has_owner rows acc k x 1 l e)
 
     -- a resource that is not in the sheet is not named
-    unnamed : (r k : ℕ) → k < row_count rows → place_of rows 11 r ≡ none → (is rows k 0 x && is rows k 1 r) ≡ false
+    unnamed : (r k : ℕ) → k < row_count rows → place_of rows 11 r ≡ None → (is rows k 0 x && is rows k 1 r) ≡ false
     unnamed r k l q = go (is rows k 0 x) refl
       where
         go : (b : Bool) → is rows k 0 x ≡ b → (b && is rows k 1 r) ≡ false
@@ -82,8 +82,8 @@ module _ (rows : List ℤ) (acc : Accepted rows) where
       where
         go : (y : Option ℕ) → place_of rows 11 r ≡ y
             → collect (λ k. cond (is rows k 0 x && is rows k 1 r) (num rows k 2 ∷ []) []) (row_count rows) ≡ option y [] (λ a. along rows a x 2)
-        go none q = none_collect _ (row_count rows) (λ k l. ap (λ b. cond b (num rows k 2 ∷ []) []) (unnamed r k l q))
-        go (some a) q = unfold only in collect_ext _ _ (row_count rows) (λ k l. ap (λ b. cond b (num rows k 2 ∷ []) []) (sym (of_resource rows x a r o q k)))
+        go None q = none_collect _ (row_count rows) (λ k l. ap (λ b. cond b (num rows k 2 ∷ []) []) (unnamed r k l q))
+        go (Some a) q = unfold only in collect_ext _ _ (row_count rows) (λ k l. ap (λ b. cond b (num rows k 2 ∷ []) []) (sym (of_resource rows x a r o q k)))
 
         pick : (b : Bool) (k : ℕ) → given b (num rows k 2) ≡ cond b (num rows k 2 ∷ []) []
         pick true k = refl
@@ -99,8 +99,8 @@ module _ (rows : List ℤ) (acc : Accepted rows) where
   has_skill_lem r v = ap (among v) (listed_along 12 (unfold owner_kind in refl) (λ k. refl) (λ v k e. rw (is_num rows k 0 12 e)) r) ∙ go (place_of rows 11 r)
     where
       go : (y : Option ℕ) → among v (option y [] (λ a. along rows a 12 2)) ≡ option y false (λ a. has_skill rows a v)
-      go none = unfold any_of in refl
-      go (some a) = skill_along rows a v
+      go None = unfold any_of in refl
+      go (Some a) = skill_along rows a v
 
   pub companions_along : (r : ℕ) → companions (sheet rows) r ≡ option (place_of rows 11 r) [] (λ a. along rows a 13 2)
   unfolding lacks
@@ -165,10 +165,10 @@ module _ (rows : List ℤ) (acc : Accepted rows) where
         go : (y : Option ℕ) → place_of rows 11 x ≡ y
             → any_below (chosen x) (row_count rows)
             ≡ option (place_of rows 11 x) false (λ r. is_candidate (sheet rows) (requirement_of rows q) (resource_of rows r))
-        go none e =
+        go None e =
             none_below (chosen x) (row_count rows) (λ k m. unfold place_of in ap (λ b. b && is_candidate (sheet rows) (requirement_of rows q) (resource_of rows k)) (place_none (named rows 11 x) (row_count rows) e k m))
             ∙ sym (rw e)
-        go (some a) e =
+        go (Some a) e =
             let f = placed rows 11 x a e in
             any_at (chosen x) (row_count rows) a f.within (λ k m d. other x a f k m d (named rows 11 x k) refl)
             ∙ ap (λ b. b && is_candidate (sheet rows) (requirement_of rows q) (resource_of rows a)) (mine x a f)

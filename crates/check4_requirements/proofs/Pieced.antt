@@ -3,7 +3,7 @@ use Prim.Native.Nat.{ℕ, suc, ◌<◌, ◌≤◌}
 use mathlib.Core.Path.{◌≡◌, refl, ap, ap₂, sym, ◌∙◌}
 use mathlib.Core.Bool.{Bool, true, false, cond, not, ◌&&◌, ◌||◌}
 use mathlib.Core.List.{List, [], ◌∷◌, ◌++◌, foldl}
-use mathlib.Core.Option.{Option, none, some}
+use Rattle.std.specs.Prelude.{Option, None, Some}
 use native.Mathlib.Omega.{arith}
 use native.Mathlib.Decide.{dec_lt}
 use lib.Dec.{eqb, ltb}
@@ -51,12 +51,12 @@ use Rattle.check4_requirements.proofs.Lists.{only_same, both_same, map_only, kee
 -- ---- part indices as numbers
 
 number : Option ℤ → ℕ
-number none = 0
-number (some i) = index_key i
+number None = 0
+number (Some i) = index_key i
 
 valid : Option ℤ → Bool
-valid none = true
-valid (some i) = in_class n?_c i && not (is_none i)
+valid None = true
+valid (Some i) = in_class n?_c i && not (is_none i)
 
 abbrev absent : ℤ
 absent = negsuc 9223372036854775807
@@ -69,22 +69,22 @@ absent_key : index_key absent ≡ 0
 unfolding index_key
 absent_key = refl
 
-absent_in : index_in absent ≡ none
+absent_in : index_in absent ≡ None
 unfolding is_none between
 absent_in = refl
 
-some_in : (i : ℤ) → is_none i ≡ false → index_in i ≡ some i
-some_in i e = ap (λ b. cond b none (some i)) e
+some_in : (i : ℤ) → is_none i ≡ false → index_in i ≡ Some i
+some_in i e = ap (λ b. cond b None (Some i)) e
 
 order : (x y : Option ℤ) → valid x ≡ true → valid y ≡ true → before_index x y ≡ ltb (number x) (number y)
 unfolding valid number
-order none none a b = refl
-order (some i) none a b = sym (le-ltb (index_key i) 0 (omega arith))
-order none (some j) a b =
+order None None a b = refl
+order (Some i) None a b = sym (le-ltb (index_key i) 0 (omega arith))
+order None (Some j) a b =
     let c : in_class n?_c j ≡ true = and_left (in_class n?_c j) (not (is_none j)) b in
     let d : is_none j ≡ false = not_true (is_none j) (and_right (in_class n?_c j) (not (is_none j)) b) in
     ap₂ before_index (sym absent_in) (sym (some_in j d)) ∙ before_key absent j absent_class c ∙ ap (λ k. ltb k (index_key j)) absent_key
-order (some i) (some j) a b =
+order (Some i) (Some j) a b =
     let c : in_class n?_c i ≡ true = and_left (in_class n?_c i) (not (is_none i)) a in
     let d : is_none i ≡ false = not_true (is_none i) (and_right (in_class n?_c i) (not (is_none i)) a) in
     let e : in_class n?_c j ≡ true = and_left (in_class n?_c j) (not (is_none j)) b in
@@ -95,7 +95,7 @@ valid_in : (x : ℤ) → in_class n?_c x ≡ true → valid (index_in x) ≡ tru
 unfolding valid
 valid_in x c = go (is_none x) refl
   where
-    go : (b : Bool) → is_none x ≡ b → valid (cond b none (some x)) ≡ true
+    go : (b : Bool) → is_none x ≡ b → valid (cond b None (Some x)) ≡ true
     go true e = refl
     go false e = ap₂ ◌&&◌ c (ap not e)
 
@@ -103,10 +103,10 @@ number_in : (x : ℤ) → in_class n?_c x ≡ true → number (index_in x) ≡ i
 unfolding number
 number_in x c = go (is_none x) refl
   where
-    go : (b : Bool) → is_none x ≡ b → number (cond b none (some x)) ≡ index_key x
+    go : (b : Bool) → is_none x ≡ b → number (cond b None (Some x)) ≡ index_key x
     go true e =
-        let f : same_index none none ≡ eqb (index_key x) 0 =
-        ap₂ same_index (sym (ap (λ b. cond b none (some x)) e)) (sym absent_in) ∙ same_key x absent c absent_class ∙ ap (eqb (index_key x)) absent_key in
+        let f : same_index None None ≡ eqb (index_key x) 0 =
+        ap₂ same_index (sym (ap (λ b. cond b None (Some x)) e)) (sym absent_in) ∙ same_key x absent c absent_class ∙ ap (eqb (index_key x)) absent_key in
         sym (eqb-true (index_key x) 0 (sym f))
     go false e = refl
 
@@ -198,15 +198,15 @@ module _ (rows : List ℤ) (acc : Accepted rows) (o : ℕ) (l : o < row_count ro
   unfolding owns
   keys_any = go (first_place (owned_by rows o 23) (row_count rows)) refl
     where
-      off : (p : ℕ) → first_place (owned_by rows o 23) (row_count rows) ≡ none → key_below rows o (row_count rows) p ≡ false
+      off : (p : ℕ) → first_place (owned_by rows o 23) (row_count rows) ≡ None → key_below rows o (row_count rows) p ≡ false
       off p e = unfold key_below both in none_below _ (row_count rows) (λ k m. ap (λ b. b && key_is rows p k) (place_none (owned_by rows o 23) (row_count rows) e k m))
 
       on : (k : ℕ) → k < row_count rows → owned_by rows o 23 k ≡ true → key_below rows o (row_count rows) (key_at rows k) ≡ true
       on k m e = unfold key_below both key_is in sym (any_hit _ k (row_count rows) (row_count rows) m refl (ap₂ ◌&&◌ e (eq-eqb (key_at rows k) (key_at rows k) refl)))
 
       go : (y : Option ℕ) → first_place (owned_by rows o 23) (row_count rows) ≡ y → any_below (key_below rows o (row_count rows)) keys ≡ any_below (owned_by rows o 23) (row_count rows)
-      go none e = none_below _ keys (λ p _. off p e) ∙ sym (none_below _ (row_count rows) (λ k m. place_none (owned_by rows o 23) (row_count rows) e k m))
-      go (some k) e =
+      go None e = none_below _ keys (λ p _. off p e) ∙ sym (none_below _ (row_count rows) (λ k m. place_none (owned_by rows o 23) (row_count rows) e k m))
+      go (Some k) e =
           let f = found_at (owned_by rows o 23) (row_count rows) k e in
           sym (any_hit _ (key_at rows k) keys keys (key_below_lem k f.0 f.1) refl (on k f.0 f.1))
           ∙ any_hit (owned_by rows o 23) k (row_count rows) (row_count rows) f.0 refl f.1
@@ -283,7 +283,7 @@ module _ (rows : List ℤ) (acc : Accepted rows) (o : ℕ) (l : o < row_count ro
     from_first [] = refl
     from_first (x ∷ m) = refl
 
-    first_is : head (piece_at p) ≡ option (first_place (both (owned_by rows o 23) (key_is rows p)) (row_count rows)) none (λ j. some (booking rows j))
+    first_is : head (piece_at p) ≡ option (first_place (both (owned_by rows o 23) (key_is rows p)) (row_count rows)) None (λ j. Some (booking rows j))
     unfolding both only
     first_is =
         head_collect (only (owned_by rows o 23) (λ k. given (key_is rows p k) (booking rows k))) (row_count rows)
@@ -306,7 +306,7 @@ module _ (rows : List ℤ) (acc : Accepted rows) (o : ℕ) (l : o < row_count ro
     unfolding apart
     apart_is = from_first (piece_at p) ∙ ap (λ y. option y false (λ x. any_of (apart_from x) (piece_at p))) first_is ∙ go (first_place (both (owned_by rows o 23) (key_is rows p)) (row_count rows))
       where
-        go : (y : Option ℕ) → option (option y none (λ j. some (booking rows j))) false (λ x. any_of (apart_from x) (piece_at p))
+        go : (y : Option ℕ) → option (option y None (λ j. Some (booking rows j))) false (λ x. any_of (apart_from x) (piece_at p))
             ≡ option y false (λ j. any_below (both (owned_by rows o 23) (differs_in rows p j)) (row_count rows))
-        go none = refl
-        go (some j) = differ_is j
+        go None = refl
+        go (Some j) = differ_is j

@@ -3,7 +3,7 @@ use Prim.Native.Nat.{ℕ, ◌<◌}
 use mathlib.Core.Path.{◌≡◌, refl, ap, ap₂, sym, ◌∙◌}
 use mathlib.Core.Bool.{Bool, true, false, cond, not, ◌&&◌}
 use mathlib.Core.List.{List, [], ◌∷◌, ◌++◌, append-nil}
-use mathlib.Core.Option.{Option, none, some}
+use Rattle.std.specs.Prelude.{Option, None, Some}
 use lib.Dec.{eqb}
 use lib.IntN.{ℤ}
 use borrow.Author.Tests.{lt-ltb}
@@ -61,8 +61,8 @@ module _ (rows : List ℤ) (acc : Accepted rows) where
         go : (y : Option ℕ)
             → each (λ c. given (not (among c (assigned rows acc o l h p))) (requirement_unfilled 4 (num rows o 1))) (option y [] (λ r. along rows r 13 2))
             ≡ option y [] (λ r. missing rows o p (num rows o 1) r)
-        go none = unfold each in refl
-        go (some r) =
+        go None = unfold each in refl
+        go (Some r) =
             each_only (owned_by rows r 13) (λ j. num rows j 2 ∷ []) (row_count rows) (λ c. given (not (among c (assigned rows acc o l h p))) (requirement_unfilled 4 (num rows o 1)))
             ∙ only_same _ _ _ (row_count rows) (λ j m f. given_each true (num rows j 2) (λ c. given (not (among c (assigned rows acc o l h p))) (requirement_unfilled 4 (num rows o 1)))
             ∙ ap (λ b. given (not b) (requirement_unfilled 4 (num rows o 1))) (assigns_is p (num rows j 2)))

@@ -3,7 +3,7 @@ use Prim.Native.Nat.{ℕ, suc, ◌<◌}
 use mathlib.Core.Path.{◌≡◌, refl, ap, sym, ◌∙◌}
 use mathlib.Core.Bool.{Bool, true, false, cond}
 use mathlib.Core.List.{List, [], append-nil}
-use mathlib.Core.Option.{Option, none, some}
+use Rattle.std.specs.Prelude.{Option, None, Some}
 use lib.IntN.{ℤ}
 use Rattle.loops.specs.Lists.{each, option}
 use Rattle.loops.specs.Range.{collect}
@@ -32,37 +32,37 @@ module _ (rows : List ℤ) (k : ℕ) (h : is rows k 0 23 ≡ true) where
   abbrev judged : Option ℕ → Option ℕ → List Violation
   judged r a =
       option r [] λ o.
-      option a (check_plain clock (sheet rows) (assignment_of rows k) none) λ x.
-      cond (is rows x 7 1) (check_resumable clock (sheet rows) (assignment_of rows k) (activity_of rows x)) (check_plain clock (sheet rows) (assignment_of rows k) (some (activity_of rows x)))
+      option a (check_plain clock (sheet rows) (assignment_of rows k) None) λ x.
+      cond (is rows x 7 1) (check_resumable clock (sheet rows) (assignment_of rows k) (activity_of rows x)) (check_plain clock (sheet rows) (assignment_of rows k) (Some (activity_of rows x)))
 
   booking_is : (r a : Option ℕ) → r ≡ place_of rows 11 (num rows k 3) → a ≡ place_of rows 2 (num rows k 1)
       → check_booking clock (sheet rows) (assignment_of rows k) ≡ judged r a
   unfolding check_booking is
-  booking_is none a p q = rw (find_resource_lem rows (num rows k 3), ← p)
-  booking_is (some o) none p q = rw (find_resource_lem rows (num rows k 3), ← p, find_activity_lem rows (num rows k 1), ← q)
-  booking_is (some o) (some x) p q = rw (find_resource_lem rows (num rows k 3), ← p, find_activity_lem rows (num rows k 1), ← q)
+  booking_is None a p q = rw (find_resource_lem rows (num rows k 3), ← p)
+  booking_is (Some o) None p q = rw (find_resource_lem rows (num rows k 3), ← p, find_activity_lem rows (num rows k 1), ← q)
+  booking_is (Some o) (Some x) p q = rw (find_resource_lem rows (num rows k 3), ← p, find_activity_lem rows (num rows k 1), ← q)
 
   module _ (s : Sink) {f : Found} (p : found_of f ≡ place_of rows 11 (num rows k 3)) where
     -- a resource that is not in the sheet
     pub absent_told : f ≡ Nothing → s ≡ emit s (check_booking clock (sheet rows) (assignment_of rows k))
-    absent_told z = sym (emit_none s) ∙ ap (emit s) (sym (booking_is none _ (sym (ap found_of z) ∙ p) refl))
+    absent_told z = sym (emit_none s) ∙ ap (emit s) (sym (booking_is None _ (sym (ap found_of z) ∙ p) refl))
 
-    told_by : {o : ℕ} {s' : Sink} → f ≡ At o → (a : Option ℕ) → a ≡ place_of rows 2 (num rows k 1) → s' ≡ emit s (judged (some o) a) → s' ≡ emit s (check_booking clock (sheet rows) (assignment_of rows k))
-    told_by {o} z a q e = e ∙ ap (emit s) (sym (booking_is (some o) a (sym (ap found_of z) ∙ p) q))
+    told_by : {o : ℕ} {s' : Sink} → f ≡ At o → (a : Option ℕ) → a ≡ place_of rows 2 (num rows k 1) → s' ≡ emit s (judged (Some o) a) → s' ≡ emit s (check_booking clock (sheet rows) (assignment_of rows k))
+    told_by {o} z a q e = e ∙ ap (emit s) (sym (booking_is (Some o) a (sym (ap found_of z) ∙ p) q))
 
     module _ {o : ℕ} {g : Found} {s' : Sink} (z : f ≡ At o) (q : found_of g ≡ place_of rows 2 (num rows k 1)) where
       -- an activity that is not in the sheet
       pub external_told : g ≡ Nothing → s' ≡ emit s (by_resource rows k) → s' ≡ emit s (check_booking clock (sheet rows) (assignment_of rows k))
-      external_told w e = told_by z none (sym (ap found_of w) ∙ q) (e ∙ ap (emit s) (alone rows k))
+      external_told w e = told_by z None (sym (ap found_of w) ∙ q) (e ∙ ap (emit s) (alone rows k))
 
       module _ {a : ℕ} {b : Bool} (w : g ≡ At a) (m : b ≡ is rows a 7 1) where
         pub resumable_known : b ≡ true → s' ≡ emit s (check_resumable clock (sheet rows) (assignment_of rows k) (activity_of rows a))
             → s' ≡ emit s (check_booking clock (sheet rows) (assignment_of rows k))
-        resumable_known y e = told_by z (some a) (sym (ap found_of w) ∙ q) (rw (← m, y) e)
+        resumable_known y e = told_by z (Some a) (sym (ap found_of w) ∙ q) (rw (← m, y) e)
 
-        pub plain_known : b ≡ false → s' ≡ emit s (check_plain clock (sheet rows) (assignment_of rows k) (some (activity_of rows a)))
+        pub plain_known : b ≡ false → s' ≡ emit s (check_plain clock (sheet rows) (assignment_of rows k) (Some (activity_of rows a)))
             → s' ≡ emit s (check_booking clock (sheet rows) (assignment_of rows k))
-        plain_known y e = told_by z (some a) (sym (ap found_of w) ∙ q) (rw (← m, y) e)
+        plain_known y e = told_by z (Some a) (sym (ap found_of w) ∙ q) (rw (← m, y) e)
 
 -- the findings of row k
 unfoldable pub by_booking : List ℤ → ℕ → List Violation

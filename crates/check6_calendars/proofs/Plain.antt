@@ -3,7 +3,7 @@ use Prim.Native.Nat.{ℕ}
 use mathlib.Core.Path.{◌≡◌, ap, ap₂, sym, ◌∙◌}
 use mathlib.Core.Bool.{Bool, not}
 use mathlib.Core.List.{List, append-nil}
-use mathlib.Core.Option.{none, some}
+use Rattle.std.specs.Prelude.{None, Some}
 use lib.IntN.{ℤ, pos}
 use Rattle.loops.specs.Lists.{given}
 use Rattle.calendar.specs.Clock.{clock}
@@ -32,7 +32,7 @@ module _ (rows : List ℤ) (k : ℕ) where
   by_resource = given (not (fitting 15 (num rows k 3))) (resource_unavailable 6 (num rows k 3))
 
   -- the finding by the windows of row o, whose id is the one that the booking names
-  pub resource_outside : {o e : ℕ} {b : Bool} (s : Sink) {s' : Sink} → place_of rows 11 (num rows k 3) ≡ some o → b ≡ fitting 15 (num rows o 1) → e ≡ num rows k 3
+  pub resource_outside : {o e : ℕ} {b : Bool} (s : Sink) {s' : Sink} → place_of rows 11 (num rows k 3) ≡ Some o → b ≡ fitting 15 (num rows o 1) → e ≡ num rows k 3
       → s' ≡ emit s (given (not b) (violation 6 4 e 85)) → s' ≡ emit s by_resource
   resource_outside {o} s p f e q =
       q ∙ ap (emit s) (ap₂ (λ y z. given (not y) (violation 6 4 z 85)) (f ∙ ap (fitting 15) (placed rows 11 _ o p).id_is) e)
@@ -42,10 +42,10 @@ module _ (rows : List ℤ) (k : ℕ) where
   activity_outside a s f e q = q ∙ ap (emit s) (ap₂ (λ y z. given (not y) (violation 6 7 z 75)) f e)
 
   pub both_told : (a : ℕ) (s s₁ : Sink) {s₂ : Sink} → s₂ ≡ emit s₁ (given (not (fitting 16 (num rows a 1))) (time_window_violation 6 (num rows k 1))) → s₁ ≡ emit s by_resource
-      → s₂ ≡ emit s (check_plain clock (sheet rows) (assignment_of rows k) (some (activity_of rows a)))
+      → s₂ ≡ emit s (check_plain clock (sheet rows) (assignment_of rows k) (Some (activity_of rows a)))
   unfolding check_plain
   both_told a s s₁ q p = emit_then _ _ s p q
 
-  pub alone : by_resource ≡ check_plain clock (sheet rows) (assignment_of rows k) none
+  pub alone : by_resource ≡ check_plain clock (sheet rows) (assignment_of rows k) None
   unfolding check_plain
   alone = sym (append-nil by_resource)

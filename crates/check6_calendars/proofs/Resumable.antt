@@ -3,7 +3,7 @@ use Prim.Native.Nat.{ℕ, ◌+◌, ◌<◌, ◌≤◌}
 use mathlib.Core.Path.{◌≡◌, refl, ap, ap₂, sym, ◌∙◌}
 use mathlib.Core.Bool.{Bool, true, false, not, cond, ◌&&◌, ◌||◌}
 use mathlib.Core.List.{List}
-use mathlib.Core.Option.{Option, none, some}
+use Rattle.std.specs.Prelude.{Option, None, Some}
 use native.Mathlib.Omega.{arith}
 use lib.Dec.{eqb, ltb}
 use lib.IntN.{ℤ, pos}
@@ -105,10 +105,10 @@ module _ (rows : List ℤ) (k : ℕ) where
         pub lacks_plain : b ≡ false → false ≡ lacks_time rows k
         lacks_plain y = sym (lacks_is ∙ ap (λ i. i && uncovered_at rows a k) y)
 
-  activity_found : (a : ℕ) → some a ≡ place_of rows 2 (num rows k 1) → find_activity (sheet rows) (num rows k 1) ≡ some (activity_of rows a)
-  activity_found a q = find_activity_lem rows (num rows k 1) ∙ ap (λ x. option x none (λ j. some (activity_of rows j))) (sym q)
+  activity_found : (a : ℕ) → Some a ≡ place_of rows 2 (num rows k 1) → find_activity (sheet rows) (num rows k 1) ≡ Some (activity_of rows a)
+  activity_found a q = find_activity_lem rows (num rows k 1) ∙ ap (λ x. option x None (λ j. Some (activity_of rows j))) (sym q)
 
-  needed_is : (need : List ℕ) → Needs rows need → (a : ℕ) → k < row_count rows → is rows k 0 23 ≡ true → some a ≡ place_of rows 2 (num rows k 1)
+  needed_is : (need : List ℕ) → Needs rows need → (a : ℕ) → k < row_count rows → is rows k 0 23 ≡ true → Some a ≡ place_of rows 2 (num rows k 1)
       → needed_ms (sheet rows) (activity_of rows a) (assignment_of rows k) (runs_on (sheet rows) (assignment_of rows k)) ≡ num rows k 6 + get_or need k 0
   needed_is need nd a l h q = nd.at k (assignment_of rows k) (activity_of rows a) l (assignment_row rows k h) (activity_found a q)
 

@@ -3,7 +3,7 @@
 #![tactic(auto)]
 
 ghost use Rattle.std.specs.Prelude.{◌≡◌, ◌+◌, ◌<◌, ◌≤◌, true, not, ◌||◌, ltb, pos, get_or};
-ghost use Rattle.std.proofs.Math.Option.{some};
+ghost use Rattle.std.specs.Prelude.{Some};
 ghost use Rattle.loops.specs.Lists.{given};
 ghost use Rattle.rows.specs.Cells.{row_count, num, is};
 ghost use Rattle.sheet.specs.Places.{place_of};
@@ -60,7 +60,7 @@ fn check_resource(
     out: &mut [i64],
     n: usize,
 ) -> usize
-    requires { Owned rows.now owned.now × (place_of rows.now 11 (num rows.now k 3) ≡ some o) }
+    requires { Owned rows.now owned.now × (place_of rows.now 11 (num rows.now k 3) ≡ Some o) }
     ensures { sink out.new result ≡ emit (sink out.old n) (given (not (interval_fits clock (windows (sheet rows.now) 15 (num rows.now k 3)) (pos (num rows.now k 4)) (pos (num rows.now k 5)))) (resource_unavailable 6 (num rows.now k 3))) }
 {
     let outside = !fits_windows(rows, owned, o, 15, k);
@@ -75,7 +75,7 @@ fn check_activity(
     out: &mut [i64],
     n: usize,
 ) -> usize
-    requires { Owned rows.now owned.now × (place_of rows.now 2 (num rows.now k 1) ≡ some a) }
+    requires { Owned rows.now owned.now × (place_of rows.now 2 (num rows.now k 1) ≡ Some a) }
     ensures { sink out.new result ≡ emit (sink out.old n) (given (not (interval_fits clock (windows (sheet rows.now) 16 (num rows.now a 1)) (pos (num rows.now k 4)) (pos (num rows.now k 5)))) (time_window_violation 6 (num rows.now k 1))) }
 {
     let outside = !fits_windows(rows, owned, a, 16, k);
@@ -92,8 +92,8 @@ fn check_plain(
     out: &mut [i64],
     n: usize,
 ) -> usize
-    requires { Owned rows.now owned.now × (place_of rows.now 2 (num rows.now k 1) ≡ some a) × (place_of rows.now 11 (num rows.now k 3) ≡ some o) }
-    ensures { sink out.new result ≡ emit (sink out.old n) (check_plain clock (sheet rows.now) (assignment_of rows.now k) (some (activity_of rows.now a))) }
+    requires { Owned rows.now owned.now × (place_of rows.now 2 (num rows.now k 1) ≡ Some a) × (place_of rows.now 11 (num rows.now k 3) ≡ Some o) }
+    ensures { sink out.new result ≡ emit (sink out.old n) (check_plain clock (sheet rows.now) (assignment_of rows.now k) (Some (activity_of rows.now a))) }
 {
     let m = check_resource(rows, owned, o, k, out, n);
     check_activity(rows, owned, a, k, out, m)
@@ -129,7 +129,7 @@ fn lacks_time(
     a: usize,
     k: usize,
 ) -> bool
-    requires { Indexed rows.now kinds.now links.now owned.now × Needs rows.now need.now × (k < row_count rows.now) × (is rows.now k 0 23 ≡ true) × (place_of rows.now 2 (num rows.now k 1) ≡ some a) }
+    requires { Indexed rows.now kinds.now links.now owned.now × Needs rows.now need.now × (k < row_count rows.now) × (is rows.now k 0 23 ≡ true) × (place_of rows.now 2 (num rows.now k 1) ≡ Some a) }
     ensures { result ≡ (not (joint_working clock (piece_calendars clock (sheet rows.now) (assignment_of rows.now k) (activity_of rows.now a)) (pos (num rows.now k 4))) || ltb (joint_available_ms clock (piece_calendars clock (sheet rows.now) (assignment_of rows.now k) (activity_of rows.now a)) (pos (num rows.now k 4)) (pos (num rows.now k 5))) (num rows.now k 6 + get_or need.now k 0)) }
 {
     let mut w = [0u64; 2400];

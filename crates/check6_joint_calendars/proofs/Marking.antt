@@ -4,7 +4,7 @@ use Prim.Native.Nat.{ℕ, suc, ◌+◌, ◌<◌, ◌≤◌}
 use mathlib.Core.Path.{◌≡◌, refl, ap, sym, ◌∙◌}
 use mathlib.Core.Bool.{Bool, true, false, cond, ◌&&◌, ◌||◌, or-true, or-false}
 use mathlib.Core.List.{List}
-use mathlib.Core.Option.{some}
+use Rattle.std.specs.Prelude.{Some}
 use native.Mathlib.Omega.{arith}
 use native.Mathlib.Decide.{ℕ_discrete}
 use borrow.Author.Tests.{eq-eqb, ne_eqb}
@@ -76,7 +76,7 @@ module _ (rows : List ℤ) (k : ℕ) where
       p : in_piece rows k j ≡ true
       p = sym t ∙ u
 
-      e : some s ≡ place_of rows 11 (num rows j 3)
+      e : Some s ≡ place_of rows 11 (num rows j 3)
       e = sym (ap found_of z) ∙ d
 
       here : (r : ℕ) → r ≡ s → true ≡ taken_below rows k (suc j) r
@@ -95,7 +95,7 @@ module _ (rows : List ℤ) (k : ℕ) where
           ∙ g.at r m
           ∙ ap mark (elsewhere r d)
 
-  module _ (a : ℕ) (h : is rows k 0 23 ≡ true) (o : place_of rows 2 (num rows k 1) ≡ some a) where
+  module _ (a : ℕ) (h : is rows k 0 23 ≡ true) (o : place_of rows 2 (num rows k 1) ≡ Some a) where
     still : (marks : List ℕ) (j : ℕ) → owned_by rows a 23 j ≡ false → Marked rows k j marks → Marked rows k (j + 1) marks
     still marks j e g =
         let q : j + 1 ≡ suc j = omega arith in

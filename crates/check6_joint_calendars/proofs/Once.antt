@@ -3,7 +3,7 @@ use Prim.Native.Nat.{ℕ, ◌<◌}
 use mathlib.Core.Path.{◌≡◌, refl, ap, sym, ◌∙◌}
 use mathlib.Core.Bool.{Bool, true, false, not, ◌&&◌, true≢false}
 use mathlib.Core.List.{List, []}
-use mathlib.Core.Option.{Option, none, some}
+use Rattle.std.specs.Prelude.{Option, None, Some}
 use lib.Dec.{eqb}
 use lib.IntN.{ℤ}
 use borrow.Author.Tests.{eqb-true, eq-eqb}
@@ -29,15 +29,15 @@ use Rattle.check6_joint_calendars.proofs.Joint.{rests_at}
 -- ---- searches
 
 -- the row of the resource that a booking is on
-on_place : (rows : List ℤ) (j r : ℕ) → is_on rows j r ≡ true → place_of rows 11 (num rows j 3) ≡ some r
+on_place : (rows : List ℤ) (j r : ℕ) → is_on rows j r ≡ true → place_of rows 11 (num rows j 3) ≡ Some r
 on_place rows j r = go (place_of rows 11 (num rows j 3))
   where
-    go : (x : Option ℕ) → option x false (λ s. eqb s r) ≡ true → x ≡ some r
-    go none e = absurd (true≢false (sym e))
-    go (some s) e = ap some (eqb-true s r e)
+    go : (x : Option ℕ) → option x false (λ s. eqb s r) ≡ true → x ≡ Some r
+    go None e = absurd (true≢false (sym e))
+    go (Some s) e = ap Some (eqb-true s r e)
 
 -- a resource that is taken is the one that its id finds
-pub taken_place : (rows : List ℤ) (k r : ℕ) → taken rows k r ≡ true → place_of rows 11 (num rows r 1) ≡ some r
+pub taken_place : (rows : List ℤ) (k r : ℕ) → taken rows k r ≡ true → place_of rows 11 (num rows r 1) ≡ Some r
 unfolding taken_below
 taken_place rows k r e =
     let j = hit (λ i. in_piece rows k i && is_on rows i r) (row_count rows) e in
@@ -77,9 +77,9 @@ module _ (rows : List ℤ) (acc : Accepted rows) (k : ℕ) (l : k < row_count ro
     where
       go : (j : ℕ) → j < row_count rows → in_piece rows k j ≡ true → not (is_working_time clock (windows (sheet rows) 15 (num rows j 3)) t) ≡ true
           → (x : Option ℕ) → place_of rows 11 (num rows j 3) ≡ x → any_below taken_rests (row_count rows) ≡ true
-      go j m p v none q =
+      go j m p v None q =
           absurd (true≢false (sym v ∙ ap not (ap (λ c. is_working_time clock c t) (windows_none rows acc (num rows j 3) q) ∙ never_rests t)))
-      go j m p v (some r) q =
+      go j m p v (Some r) q =
           let d = placed rows 11 (num rows j 3) r q in
           sym
           (any_hit taken_rests r (row_count rows) (row_count rows) d.within refl

@@ -4,7 +4,7 @@ use mathlib.Core.Path.{◌≡◌, refl, ap, ap₂, sym, subst, ◌∙◌}
 use mathlib.Core.Bool.{Bool, true, false, not, ◌&&◌, and-true, or-false}
 use mathlib.Core.List.{List, [], ◌∷◌, ◌++◌, map}
 use mathlib.Core.Logic.{inl}
-use mathlib.Core.Option.{some}
+use Rattle.std.specs.Prelude.{Some}
 use native.Mathlib.Omega.{arith}
 use lib.IntN.{ℤ}
 use lib.ListN.{length, get_or, take}
@@ -50,7 +50,7 @@ lent w cs c l =
     (ap₂ (layout.windows_of w) (get_or-take (2 * c) cs (2 * j) 0 (omega arith)) (get_or-take (2 * c) cs (2 * j + 1) 0 (omega arith)))))
 
 -- the activity of a booking holds its windows
-pub activity_holder : (rows : List ℤ) (k : ℕ) {a : ℕ} → place_of rows 2 (num rows k 1) ≡ some a → Holder rows a 16
+pub activity_holder : (rows : List ℤ) (k : ℕ) {a : ℕ} → place_of rows 2 (num rows k 1) ≡ Some a → Holder rows a 16
 activity_holder rows k {a} q = inl (refl, found_self rows 2 (num rows k 1) a q)
 
 module _ (rows : List ℤ) (acc : Accepted rows) (k : ℕ) (l : k < row_count rows) (h : is rows k 0 23 ≡ true) (t : ℤ) where

@@ -3,7 +3,7 @@
 #![tactic(auto)]
 
 ghost use Rattle.std.specs.Prelude.{◌≡◌, suc, ◌+◌, ◌*◌, ◌<◌, ◌≤◌, true, length};
-ghost use Rattle.std.proofs.Math.Option.{some};
+ghost use Rattle.std.specs.Prelude.{Some};
 ghost use Rattle.loops.specs.Search.{count_below};
 ghost use Rattle.rows.specs.Cells.{row_count, num, is};
 ghost use Rattle.sheet.specs.Places.{place_of};
@@ -41,7 +41,7 @@ fn mark_resources(
     a: usize,
     k: usize,
 ) -> [u8; 800]
-    requires { Linked rows.now links.now × Owned rows.now owned.now × (is rows.now k 0 23 ≡ true) × (place_of rows.now 2 (num rows.now k 1) ≡ some a) }
+    requires { Linked rows.now links.now × Owned rows.now owned.now × (is rows.now k 0 23 ≡ true) × (place_of rows.now 2 (num rows.now k 1) ≡ Some a) }
     ensures { Marked rows.now k (row_count rows.now) result }
 {
     let n = rows::row_count(rows);
@@ -140,7 +140,7 @@ pub fn lay_calendars(
     w: &mut [u64; 2400],
     cs: &mut [usize; 1600],
 ) -> usize
-    requires { Indexed rows.now kinds.now links.now owned.now × (k < row_count rows.now) × (is rows.now k 0 23 ≡ true) × (place_of rows.now 2 (num rows.now k 1) ≡ some a) × (length w.old ≡ 2400) × (length cs.old ≡ 1600) }
+    requires { Indexed rows.now kinds.now links.now owned.now × (k < row_count rows.now) × (is rows.now k 0 23 ≡ true) × (place_of rows.now 2 (num rows.now k 1) ≡ Some a) × (length w.old ≡ 2400) × (length cs.old ≡ 1600) }
     ensures { LaidOut rows.now k a w.old cs.old w.new cs.new result }
 {
     let marks = mark_resources(rows, links, owned, a, k);

@@ -3,7 +3,7 @@ use Prim.Native.Nat.{ℕ, zero, suc, ◌<◌, ◌≤◌, max}
 use mathlib.Core.Path.{◌≡◌, refl, sym, ap, ◌∙◌}
 use mathlib.Core.Bool.{Bool, true, false, cond, ◌&&◌, true≢false, false≢true}
 use mathlib.Core.List.{List, [], ◌∷◌, ◌++◌}
-use mathlib.Core.Option.{Option, none, some}
+use Rattle.std.specs.Prelude.{Option, None, Some}
 use native.Mathlib.Omega.{arith}
 use native.Mathlib.Decide.{ℕ_discrete, dec_lt}
 use lib.Dec.{ltb}
@@ -27,21 +27,21 @@ use Rattle.check7_transport.proofs.Longest.{between_both}
 -- ---- the order of part indices
 
 index_trans : (x y z : Option ℤ) → before_index x y ≡ true → before_index y z ≡ true → before_index x z ≡ true
-index_trans x none z e f = absurd (false≢true e)
-index_trans x (some b) none e f = absurd (false≢true f)
-index_trans none (some b) (some c) e f = refl
-index_trans (some a) (some b) (some c) e f = signed_trans a b c e f
+index_trans x None z e f = absurd (false≢true e)
+index_trans x (Some b) None e f = absurd (false≢true f)
+index_trans None (Some b) (Some c) e f = refl
+index_trans (Some a) (Some b) (Some c) e f = signed_trans a b c e f
 
 index_asym : (x y : Option ℤ) → before_index x y ≡ true → before_index y x ≡ false
-index_asym x none e = absurd (false≢true e)
-index_asym none (some b) e = refl
-index_asym (some a) (some b) e = signed_asym a b e
+index_asym x None e = absurd (false≢true e)
+index_asym None (Some b) e = refl
+index_asym (Some a) (Some b) e = signed_asym a b e
 
 index_total : (x y : Option ℤ) → before_index x y ≡ false → before_index y x ≡ false → x ≡ y
-index_total none none e f = refl
-index_total none (some b) e f = absurd (true≢false e)
-index_total (some a) none e f = absurd (true≢false f)
-index_total (some a) (some b) e f = ap some (signed_total a b e f)
+index_total None None e f = refl
+index_total None (Some b) e f = absurd (true≢false e)
+index_total (Some a) None e f = absurd (true≢false f)
+index_total (Some a) (Some b) e f = ap Some (signed_total a b e f)
 
 pub index_order : Order before_index
 index_order = record { trans = index_trans; asym = index_asym; total = index_total }
@@ -139,8 +139,8 @@ module _ (rows : List ℤ) (p : ℕ → Bool) where
 
     -- the piece in the first n rows
     pub piece_to : ℕ → Option (PlacedPiece ℤ)
-    piece_to zero = none
-    piece_to (suc n) = cond (in_part n) (some (piece_with clock (booking rows n) (option (piece_to n) (start_at rows n) (λ v. v)))) (piece_to n)
+    piece_to zero = None
+    piece_to (suc n) = cond (in_part n) (Some (piece_with clock (booking rows n) (option (piece_to n) (start_at rows n) (λ v. v)))) (piece_to n)
 
     pub map_piece : (n : ℕ) → lookup before_index x (map_to n) ≡ piece_to n
     unfolding map_to fold only_at piece_to lookup
@@ -149,17 +149,17 @@ module _ (rows : List ℤ) (p : ℕ → Bool) where
       where
         go : (b : Bool) → lookup before_index x (map_to n) ≡ piece_to n
             → lookup before_index x (cond b (map_step rows (map_to n) n) (map_to n))
-            ≡ cond (b && alike before_index x (index_at rows n)) (some (piece_with clock (booking rows n) (option (piece_to n) (start_at rows n) (λ v. v)))) (piece_to n)
-        go true h = lookup_upsert before_index index_order (index_at rows n) (start_at rows n) (piece_with clock (booking rows n)) x (map_to n) ∙ ap (λ o. cond (alike before_index x (index_at rows n)) (some (piece_with clock (booking rows n) (option o (start_at rows n) (λ v. v)))) o) h
+            ≡ cond (b && alike before_index x (index_at rows n)) (Some (piece_with clock (booking rows n) (option (piece_to n) (start_at rows n) (λ v. v)))) (piece_to n)
+        go true h = lookup_upsert before_index index_order (index_at rows n) (start_at rows n) (piece_with clock (booking rows n)) x (map_to n) ∙ ap (λ o. cond (alike before_index x (index_at rows n)) (Some (piece_with clock (booking rows n) (option o (start_at rows n) (λ v. v)))) o) h
         go false h = h
 
-    pub no_piece : (n : ℕ) → piece_to n ≡ none → (j : ℕ) → j < n → in_part j ≡ false
+    pub no_piece : (n : ℕ) → piece_to n ≡ None → (j : ℕ) → j < n → in_part j ≡ false
     unfolding piece_to
     no_piece zero e j l = absurd (omega arith)
     no_piece (suc n) e j l = go (in_part n) refl e (no_piece n) (ℕ_discrete j n)
       where
-        go : (b : Bool) → in_part n ≡ b → cond b (some (piece_with clock (booking rows n) (option (piece_to n) (start_at rows n) (λ v. v)))) (piece_to n) ≡ none
-            → (piece_to n ≡ none → (j : ℕ) → j < n → in_part j ≡ false) → Dec (j ≡ n) → in_part j ≡ false
+        go : (b : Bool) → in_part n ≡ b → cond b (Some (piece_with clock (booking rows n) (option (piece_to n) (start_at rows n) (λ v. v)))) (piece_to n) ≡ None
+            → (piece_to n ≡ None → (j : ℕ) → j < n → in_part j ≡ false) → Dec (j ≡ n) → in_part j ≡ false
         go true q f r d = absurd (none_some (sym f))
         go false q f r (yes z) = ap in_part z ∙ q
         go false q f r (no z) = r f j (omega arith)
@@ -208,19 +208,19 @@ module _ (rows : List ℤ) (p : ℕ → Bool) where
             moves = to_is;
           }
 
-      pub piece_is : (n : ℕ) (v : PlacedPiece ℤ) → piece_to n ≡ some v → PieceIs n v
+      pub piece_is : (n : ℕ) (v : PlacedPiece ℤ) → piece_to n ≡ Some v → PieceIs n v
       unfolding piece_to
       piece_is zero v e = absurd (none_some e)
       piece_is (suc n) v e = go (in_part n) refl (piece_to n) refl e (piece_is n)
         where
-          some_is : {x y : PlacedPiece ℤ} → ◌≡◌ {A = Option (PlacedPiece ℤ)} (some x) (some y) → x ≡ y
+          some_is : {x y : PlacedPiece ℤ} → ◌≡◌ {A = Option (PlacedPiece ℤ)} (Some x) (Some y) → x ≡ y
           some_is q = cc
 
           go : (b : Bool) → in_part n ≡ b → (o : Option (PlacedPiece ℤ)) → piece_to n ≡ o
-              → cond b (some (piece_with clock (booking rows n) (option o (start_at rows n) (λ v. v)))) o ≡ some v
-              → ((w : PlacedPiece ℤ) → piece_to n ≡ some w → PieceIs n w) → PieceIs (suc n) v
-          go true h none f q r = rw (← some_is q) (alone n (no_piece n f) h)
-          go true h (some w) f q r = rw (← some_is q) (more n w h (r w f))
+              → cond b (Some (piece_with clock (booking rows n) (option o (start_at rows n) (λ v. v)))) o ≡ Some v
+              → ((w : PlacedPiece ℤ) → piece_to n ≡ Some w → PieceIs n w) → PieceIs (suc n) v
+          go true h None f q r = rw (← some_is q) (alone n (no_piece n f) h)
+          go true h (Some w) f q r = rw (← some_is q) (more n w h (r w f))
           go false h o f q r = let a = r v (f ∙ q) in record {
             begins = a.begins;
             start_is = a.start_is;

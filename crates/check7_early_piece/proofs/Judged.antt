@@ -3,7 +3,7 @@ use Prim.Native.Nat.{ℕ, zero, suc, ◌+◌, ◌<◌, ◌≤◌}
 use mathlib.Core.Path.{◌≡◌, refl, sym, ap, ◌∙◌}
 use mathlib.Core.Bool.{Bool, true, false, cond, not, ◌&&◌, true≢false, and-false, or-false}
 use mathlib.Core.List.{List, [], ◌∷◌, foldl}
-use mathlib.Core.Option.{Option, none, some}
+use Rattle.std.specs.Prelude.{Option, None, Some}
 use native.Mathlib.Omega.{arith}
 use lib.Dec.{eqb, ltb}
 use lib.IntN.{ℤ, pos}
@@ -146,8 +146,8 @@ module _ (rows : List ℤ) (acc : Accepted rows) (o : ℕ) (l : o < row_count ro
         in_j = both owns (is_alike x (index_at rows j) (sym (piece_alike k j b d e owns f)))
 
         go : (v : Option (PlacedPiece ℤ)) → piece_to rows (owned_by rows o 23) x (row_count rows) ≡ v → any_of too_early (values (map_to rows (owned_by rows o 23) (row_count rows))) ≡ true
-        go none g = absurd (true≢false (sym in_k ∙ no_piece rows (owned_by rows o 23) x (row_count rows) g k b))
-        go (some v) g =
+        go None g = absurd (true≢false (sym in_k ∙ no_piece rows (owned_by rows o 23) x (row_count rows) g k b))
+        go (Some v) g =
             let w = piece_is rows (owned_by rows o 23) x from_where (row_count rows) v g in
             let s = w.starts.bound j d in_j in
             let t = w.moves.bound k b in_k in
@@ -182,7 +182,7 @@ module _ (rows : List ℤ) (acc : Accepted rows) (o : ℕ) (l : o < row_count ro
       where
         empty : by_part clock (sheet rows) (num rows o 1) ≡ [] → ⊥
         empty g =
-            let z : lookup before_index (index_at rows k) (map_to rows (owned_by rows o 23) (row_count rows)) ≡ none = rw (← pieces_are, g) (unfold lookup in refl) in
+            let z : lookup before_index (index_at rows k) (map_to rows (owned_by rows o 23) (row_count rows)) ≡ None = rw (← pieces_are, g) (unfold lookup in refl) in
             true≢false (sym (both e (is_alike (index_at rows k) (index_at rows k) refl)) ∙ no_piece rows (owned_by rows o 23) (index_at rows k) (row_count rows) (sym (map_piece rows (owned_by rows o 23) (index_at rows k) (row_count rows)) ∙ z) k c)
 
         go : (m : List (Entry (Option ℤ) (PlacedPiece ℤ))) → by_part clock (sheet rows) (num rows o 1) ≡ m → values m ≡ or_time_only clock (sheet rows) (num rows o 1) (values m)
@@ -203,8 +203,8 @@ module _ (rows : List ℤ) (acc : Accepted rows) (o : ℕ) (l : o < row_count ro
         none_far y = ap (λ z. lt_z y (pos z)) (let z = between_none (sheet rows) from_where in omega arith)
 
         go : (x : Option (page.Span ℤ)) → option x false (λ y. clock.before y.start (pos from)) ≡ any_of too_early (option x [] λ x. record { start = x.start; to = [] } ∷ [])
-        go none = unfold any_of in refl
-        go (some y) = sym (unfold any_of in (or-false _ ∙ none_far y.start))
+        go None = unfold any_of in refl
+        go (Some y) = sym (unfold any_of in (or-false _ ∙ none_far y.start))
 
 -- ---- one booking, one span
 

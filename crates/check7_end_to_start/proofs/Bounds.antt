@@ -3,7 +3,7 @@ use Prim.Native.Nat.{ℕ, zero, suc, ◌^◌, ◌<◌, ◌≤◌}
 use mathlib.Core.Path.{◌≡◌, refl, sym}
 use mathlib.Core.Bool.{Bool, true, false, cond, ◌&&◌}
 use mathlib.Core.List.{List}
-use mathlib.Core.Option.{Option, none, some}
+use Rattle.std.specs.Prelude.{Option, None, Some}
 use lib.Dec.{leb}
 use lib.IntN.{ℤ, pos, nat_abs}
 use lib.Signed.{le_z, lt_z, mag}
@@ -37,14 +37,14 @@ early : ℤ → Bool
 early x = le_z x (pos 4000000000000)
 
 bounded : Option (page.Span ℤ) → Bool
-bounded none = true
-bounded (some x) = early x.start && early x.end
+bounded None = true
+bounded (Some x) = early x.start && early x.end
 
-pair_early : (a e : ℤ) → early a ≡ true → early e ≡ true → bounded (some (record { start = a; end = e })) ≡ true
+pair_early : (a e : ℤ) → early a ≡ true → early e ≡ true → bounded (Some (record { start = a; end = e })) ≡ true
 unfolding bounded
 pair_early a e f g = both f g
 
-pair_of : (a e : ℕ) → bounded (some (record { start = pos a; end = pos e })) ≡ true → (a ≤ 4000000000000) × (e ≤ 4000000000000)
+pair_of : (a e : ℕ) → bounded (Some (record { start = pos a; end = pos e })) ≡ true → (a ≤ 4000000000000) × (e ≤ 4000000000000)
 unfolding bounded early
 pair_of a e h = (
   leb-true a 4000000000000 (and_left (leb a 4000000000000) (leb e 4000000000000) h),
@@ -57,8 +57,8 @@ either false x y e f = f
 
 wider : (x : Option (page.Span ℤ)) (a e : ℤ) → early a ≡ true → early e ≡ true → bounded x ≡ true → bounded (widened x a e) ≡ true
 unfolding bounded
-wider none a e f g h = both f g
-wider (some x) a e f g h =
+wider None a e f g h = both f g
+wider (Some x) a e f g h =
     both (either (lt_z a x.start) a x.start f (and_left (early x.start) (early x.end) h))
     (either (lt_z x.end e) e x.end g (and_right (early x.start) (early x.end) h))
 
@@ -76,7 +76,7 @@ module _ (rows : List ℤ) (acc : Accepted rows) where
       go true false e = h
       go false c e = h
 
-  booked_early : (id n : ℕ) → bounded (fold (only_at (of_kind rows 23) (widen_if rows id)) none n) ≡ true
+  booked_early : (id n : ℕ) → bounded (fold (only_at (of_kind rows 23) (widen_if rows id)) None n) ≡ true
   unfolding fold bounded
   booked_early id zero = refl
   booked_early id (suc n) = booked_step id _ n (booked_early id n)
@@ -85,8 +85,8 @@ module _ (rows : List ℤ) (acc : Accepted rows) where
   span_early id = go (place_of rows 24 id) refl
     where
       go : (o : Option ℕ) → place_of rows 24 id ≡ o → bounded (activity_span clock (sheet rows) id) ≡ true
-      go none e = rw (← runs_booked rows id {f = Nothing} (sym e) refl refl) (booked_early id (row_count rows))
-      go (some k) e =
+      go None e = rw (← runs_booked rows id {f = Nothing} (sym e) refl refl) (booked_early id (row_count rows))
+      go (Some k) e =
           let h : is rows k 0 24 ≡ true = unfold is in eq-eqb (num rows k 0) 24 (placed rows 24 id k e).kind in
           rw (← runs_timed rows id {f = At k} (sym e) refl refl refl) (pair_early _ _ (instant_early k 24 3 (at_most rows acc k 24 3 h)) (instant_early k 24 4 (at_most rows acc k 24 4 h)))
 

@@ -3,7 +3,7 @@ use Prim.Native.Nat.{ℕ, suc, ◌^◌, ◌<◌}
 use mathlib.Core.Path.{◌≡◌, refl, sym, ap, ap₂, ◌∙◌}
 use mathlib.Core.Bool.{Bool, true, false, cond, ◌&&◌, true≢false}
 use mathlib.Core.List.{List, [], ◌++◌, append-nil}
-use mathlib.Core.Option.{Option, none, some}
+use Rattle.std.specs.Prelude.{Option, None, Some}
 use native.Mathlib.Omega.{arith}
 use lib.Dec.{eqb}
 use lib.IntN.{ℤ, pos}
@@ -68,9 +68,9 @@ module _ (rows : List ℤ) (before after : ℕ) (delay : ℤ) where
       go : (x y : Option (page.Span ℤ))
           → option x [] (λ x. option y [] λ y. given (clock.before y.start (clock.plus x.end delay)) (precedence_violation 7 after))
           ≡ given (option x false (λ x. option y false λ y. clock.before y.start (clock.plus x.end delay))) (precedence_violation 7 after)
-      go none y = refl
-      go (some x) none = refl
-      go (some x) (some y) = refl
+      go None y = refl
+      go (Some x) None = refl
+      go (Some x) (Some y) = refl
 
   pub early_told : {b : Bool} (s : Sink) {s' : Sink} → SFits w64 delay → b ≡ starts_early rows before after (to_z w64 (of_z w64 delay)) → s' ≡ emit s (given b (precedence_violation 7 after))
       → s' ≡ emit s (end_to_start clock (sheet rows) before after delay)
@@ -101,7 +101,7 @@ module _ (rows : List ℤ) (id : ℕ) where
   unfolding predecessor_at listed
   predecessors_told s e = e ∙ ap (emit s) (sym (each_collect (λ p. end_to_start clock (sheet rows) p id (pos 0)) (row_at (sheet rows) 8 (λ k. given (eqb (num_at (sheet rows) k 1) id) (num_at (sheet rows) k 2))) (row_count rows)))
 
-  module _ (o : ℕ) (q : place_of rows 2 id ≡ some o) where
+  module _ (o : ℕ) (q : place_of rows 2 id ≡ Some o) where
     pub predecessor_silent : Silent (owned_by rows o 8) predecessor_at
     predecessor_silent = record { still = λ k h. predecessor_is k ∙ ap (λ b. cond b (end_to_start clock (sheet rows) (num rows k 2) id (pos 0)) []) (sym (of_activity rows 8 o id (unfold owner_kind in refl) q k) ∙ h) }
 
@@ -109,7 +109,7 @@ module _ (rows : List ℤ) (id : ℕ) where
       → p ≡ num rows k 2 → a ≡ id → s' ≡ emit s₀ (collect predecessor_at k ++ end_to_start clock (sheet rows) (num rows k 2) id (pos 0))
   predecessor_told s₀ k {s} g r e f = emit_then _ _ s₀ r (g ∙ ap (emit s) (ap₂ (λ x y. end_to_start clock (sheet rows) x y (pos 0)) e f))
 
-  pub predecessor_next : (o : ℕ) (s₀ : Sink) {n k j : ℕ} {s' : Sink} → First (owned_by rows o 8) (suc k) n j → Stands (owned_by rows o 8) n k → k < n → place_of rows 2 id ≡ some o
+  pub predecessor_next : (o : ℕ) (s₀ : Sink) {n k j : ℕ} {s' : Sink} → First (owned_by rows o 8) (suc k) n j → Stands (owned_by rows o 8) n k → k < n → place_of rows 2 id ≡ Some o
       → s' ≡ emit s₀ (collect predecessor_at k ++ end_to_start clock (sheet rows) (num rows k 2) id (pos 0)) → s' ≡ emit s₀ (collect predecessor_at j)
   predecessor_next o s₀ {k = k} x st l q g =
       g
@@ -151,12 +151,12 @@ module _ (rows : List ℤ) where
       (sym (ap (each (λ a. all_predecessors a.id)) (keep_collect (λ a. eqb a.task id) (activity_at (sheet rows)) (row_count rows))
       ∙ each_collect (λ a. all_predecessors a.id) (λ k. keep (λ a. eqb a.task id) (activity_at (sheet rows) k)) (row_count rows)))
 
-  module _ (t id : ℕ) (q : place_of rows 1 id ≡ some t) where
+  module _ (t id : ℕ) (q : place_of rows 1 id ≡ Some t) where
     pub activity_silent : Silent (owned_by rows t 2) (activity_told id)
     activity_silent = record { still = λ k h. activity_told_is id k ∙ ap (λ b. cond b (all_predecessors (num rows k 1)) []) (sym (of_task rows 2 t id (unfold owner_kind in refl) q k) ∙ h) }
 
   pub activity_next : (t id : ℕ) (s₀ : Sink) {n N k j : ℕ} {s s' : Sink} → s' ≡ emit s (each (λ p. end_to_start clock (sheet rows) p (num rows k 1) (pos 0)) (predecessors (sheet rows) (num rows k 1)))
-      → First (owned_by rows t 2) (suc k) n j → k < N → N ≡ n → Stands (owned_by rows t 2) n k → s ≡ emit s₀ (collect (activity_told id) k) → place_of rows 1 id ≡ some t → s' ≡ emit s₀ (collect (activity_told id) j)
+      → First (owned_by rows t 2) (suc k) n j → k < N → N ≡ n → Stands (owned_by rows t 2) n k → s ≡ emit s₀ (collect (activity_told id) k) → place_of rows 1 id ≡ Some t → s' ≡ emit s₀ (collect (activity_told id) j)
   unfolding all_predecessors
   activity_next t id s₀ {k = k} {s = s} g x l z st r q =
       emit_next (activity_told id) s₀ x (activity_silent t id q) r

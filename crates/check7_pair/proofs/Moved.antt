@@ -3,7 +3,7 @@ use Prim.Native.Nat.{ℕ, max}
 use mathlib.Core.Path.{◌≡◌, refl, ◌∙◌}
 use mathlib.Core.Bool.{Bool, true, false, cond}
 use mathlib.Core.List.{List, [], ◌∷◌, map, foldl}
-use mathlib.Core.Option.{Option, none, some}
+use Rattle.std.specs.Prelude.{Option, None, Some}
 use native.Mathlib.Omega.{arith}
 use lib.IntN.{ℤ}
 use Rattle.loops.specs.Lists.{each, option}
@@ -73,8 +73,8 @@ module _ {T : Type 0} (K : Clock T) (s : Sheet T) (l : List ℕ) where
   timed a [] = go (activity_span K s a)
     where
       go : (x : Option (Span T)) → moves (option x [] λ x. record { start = x.start; to = [] } ∷ []) ≡ moves []
-      go none = refl
-      go (some x) = unfold each in refl
+      go None = refl
+      go (Some x) = unfold each in refl
   timed a (p ∷ ps) = refl
 
   pub moved_is : (a : ℕ) → transport_between s l (each (λ p. p.to) (pieces_of K s a)) ≡ transport_between s l (runs_on_all K s a)

@@ -3,7 +3,7 @@ use Prim.Native.Nat.{ℕ, suc, ◌+◌, ◌-◌, ◌^◌, ◌<◌, ◌≤◌}
 use mathlib.Core.Path.{◌≡◌, refl, sym, ap, ◌∙◌}
 use mathlib.Core.Bool.{Bool, true, false, cond, ◌&&◌}
 use mathlib.Core.List.{List}
-use mathlib.Core.Option.{none, some}
+use Rattle.std.specs.Prelude.{None, Some}
 use native.Mathlib.Omega.{arith}
 use lib.Dec.{T, eqb, ltb}
 use lib.IntN.{ℤ, pos, negsuc, nat_abs, ◌+ℤ◌}
@@ -45,14 +45,14 @@ module _ (rows : List ℤ) (o id : ℕ) where
   abbrev lap : ℕ → List Overlap
   lap k = given (eqb (num_at (sheet rows) k 1) id) (overlap_of (num_at (sheet rows) k 2) (int_at (sheet rows) k 3))
 
-  lap_at : place_of rows 2 id ≡ some o → (k : ℕ) → head (row_at (sheet rows) 3 lap k) ≡ some_if (owned_by rows o 3 k) (overlap_of (num rows k 2) (cell rows k 3))
+  lap_at : place_of rows 2 id ≡ Some o → (k : ℕ) → head (row_at (sheet rows) 3 lap k) ≡ some_if (owned_by rows o 3 k) (overlap_of (num rows k 2) (cell rows k 3))
   lap_at q k = rw (of_activity rows 3 o id (unfold owner_kind in refl) q k) (go (is rows k 0 3) refl)
     where
       go : (b : Bool) → is rows k 0 3 ≡ b → head (row_at (sheet rows) 3 lap k) ≡ some_if (is rows k 0 3 && is rows k 1 id) (overlap_of (num rows k 2) (cell rows k 3))
       go true h = unfold is in (rw (row_here rows k 3 lap h, h, is_num rows k 0 3 h) (head_given (eqb (num rows k 1) id) (overlap_of (num rows k 2) (cell rows k 3))))
       go false h = rw (row_none rows k 3 lap h, h)
 
-  overlap_is : place_of rows 2 id ≡ some o → overlap (sheet rows) id ≡ option (first_place (owned_by rows o 3) (row_count rows)) none (λ k. some (overlap_of (num rows k 2) (cell rows k 3)))
+  overlap_is : place_of rows 2 id ≡ Some o → overlap (sheet rows) id ≡ option (first_place (owned_by rows o 3) (row_count rows)) None (λ k. Some (overlap_of (num rows k 2) (cell rows k 3)))
   unfolding overlap
   overlap_is q =
       head_collect (row_at (sheet rows) 3 lap) (row_count rows)
@@ -60,11 +60,11 @@ module _ (rows : List ℤ) (o id : ℕ) where
       ∙ first_placed (owned_by rows o 3) (λ k. overlap_of (num rows k 2) (cell rows k 3)) (row_count rows)
 
   module _ {f : Found} (e : found_of f ≡ first_place (owned_by rows o 3) (row_count rows)) where
-    pub overlap_row : (k : ℕ) → f ≡ At k → place_of rows 2 id ≡ some o → overlap (sheet rows) id ≡ some (overlap_of (num rows k 2) (cell rows k 3))
-    overlap_row k z q = overlap_is q ∙ ap (λ x. option x none (λ k. some (overlap_of (num rows k 2) (cell rows k 3)))) (sym e ∙ ap found_of z)
+    pub overlap_row : (k : ℕ) → f ≡ At k → place_of rows 2 id ≡ Some o → overlap (sheet rows) id ≡ Some (overlap_of (num rows k 2) (cell rows k 3))
+    overlap_row k z q = overlap_is q ∙ ap (λ x. option x None (λ k. Some (overlap_of (num rows k 2) (cell rows k 3)))) (sym e ∙ ap found_of z)
 
-    pub no_overlap_lem : f ≡ Nothing → place_of rows 2 id ≡ some o → overlap (sheet rows) id ≡ none
-    no_overlap_lem z q = overlap_is q ∙ ap (λ x. option x none (λ k. some (overlap_of (num rows k 2) (cell rows k 3)))) (sym e ∙ ap found_of z)
+    pub no_overlap_lem : f ≡ Nothing → place_of rows 2 id ≡ Some o → overlap (sheet rows) id ≡ None
+    no_overlap_lem z q = overlap_is q ∙ ap (λ x. option x None (λ k. Some (overlap_of (num rows k 2) (cell rows k 3)))) (sym e ∙ ap found_of z)
 
 pub first_kind : (rows : List ℤ) (o k : ℕ) {f : Found} → found_of f ≡ first_place (owned_by rows o 3) (row_count rows) → f ≡ At k → is rows k 0 3 ≡ true
 unfolding owned_by

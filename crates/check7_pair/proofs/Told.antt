@@ -3,7 +3,7 @@ use Prim.Native.Nat.{ℕ, ◌^◌, ◌<◌}
 use mathlib.Core.Path.{◌≡◌, refl, sym, ap, ◌∙◌}
 use mathlib.Core.Bool.{Bool, false}
 use mathlib.Core.List.{List, [], ◌++◌, append-nil}
-use mathlib.Core.Option.{Option, none, some}
+use Rattle.std.specs.Prelude.{Option, None, Some}
 use lib.IntN.{ℤ, pos, ◌+ℤ◌, +ℤ_comm}
 use lib.Signed.{lt_z, mag}
 use mir.Syntax.{w64}
@@ -88,7 +88,7 @@ module _ (rows : List ℤ) (before after : ℕ) (s : Sink) {x : ActivitySpan} {i
 
   module _ {a e : ℕ} {s' : Sink} where
     pub in_order_lem : s' ≡ emit s (given (starts_early rows (num rows before 1) (num rows after 1) (pos e)) (precedence_violation 7 (num rows after 1)))
-        → x ≡ Between a e → span_meant x ≡ activity_span clock (sheet rows) id → id ≡ num rows before 1 → overlap (sheet rows) (num rows after 1) ≡ none
+        → x ≡ Between a e → span_meant x ≡ activity_span clock (sheet rows) id → id ≡ num rows before 1 → overlap (sheet rows) (num rows after 1) ≡ None
         → s' ≡ emit s (check_pair clock (sheet rows) (activity_of rows before) (activity_of rows after))
     unfolding check_pair starts_early
     in_order_lem h z q i o = rw (span_is (Between a e) q i z, o) (h ∙ ap (emit s) (sym (append-nil (given (starts_early rows (num rows before 1) (num rows after 1) (pos e)) (precedence_violation 7 (num rows after 1))))))
@@ -96,7 +96,7 @@ module _ (rows : List ℤ) (before after : ℕ) (s : Sink) {x : ActivitySpan} {i
     pub overlapping : {o : Overlap}
         → s' ≡ emit s (given (starts_early rows (num rows before 1) (num rows after 1) (earliest_start clock o (pos a) (pos e))) (precedence_violation 7 (num rows after 1))
         ++ given (ends_early rows (num rows before 1) (num rows after 1) (earliest_end clock o (pos e))) (precedence_violation 7 (num rows after 1)))
-        → x ≡ Between a e → span_meant x ≡ activity_span clock (sheet rows) id → id ≡ num rows before 1 → overlap (sheet rows) (num rows after 1) ≡ some o
+        → x ≡ Between a e → span_meant x ≡ activity_span clock (sheet rows) id → id ≡ num rows before 1 → overlap (sheet rows) (num rows after 1) ≡ Some o
         → s' ≡ emit s (check_pair clock (sheet rows) (activity_of rows before) (activity_of rows after))
     unfolding check_pair starts_early ends_early
     overlapping {o} h z q i w =
@@ -110,5 +110,5 @@ module _ (rows : List ℤ) (before after : ℕ) (s : Sink) {x : ActivitySpan} {i
 
         told_end : (f : page.Span ℤ → Bool) (y : Option (page.Span ℤ))
             → option y [] (λ y. given (f y) (precedence_violation 7 (num rows after 1))) ≡ given (option y false f) (precedence_violation 7 (num rows after 1))
-        told_end f none = refl
-        told_end f (some y) = refl
+        told_end f None = refl
+        told_end f (Some y) = refl

@@ -3,7 +3,7 @@ use Prim.Native.Nat.{ℕ, ◌≤◌}
 use mathlib.Core.Path.{◌≡◌, refl, sym, ap, ◌∙◌}
 use mathlib.Core.Bool.{Bool, true, false, ◌&&◌}
 use mathlib.Core.List.{List}
-use mathlib.Core.Option.{Option, none, some}
+use Rattle.std.specs.Prelude.{Option, None, Some}
 use lib.Dec.{eqb}
 use lib.IntN.{ℤ}
 use Rattle.loops.specs.Lists.{given, head, option}
@@ -48,9 +48,9 @@ module _ (rows : List ℤ) where
         (head_collect (row_at (sheet rows) 14 move) (row_count rows) ∙ first_same _ _ (row_count rows) move_at ∙ first_placed (names rows 14 a b) (λ k. num rows k 3) (row_count rows))
         ∙ go (first_place (names rows 14 a b) (row_count rows))
       where
-        go : (x : Option ℕ) → option (option x none (λ k. some (num rows k 3))) 0 (λ n. n) ≡ option x 0 (λ k. num rows k 3)
-        go none = refl
-        go (some k) = refl
+        go : (x : Option ℕ) → option (option x None (λ k. Some (num rows k 3))) 0 (λ n. n) ≡ option x 0 (λ k. num rows k 3)
+        go None = refl
+        go (Some k) = refl
 
     module _ {f : Found} (e : found_of f ≡ first_place (names rows 14 a b) (row_count rows)) where
       pub move_is : (k : ℕ) {r v : ℕ} → a ≡ v → f ≡ At k → r ≡ num rows k 3 → r ≡ transport_to (sheet rows) v b

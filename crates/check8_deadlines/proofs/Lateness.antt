@@ -3,7 +3,7 @@ use Prim.Native.Nat.{ℕ, ◌-◌, ◌<◌}
 use mathlib.Core.Path.{◌≡◌, refl, ap, ap₂, sym, ◌∙◌}
 use mathlib.Core.Bool.{Bool, true, false}
 use mathlib.Core.List.{List, [], ◌++◌}
-use mathlib.Core.Option.{Option, none, some}
+use Rattle.std.specs.Prelude.{Option, None, Some}
 use native.Mathlib.Omega.{arith}
 use lib.Dec.{ltb}
 use lib.IntN.{ℤ, pos}
@@ -31,7 +31,7 @@ use Rattle.spans.specs.declared.Instant.TheVariants.{At, Nothing}
 use Rattle.check8_deadlines.specs.inner.Late.{late_at}
 
 -- lateness above 0 is a completion after the deadline
-pub tardy : (d c : ℕ) → ltb d c ≡ ltb 0 (tardiness_ms clock (pos c) (some (pos d)))
+pub tardy : (d c : ℕ) → ltb d c ≡ ltb 0 (tardiness_ms clock (pos c) (Some (pos d)))
 tardy d c = go (dec_lt d c) ∙ ap (ltb 0) (sym (gap d c))
   where
     go : Dec (d < c) → ltb d c ≡ ltb 0 (c - d)
@@ -44,9 +44,9 @@ module _ (rows : List ℤ) (k : ℕ) where
   unfolding late_at
   never_late h q = rw (← h, q) (go (task_completion_time clock (sheet rows) (num rows k 1)))
     where
-      go : (x : Option ℤ) → false ≡ option x false (λ completion. ltb 0 (tardiness_ms clock completion none))
-      go none = refl
-      go (some x) = refl
+      go : (x : Option ℤ) → false ≡ option x false (λ completion. ltb 0 (tardiness_ms clock completion None))
+      go None = refl
+      go (Some x) = refl
 
   -- nothing is planned of it
   pub unplanned : {t : ℕ} {e : Instant} → t ≡ num rows k 1 → meant e ≡ task_completion_time clock (sheet rows) t → e ≡ Nothing → false ≡ late_at rows k
@@ -61,8 +61,8 @@ module _ (rows : List ℤ) (k : ℕ) where
   reported : (x : Option ℤ) (d : Option ℤ) (f : Violation)
       → option x [] (λ completion. given (ltb 0 (tardiness_ms clock completion d)) f) ++ []
       ≡ given (option x false (λ completion. ltb 0 (tardiness_ms clock completion d))) f
-  reported none d f = refl
-  reported (some c) d f = go (ltb 0 (tardiness_ms clock c d))
+  reported None d f = refl
+  reported (Some c) d f = go (ltb 0 (tardiness_ms clock c d))
     where
       go : (b : Bool) → given b f ++ [] ≡ given b f
       go true = refl

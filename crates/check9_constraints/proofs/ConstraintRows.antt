@@ -3,7 +3,7 @@ use Prim.Native.Nat.{ℕ, ◌+◌, ◌<◌, ◌≤◌}
 use mathlib.Core.Path.{◌≡◌, refl, ap, sym, ◌∙◌}
 use mathlib.Core.Bool.{Bool, true, false, ◌||◌, true≢false}
 use mathlib.Core.List.{List, [], ◌++◌, append-nil}
-use mathlib.Core.Option.{Option, none, some}
+use Rattle.std.specs.Prelude.{Option, None, Some}
 use native.Mathlib.Omega.{arith}
 use native.Mathlib.Decide.{ℕ_discrete}
 use lib.Dec.{ltb}
@@ -31,8 +31,8 @@ use Rattle.check9_constraints.specs.inner.Outside.{outside_at}
 
 module _ (rows : List ℤ) (k : ℕ) where
   reported : (x : Option (Span ℤ)) (test : Span ℤ → Bool) (f : Violation) → option x [] (λ y. given (test y) f) ++ [] ≡ given (option x false test) f
-  reported none test f = refl
-  reported (some y) test f = append-nil (given (test y) f)
+  reported None test f = refl
+  reported (Some y) test f = append-nil (given (test y) f)
 
   window_found : is rows k 0 19 ≡ true → check_constraint_at clock (sheet rows) k ≡ given (outside_at rows k) (time_window_violation 9 (num rows k 1))
   unfolding check_constraint_at check_constraint each outside_at

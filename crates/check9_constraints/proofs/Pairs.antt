@@ -3,7 +3,7 @@ use Prim.Native.Nat.{ℕ, zero, suc, ◌+◌, ◌<◌, ◌≤◌}
 use mathlib.Core.Path.{◌≡◌, refl, ap, ap₂, sym, ◌∙◌}
 use mathlib.Core.Bool.{Bool, true, false, cond, ◌&&◌, and_assoc}
 use mathlib.Core.List.{List, [], ◌∷◌, ◌++◌, append-nil}
-use mathlib.Core.Option.{Option, none, some}
+use Rattle.std.specs.Prelude.{Option, None, Some}
 use native.Mathlib.Omega.{arith}
 use native.Mathlib.Decide.{dec_lt}
 use lib.Dec.{eqb, ltb}
@@ -53,33 +53,33 @@ ltb_suc a b = go (dec_lt a b)
 
 module _ (rows : List ℤ) (r : ℕ) where
   one : Option (Assignment ℤ) → List (Assignment ℤ)
-  one none = []
-  one (some a) = a ∷ []
+  one None = []
+  one (Some a) = a ∷ []
 
   both : Option (Assignment ℤ) → Option (Assignment ℤ) → List Violation
-  both none y = []
-  both (some a) none = []
-  both (some a) (some b) = given (overlapping clock (sheet rows) a b) (capacity_exceeded 9 r)
+  both None y = []
+  both (Some a) None = []
+  both (Some a) (Some b) = given (overlapping clock (sheet rows) a b) (capacity_exceeded 9 r)
 
-  both_one : (a : Assignment ℤ) (y : Option (Assignment ℤ)) → each (λ b. given (overlapping clock (sheet rows) a b) (capacity_exceeded 9 r)) (one y) ≡ both (some a) y
+  both_one : (a : Assignment ℤ) (y : Option (Assignment ℤ)) → each (λ b. given (overlapping clock (sheet rows) a b) (capacity_exceeded 9 r)) (one y) ≡ both (Some a) y
   unfolding each one both
-  both_one a none = refl
-  both_one a (some b) = append-nil (given (overlapping clock (sheet rows) a b) (capacity_exceeded 9 r))
+  both_one a None = refl
+  both_one a (Some b) = append-nil (given (overlapping clock (sheet rows) a b) (capacity_exceeded 9 r))
 
   -- the findings of the first with all others, and those of the others
   first_apart : (x : Option (Assignment ℤ)) (l : List (Assignment ℤ))
       → check_overlaps clock (sheet rows) r (one x ++ l)
       ≡ option x [] (λ a. each (λ b. given (overlapping clock (sheet rows) a b) (capacity_exceeded 9 r)) l) ++ check_overlaps clock (sheet rows) r l
   unfolding check_overlaps one
-  first_apart none l = refl
-  first_apart (some a) l = refl
+  first_apart None l = refl
+  first_apart (Some a) l = refl
 
   with_first : (x : Option (Assignment ℤ)) (o : ℕ → Option (Assignment ℤ)) (m : ℕ)
       → option x [] (λ a. each (λ b. given (overlapping clock (sheet rows) a b) (capacity_exceeded 9 r)) (collect (λ k. one (o k)) m))
       ≡ collect (λ k. both x (o k)) m
   unfolding both
-  with_first none o m = sym (collect_nothing _ (λ k. refl) m)
-  with_first (some a) o m = each_collect _ (λ k. one (o k)) m ∙ collect_ext _ _ m (λ k l. both_one a (o k))
+  with_first None o m = sym (collect_nothing _ (λ k. refl) m)
+  with_first (Some a) o m = each_collect _ (λ k. one (o k)) m ∙ collect_ext _ _ m (λ k l. both_one a (o k))
 
   after : (o : ℕ → Option (Assignment ℤ)) → ℕ → ℕ → List Violation
   after o j k = cond (ltb j k) (both (o j) (o k)) []
@@ -120,8 +120,8 @@ module _ (rows : List ℤ) where
       }
 
   booked : Option ℕ → Option (Assignment ℤ)
-  booked none = none
-  booked (some k) = some (booking k)
+  booked None = None
+  booked (Some k) = Some (booking k)
 
   module _ (a r : ℕ) where
     taken : ℕ → List (Assignment ℤ)
@@ -145,8 +145,8 @@ module _ (rows : List ℤ) where
 
     or_booked : (x y : Option ℕ) → or_else (booked x) (booked y) ≡ booked (or_else x y)
     unfolding booked
-    or_booked none y = refl
-    or_booked (some k) y = refl
+    or_booked None y = refl
+    or_booked (Some k) y = refl
 
     first_taken : (n : ℕ) → first (λ k. head (taken k)) n ≡ booked (first_place (booked_on rows a r) n)
     unfolding first first_place booked
@@ -163,8 +163,8 @@ module _ (rows : List ℤ) where
 
     listed_one : (x : Option (Assignment ℤ)) → option x [] (λ y. y ∷ []) ≡ one rows r x
     unfolding one
-    listed_one none = refl
-    listed_one (some y) = refl
+    listed_one None = refl
+    listed_one (Some y) = refl
 
     first_on_is : first_on clock (sheet rows) r a ≡ one rows r (booked (first_place (booked_on rows a r) (row_count rows)))
     unfolding first_on
@@ -178,7 +178,7 @@ module _ (rows : List ℤ) where
     member_at k = go (is rows k 0 22) refl
       where
         two : (b : Bool) → each (first_on clock (sheet rows) r) (given b (num rows k 2))
-            ≡ one rows r (booked (cond b (first_place (booked_on rows (num rows k 2) r) (row_count rows)) none))
+            ≡ one rows r (booked (cond b (first_place (booked_on rows (num rows k 2) r) (row_count rows)) None))
         two true = append-nil (first_on clock (sheet rows) r (num rows k 2)) ∙ first_on_is (num rows k 2) r
         two false = refl
 
@@ -200,22 +200,22 @@ module _ (rows : List ℤ) where
         go false = refl
 
     pair_at_lem : (b : Bool) (x : ℕ) (y : Option ℕ)
-        → given (b && option y false (overlap_at rows x)) (capacity_exceeded 9 r) ≡ cond b (both rows r (some (booking x)) (booked y)) []
+        → given (b && option y false (overlap_at rows x)) (capacity_exceeded 9 r) ≡ cond b (both rows r (Some (booking x)) (booked y)) []
     unfolding both booking booked overlap_at
     pair_at_lem false x y = refl
-    pair_at_lem true x none = refl
-    pair_at_lem true x (some z) = refl
+    pair_at_lem true x None = refl
+    pair_at_lem true x (Some z) = refl
 
     bookings_at : ℕ → Option (Assignment ℤ)
     bookings_at k = booked (member_booking rows p r k)
 
-    pair_there : (a j k : ℕ) → member_booking rows p r j ≡ some a → given (pair_at rows p r a j k) (capacity_exceeded 9 r) ≡ after rows r bookings_at j k
+    pair_there : (a j k : ℕ) → member_booking rows p r j ≡ Some a → given (pair_at rows p r a j k) (capacity_exceeded 9 r) ≡ after rows r bookings_at j k
     unfolding after pair_at bookings_at
     pair_there a j k h =
         pair_at_lem (ltb j k) a (member_booking rows p r k)
         ∙ ap (λ x. cond (ltb j k) (both rows r x (booked (member_booking rows p r k))) []) (sym (ap booked h ∙ (unfold booked in refl)))
 
-    pair_gone : (j k : ℕ) → member_booking rows p r j ≡ none → after rows r bookings_at j k ≡ []
+    pair_gone : (j k : ℕ) → member_booking rows p r j ≡ None → after rows r bookings_at j k ≡ []
     unfolding after both bookings_at booked
     pair_gone j k h = ap (λ x. cond (ltb j k) (both rows r x (bookings_at k)) []) (ap booked h) ∙ absent j k
 
@@ -226,8 +226,8 @@ module _ (rows : List ℤ) where
         go : (x : Option ℕ) → member_booking rows p r j ≡ x
             → option (member_booking rows p r j) [] (λ a. collect (λ k. given (pair_at rows p r a j k) (capacity_exceeded 9 r)) (row_count rows))
             ≡ collect (after rows r bookings_at j) (row_count rows)
-        go (some a) h = rw h (collect_ext _ _ (row_count rows) (λ k l. pair_there a j k h))
-        go none h = rw h (sym (collect_nothing _ (λ k. pair_gone j k h) (row_count rows)))
+        go (Some a) h = rw h (collect_ext _ _ (row_count rows) (λ k l. pair_there a j k h))
+        go None h = rw h (sym (collect_nothing _ (λ k. pair_gone j k h) (row_count rows)))
 
     all_pairs : collect (pairs_at rows p r) (row_count rows) ≡ check_overlaps clock (sheet rows) r (each (first_on clock (sheet rows) r) (members (sheet rows) p))
     unfolding bookings_at
@@ -237,7 +237,7 @@ module _ (rows : List ℤ) where
         ∙ ap (check_overlaps clock (sheet rows) r) (sym bookings)
 
     -- what stands in rows of another kind is no member
-    off : (k : ℕ) → of_kind rows 22 k ≡ false → member_booking rows p r k ≡ none
+    off : (k : ℕ) → of_kind rows 22 k ≡ false → member_booking rows p r k ≡ None
     unfolding of_kind member_booking
     off k h = rw h
 
@@ -269,7 +269,7 @@ module _ (rows : List ℤ) (p r k : ℕ) {b : Bool} (e : b ≡ (is rows k 0 22 &
   unfolding member_booking
   member_told h f g = rw (sym e ∙ h, ← f) g
 
-  pub no_member : b ≡ false → none ≡ member_booking rows p r k
+  pub no_member : b ≡ false → None ≡ member_booking rows p r k
   unfolding member_booking
   no_member h = rw (sym e ∙ h)
 
@@ -328,7 +328,7 @@ booking_row : (rows : List ℤ) (p r k : ℕ) → IsRow rows (member_booking row
 unfolding member_booking
 booking_row rows p r k = record { within = λ i. go i (is rows k 0 22 && is rows k 1 p) }
   where
-    go : (i : ℕ) (b : Bool) → cond b (first_place (booked_on rows (num rows k 2) r) (row_count rows)) none ≡ some i → i < row_count rows
+    go : (i : ℕ) (b : Bool) → cond b (first_place (booked_on rows (num rows k 2) r) (row_count rows)) None ≡ Some i → i < row_count rows
     go i true e = (found_at (booked_on rows (num rows k 2) r) (row_count rows) i e).0
     go i false e = let z : ◌≡◌ {A = ℕ} 0 1 = cc in absurd (omega arith)
 

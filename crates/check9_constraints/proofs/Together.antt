@@ -3,7 +3,7 @@ use Prim.Native.Nat.{ℕ, suc, ◌≤◌}
 use mathlib.Core.Path.{◌≡◌, refl, ap, sym, ◌∙◌}
 use mathlib.Core.Bool.{Bool, true, false, cond, not, ◌&&◌, ◌||◌, and-true}
 use mathlib.Core.List.{List, [], ◌∷◌, ◌++◌, foldl, append-nil}
-use mathlib.Core.Option.{Option, none, some}
+use Rattle.std.specs.Prelude.{Option, None, Some}
 use native.Mathlib.Omega.{arith}
 use native.Mathlib.Decide.{ℕ_discrete}
 use lib.Dec.{eqb, ltb}
@@ -56,8 +56,8 @@ module _ (rows : List ℤ) (f : ℕ → Option (Span ℤ)) where
   fewer (a ∷ l) = go (f a) (fewer l)
     where
       go : (x : Option (Span ℤ)) → length (each starts_of l) ≤ length l → length (option x [] (λ y. y.start ∷ []) ++ each starts_of l) ≤ suc (length l)
-      go none h = omega arith
-      go (some y) h = omega arith
+      go None h = omega arith
+      go (Some y) h = omega arith
 
   short : (l : List ℕ) → eqb (length (each starts_of l)) (suc (length l)) ≡ false
   short l = ne_eqb (length (each starts_of l)) (suc (length l)) (λ z. omega (arith, fewer l))
@@ -68,8 +68,8 @@ module _ (rows : List ℤ) (f : ℕ → Option (Span ℤ)) where
   missed (a ∷ l) = go (f a) (missed l)
     where
       go : (x : Option (Span ℤ)) → foldl step missing l ≡ missing → foldl step (with_span missing x) l ≡ missing
-      go none h = h
-      go (some y) h = h
+      go None h = h
+      go (Some y) h = h
 
   differed : (l : List ℕ) → differs (foldl step differing l) ≡ eqb (length (each starts_of l)) (length l)
   unfolding each starts_of step
@@ -78,8 +78,8 @@ module _ (rows : List ℤ) (f : ℕ → Option (Span ℤ)) where
     where
       go : (x : Option (Span ℤ)) → differs (foldl step differing l) ≡ eqb (length (each starts_of l)) (length l)
           → differs (foldl step (with_span differing x) l) ≡ eqb (length (option x [] (λ y. y.start ∷ []) ++ each starts_of l)) (suc (length l))
-      go none h = ap differs (missed l) ∙ sym (short l)
-      go (some y) h = h ∙ sym (eqb_suc (length (each starts_of l)) (length l))
+      go None h = ap differs (missed l) ∙ sym (short l)
+      go (Some y) h = h ∙ sym (eqb_suc (length (each starts_of l)) (length l))
 
   alikes : (l : List ℕ) (x : ℤ)
       → differs (foldl step (alike x) l) ≡ (eqb (length (each starts_of l)) (length l) && page.differing clock (sheet rows) (x ∷ each starts_of l))
@@ -98,8 +98,8 @@ module _ (rows : List ℤ) (f : ℕ → Option (Span ℤ)) where
           → differs (foldl step (with_span (alike x) v) l)
           ≡ (eqb (length (option v [] (λ y. y.start ∷ []) ++ each starts_of l)) (suc (length l))
           && page.differing clock (sheet rows) (x ∷ (option v [] (λ y. y.start ∷ []) ++ each starts_of l)))
-      go none h = rw (missed l, short l)
-      go (some v) h = compared (same_time clock x v.start) v.start (h v.start)
+      go None h = rw (missed l, short l)
+      go (Some v) h = compared (same_time clock x v.start) v.start (h v.start)
 
   seen_all : (l : List ℕ) → differs (foldl step empty l) ≡ (eqb (length (each starts_of l)) (length l) && page.differing clock (sheet rows) (each starts_of l))
   unfolding each starts_of step page.differing
@@ -109,8 +109,8 @@ module _ (rows : List ℤ) (f : ℕ → Option (Span ℤ)) where
       go : (v : Option (Span ℤ)) → differs (foldl step (with_span empty v) l)
           ≡ (eqb (length (option v [] (λ y. y.start ∷ []) ++ each starts_of l)) (suc (length l))
           && page.differing clock (sheet rows) (option v [] (λ y. y.start ∷ []) ++ each starts_of l))
-      go none = rw (missed l, short l)
-      go (some v) = rw (eqb_suc (length (each starts_of l)) (length l)) (alikes l v.start)
+      go None = rw (missed l, short l)
+      go (Some v) = rw (eqb_suc (length (each starts_of l)) (length l)) (alikes l v.start)
 
 module _ (rows : List ℤ) (p : ℕ) where
   span_of : ℕ → Option (Span ℤ)

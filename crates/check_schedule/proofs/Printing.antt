@@ -2,7 +2,7 @@
 use Prim.Native.Nat.{ℕ, ◌+◌, ◌*◌, ◌/◌, ◌≤◌, min}
 use mathlib.Core.Path.{◌≡◌, refl, sym, ap, ◌∙◌, subst}
 use mathlib.Core.List.{List, ◌∷◌, ◌++◌}
-use mathlib.Core.Option.{Option, none, some}
+use Rattle.std.specs.Prelude.{Option, None, Some}
 use native.Mathlib.Omega.{arith}
 use lib.IntN.{ℤ}
 use lib.ListN.{length, take, drop, length-drop}
@@ -48,8 +48,8 @@ Few (Refused number place) = Unit {0}
 
 few : (rows : List ℤ) (o : Option Refusal) → refusal rows 2000 ≡ o → Few (answered o (length (findings rows)))
 unfolding refusal
-few rows none e = had_room rows (length (findings rows)) 2000 e
-few rows (some x) e = tt
+few rows None e = had_room rows (length (findings rows)) 2000 e
+few rows (Some x) e = tt
 
 fits : (a : Answer) (found : List ℤ) → Small found → Bounded a → Few a → length (printed a found) ≤ 168030
 fits (Accepted n) found s b f = accepted_fits found s n f
@@ -57,8 +57,8 @@ fits (Refused number place) found s b f = omega (arith, refused_fits number plac
 
 as_written : (rows before : List ℤ) (o : Option Refusal)
     → printed (answered o (length (findings rows))) (lent_after o (flat (findings rows)) before) ≡ printed (answered o (length (findings rows))) (flat (findings rows))
-as_written rows before none = accepted_first (flat (findings rows)) _ (length (findings rows)) (flat_length (findings rows))
-as_written rows before (some x) = refl
+as_written rows before None = accepted_first (flat (findings rows)) _ (length (findings rows)) (flat_length (findings rows))
+as_written rows before (Some x) = refl
 
 -- the call's buffer, lent, is handed on as found
 module _ (rows before : List ℤ) (room : 8000 ≡ length before) (o : List ℕ) (long : length o ≡ 168030) {o' : List ℕ} {r : ℕ}

@@ -2,7 +2,7 @@
 use Prim.Native.Nat.{ℕ, zero, suc, ◌+◌, ◌*◌, ◌-◌, ◌/◌, ◌^◌, ◌<◌, ◌≤◌}
 use mathlib.Core.Path.{◌≡◌, refl, sym, ap, ap₂, ◌∙◌}
 use mathlib.Core.List.{List, [], ◌∷◌, ◌++◌}
-use mathlib.Core.Option.{Option, none, some}
+use Rattle.std.specs.Prelude.{Option, None, Some}
 use native.Mathlib.Omega.{arith}
 use lib.IntN.{ℤ}
 use lib.ListN.{length, take, drop, length-append, length-take}
@@ -86,8 +86,8 @@ module _ (text : List ℕ) (resource : ℤ) (before : List ℤ) (room : 8000 ≡
     first : numbers ≡ flat_lines (closure_row resource) (closures text) ++ drop (length (flat_lines (closure_row resource) (closures text))) before
 
   found_by : (o : Option Refusal) {n : ℕ} → answered o (length (closures text)) ≡ Accepted n → Found (lent_after o (flat_lines (closure_row resource) (closures text)) before) n
-  found_by none q = record { all = sym (same_count q); first = refl }
-  found_by (some x) q = absurd (no_accept q)
+  found_by None q = record { all = sym (same_count q); first = refl }
+  found_by (Some x) q = absurd (no_accept q)
 
   found_is : {n : ℕ} → a ≡ Accepted n → Found (lent_after (freebusy_refusal text resource 800) (flat_lines (closure_row resource) (closures text)) before) n
   unfolding freebusy_answer

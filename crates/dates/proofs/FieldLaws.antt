@@ -2,7 +2,7 @@
 use Prim.Native.Nat.{ℕ, suc, ◌+◌, ◌*◌, ◌-◌, ◌≤◌, ◌<◌}
 use mathlib.Core.Bool.{Bool, true, false, ◌&&◌, not, and-false}
 use mathlib.Core.List.{List, [], ◌∷◌}
-use mathlib.Core.Option.{none, some}
+use Rattle.std.specs.Prelude.{None, Some}
 use mathlib.Core.Path.{◌≡◌, sym, ◌∙◌}
 use native.Mathlib.Omega.{arith}
 use lib.Dec.{ltb, leb, eqb}
@@ -114,7 +114,7 @@ sum_is s py pm pd pyd pmd pld ph pmi pse = rw (pyd, pmd, pld, py, pm, pd, ph, pm
 pub ruleset sums = (rules, sum_is)
 
 module _ (s : List ℕ) {a : Bool} (p : a ≡ date_time s) where
-  pub no_date_time : not a ≡ true → none ≡ instant s
+  pub no_date_time : not a ≡ true → None ≡ instant s
   unfolding instant
   no_date_time h = rw (sym p ∙ not-true a h)
 
@@ -124,20 +124,20 @@ module _ (s : List ℕ) {a : Bool} (p : a ≡ date_time s) where
     sixteen = eqb-true (length s) 16 (and_left (eqb (length s) 16) (date s && (is_letter LETTER_T (get_or s 8 0) && time s)) (sym p ∙ not-false a h))
 
     module _ {b : Bool} (q : b ≡ exists s) where
-      pub no_such : not b ≡ true → none ≡ instant s
+      pub no_such : not b ≡ true → None ≡ instant s
       unfolding instant
       no_such k = rw (sym p ∙ not-false a h, sym q ∙ not-true b k)
 
       module _ {t : ℕ} (k : not b ≡ false) (e : t ≡ milliseconds s) where
-        pub instant_early : t < epoch → none ≡ instant s
+        pub instant_early : t < epoch → None ≡ instant s
         unfolding instant
         instant_early l = rw (sym p ∙ not-false a h, sym q ∙ not-false b k, ← e, lt-leb epoch t)
 
-        pub instant_late : epoch + last_instant < t → none ≡ instant s
+        pub instant_late : epoch + last_instant < t → None ≡ instant s
         unfolding instant
         instant_late l = rw (sym p ∙ not-false a h, sym q ∙ not-false b k, ← e, lt-leb t (epoch + last_instant), and-false (leb epoch t))
 
-        pub instant_is : epoch ≤ t → t ≤ epoch + last_instant → some (t - epoch) ≡ instant s
+        pub instant_is : epoch ≤ t → t ≤ epoch + last_instant → Some (t - epoch) ≡ instant s
         unfolding instant
         instant_is l m = rw (sym p ∙ not-false a h, sym q ∙ not-false b k, ← e, le-leb epoch t, le-leb t (epoch + last_instant))
 

@@ -2,7 +2,8 @@
 use Prim.Native.Nat.{ℕ, zero, suc, ◌+◌, ◌-◌, ◌≤◌}
 use mathlib.Core.Bool.{Bool, true, false, ◌&&◌}
 use mathlib.Core.List.{List, [], ◌∷◌}
-use mathlib.Core.Option.{some, none-ne-some, some-injective}
+use Rattle.std.specs.Prelude.{Some}
+use Rattle.std.proofs.lemmas.Option.{none-some, same_Some}
 use mathlib.Core.Path.{◌≡◌, refl, sym, ap, ap₂, ◌∙◌}
 use native.Mathlib.Omega.{arith}
 use lib.Dec.{leb, eqb}
@@ -17,16 +18,16 @@ use Rattle.letters.specs.Letters.{capital, capitals, is_letter, LETTER_T, LETTER
 use Rattle.letters.proofs.LetterLaws.{capital_twice, digits_kept, digits_unseen, capitals_take, capitals_drop}
 use Rattle.dates.specs.DateTime.{field, date, time, date_time, exists, in_range, milliseconds, epoch, last_instant, instant}
 
-pub instant_most : (s : List ℕ) (a : ℕ) → some a ≡ instant s → a ≤ last_instant
+pub instant_most : (s : List ℕ) (a : ℕ) → Some a ≡ instant s → a ≤ last_instant
 unfolding instant
 instant_most s a e = go (date_time s) (exists s) (leb epoch (milliseconds s)) (leb (milliseconds s) (epoch + last_instant)) refl e
   where
-    go : (p q r t : Bool) → leb (milliseconds s) (epoch + last_instant) ≡ t → some a ≡ some_if (p && (q && (r && t))) (milliseconds s - epoch) → a ≤ last_instant
-    go true true true true h k = let z = some-injective _ _ k in omega (arith, leb-true (milliseconds s) (epoch + last_instant) h)
-    go true true true false h k = absurd (none-ne-some _ (sym k))
-    go true true false t h k = absurd (none-ne-some _ (sym k))
-    go true false r t h k = absurd (none-ne-some _ (sym k))
-    go false q r t h k = absurd (none-ne-some _ (sym k))
+    go : (p q r t : Bool) → leb (milliseconds s) (epoch + last_instant) ≡ t → Some a ≡ some_if (p && (q && (r && t))) (milliseconds s - epoch) → a ≤ last_instant
+    go true true true true h k = let z = same_Some _ _ k in omega (arith, leb-true (milliseconds s) (epoch + last_instant) h)
+    go true true true false h k = absurd (none-some _ (sym k))
+    go true true false t h k = absurd (none-some _ (sym k))
+    go true false r t h k = absurd (none-some _ (sym k))
+    go false q r t h k = absurd (none-some _ (sym k))
 
 -- ---- letters in the other case
 

@@ -1,7 +1,7 @@
 -- A date and time in sixteen bytes, as 20240229T235959Z: RFC 5545, 3.3.4, 3.3.5 and 3.3.12, the form with UTC time. Bytes are given by their numbers.
 -- Assumes nothing.
 use Rattle.std.specs.Prelude.{ℕ, ◌+◌, ◌*◌, ◌-◌, Bool, ◌&&◌, List, [], ◌∷◌, ltb, leb, eqb, length, get_or, take, drop}
-use Rattle.std.proofs.Math.Option.{Option, none, some}
+use Rattle.std.specs.Prelude.{Option, None, Some}
 use Rattle.loops.specs.Lists.{all_of}
 use Rattle.loops.specs.Search.{some_if}
 use Rattle.text_fields.specs.Spelling.{is_digit}
@@ -86,5 +86,5 @@ instant s = some_if (date_time s && (exists s && in_range (milliseconds s))) (mi
 
 -- what the code says of it
 abbrev pub told : Instant → Option ℕ
-told (At t) = some t
-told Outside = none
+told (At t) = Some t
+told Outside = None

@@ -1,6 +1,6 @@
 -- `activity_span` of scheduler/feasibility.rs.
 use Rattle.std.specs.Prelude.{ℕ, map}
-use Rattle.std.proofs.Math.Option.{Option, none, some}
+use Rattle.std.specs.Prelude.{Option, None, Some}
 use Rattle.loops.specs.Lists.{option}
 use Rattle.calendar.specs.Clock.{Clock}
 use Rattle.model.specs.Sheet.{Sheet}
@@ -11,9 +11,9 @@ pub record Span (T : Type 0) : Type 0 where
   pub end : T
 
 abbrev pub span_from : {T : Type 0} → Option T → Option T → Option (Span T)
-span_from none e = none
-span_from (some a) none = none
-span_from (some a) (some e) = some (record { start = a; end = e })
+span_from None e = None
+span_from (Some a) None = None
+span_from (Some a) (Some e) = Some (record { start = a; end = e })
 
 module _ {T : Type 0} (K : Clock T) (s : Sheet T) where
   -- its time-only span, or else from the earliest start to the latest end of its bookings
@@ -23,4 +23,4 @@ module _ {T : Type 0} (K : Clock T) (s : Sheet T) where
       (span_from
       (earliest K (map (λ a. a.start) (assignments_for_activity_all s x)))
       (latest K (map (λ a. a.end) (assignments_for_activity_all s x))))
-      (λ span. some (record { start = span.start; end = span.end }))
+      (λ span. Some (record { start = span.start; end = span.end }))

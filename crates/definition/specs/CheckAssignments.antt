@@ -1,7 +1,7 @@
 -- Check 1: `check_assignments` of scheduler/feasibility.rs.
 use Rattle.std.specs.Prelude.{ℕ, suc, Bool, cond, not, ◌&&◌, ◌||◌, eqb, ℤ, pos, ◌+ℤ◌}
 use mathlib.Core.List.{List, [], ◌∷◌, ◌++◌, map, foldl}
-use Rattle.std.proofs.Math.Option.{Option, none, some}
+use Rattle.std.specs.Prelude.{Option, None, Some}
 use Rattle.std.specs.Int.Signed.{lt_z}
 use Rattle.loops.specs.Lists.{given, count_of, option, is_some, each}
 use Rattle.loops.specs.Numbers.{max_z}
@@ -29,8 +29,8 @@ module _ {T : Type 0} (s : Sheet T) where
 
 module _ {T : Type 0} (K : Clock T) (s : Sheet T) where
   abbrev pub early_assignment : Assignment T → Option T → List Violation
-  early_assignment a none = []
-  early_assignment a (some release) = given (K.before a.start release) (early_start 1 a.activity)
+  early_assignment a None = []
+  early_assignment a (Some release) = given (K.before a.start release) (early_start 1 a.activity)
 
   -- a booking of a known activity, after the earlier bookings
   unfoldable pub check_known : List (Assignment T) → Assignment T → Activity T → List Violation
@@ -42,7 +42,7 @@ module _ {T : Type 0} (K : Clock T) (s : Sheet T) where
       given (lt_z (units s activity.id) (pos used)) (unknown_activity 1 a.activity)
       ++ given (lt_z (K.minus a.end a.start) (pos needed)) (duration_too_short 1 a.activity)
       ++ early_assignment a activity.release
-      ++ early_assignment a (option (find_task s activity.task) none (λ t. t.release))))
+      ++ early_assignment a (option (find_task s activity.task) None (λ t. t.release))))
 
   -- a booking of an unknown activity is an external booking unless its task is known
   unfoldable pub check_assignment : List (Assignment T) → Assignment T → List Violation

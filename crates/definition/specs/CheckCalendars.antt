@@ -1,6 +1,6 @@
 -- Check 6: `check_calendars` of scheduler/feasibility.rs.
 use Rattle.std.specs.Prelude.{ℕ, Bool, cond, not, ◌||◌, List, [], ◌∷◌, ◌++◌, map, ltb}
-use Rattle.std.proofs.Math.Option.{Option, none, some}
+use Rattle.std.specs.Prelude.{Option, None, Some}
 use Rattle.loops.specs.Lists.{given, option, each}
 use Rattle.calendar.specs.Clock.{Clock}
 use Rattle.calendar.specs.Calendar.{Calendar, interval_fits, joint_working}
@@ -37,8 +37,8 @@ module _ {T : Type 0} (K : Clock T) (s : Sheet T) where
   unfoldable pub check_booking : Assignment T → List Violation
   check_booking a =
       option (find_resource s a.resource) [] λ r.
-      option (find_activity s a.activity) (check_plain a none) λ activity.
-      cond activity.resumable (check_resumable a activity) (check_plain a (some activity))
+      option (find_activity s a.activity) (check_plain a None) λ activity.
+      cond activity.resumable (check_resumable a activity) (check_plain a (Some activity))
 
   unfoldable pub check_calendars : List Violation
   check_calendars = each check_booking (assignments s)

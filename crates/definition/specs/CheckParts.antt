@@ -1,7 +1,7 @@
 -- Check 3: `check_parts` of scheduler/feasibility.rs.
 use Rattle.std.specs.Prelude.{ℕ, ◌+◌, Bool, false, cond, not, ◌&&◌, ◌||◌, length, eqb, ltb, ℤ, pos}
 use mathlib.Core.List.{List, [], ◌∷◌, ◌++◌, foldl}
-use Rattle.std.proofs.Math.Option.{Option, none, some}
+use Rattle.std.specs.Prelude.{Option, None, Some}
 use Rattle.std.specs.Int.Signed.{lt_z}
 use Rattle.loops.specs.Lists.{given, keep, any_of, head, option, is_some, is_empty, each}
 use Rattle.loops.specs.Ordered.{Entry, upsert, values}
@@ -17,7 +17,7 @@ parts_of l = foldl (λ m p. upsert lt_z p.index p.work (λ w. p.work) m) [] l
 
 -- the work of the index after the parts l
 unfoldable pub work_of : List Part → ℤ → Option ℕ
-work_of l i = option (head (keep (λ e. not (lt_z e.key i) && not (lt_z i e.key)) (parts_of l))) none (λ e. some e.value)
+work_of l i = option (head (keep (λ e. not (lt_z e.key i) && not (lt_z i e.key)) (parts_of l))) None (λ e. Some e.value)
 
 -- a part whose index has been given another work before, among the parts l
 unfoldable pub two_works : ℕ → List Part → List Part → List Violation

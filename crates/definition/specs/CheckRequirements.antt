@@ -1,7 +1,7 @@
 -- Check 4: `check_requirements` and `check_piece_requirements` of scheduler/feasibility.rs.
 use Rattle.std.specs.Prelude.{ℕ, zero, suc, Bool, false, cond, not, ◌&&◌, ◌||◌, length, eqb, ℤ, pos}
 use mathlib.Core.List.{List, [], ◌∷◌, ◌++◌, foldl}
-use Rattle.std.proofs.Math.Option.{Option}
+use Rattle.std.specs.Prelude.{Option}
 use Rattle.std.specs.Int.Signed.{lt_z}
 use Rattle.loops.specs.Numbers.{to_nat}
 use Rattle.loops.specs.Lists.{given, any_of, is_empty, each, among}

@@ -1,6 +1,6 @@
 -- Check 2: `check_time_only` of scheduler/feasibility.rs.
 use Rattle.std.specs.Prelude.{ℕ, Bool, cond, not, ◌&&◌, List, [], ◌∷◌, ◌++◌, eqb, ℤ, pos}
-use Rattle.std.proofs.Math.Option.{Option, none, some}
+use Rattle.std.specs.Prelude.{Option, None, Some}
 use Rattle.std.specs.Int.Signed.{lt_z}
 use Rattle.loops.specs.Lists.{given, any_of, option, is_some, is_empty, each}
 use Rattle.loops.specs.Range.{collect}
@@ -17,8 +17,8 @@ use Rattle.model.specs.Schedule.{TimeOnlySpan, span_at, time_only_below, time_on
 module _ {T : Type 0} (s : Sheet T) where
   -- `known`: the activity that the span names, if it is one of the span's task and holds no resource
   unfoldable pub known : TimeOnlySpan T → Option (Activity T)
-  known span = option (find_activity s span.activity) none λ a.
-      cond (is_empty (requirements s a.id) && eqb a.task span.task) (some a) none
+  known span = option (find_activity s span.activity) None λ a.
+      cond (is_empty (requirements s a.id) && eqb a.task span.task) (Some a) None
 
   -- `seen`: a known span among the earlier ones is of the activity
   unfoldable pub seen : List (TimeOnlySpan T) → ℕ → Bool
@@ -26,8 +26,8 @@ module _ {T : Type 0} (s : Sheet T) where
 
 module _ {T : Type 0} (K : Clock T) (s : Sheet T) where
   abbrev pub early_span : TimeOnlySpan T → Option T → List Violation
-  early_span span none = []
-  early_span span (some release) = given (K.before span.start release) (early_start 2 span.activity)
+  early_span span None = []
+  early_span span (Some release) = given (K.before span.start release) (early_start 2 span.activity)
 
   -- the first known span of its activity
   unfoldable pub check_first : TimeOnlySpan T → Activity T → List Violation
@@ -43,7 +43,7 @@ module _ {T : Type 0} (K : Clock T) (s : Sheet T) where
       given (lt_z worked (pos work)) (duration_too_short 2 span.activity)
       ++ given (not inOwn) (time_window_violation 2 span.activity)
       ++ early_span span a.release
-      ++ early_span span (option (find_task s a.task) none (λ t. t.release))
+      ++ early_span span (option (find_task s a.task) None (λ t. t.release))
 
   -- a span, after the earlier spans
   unfoldable pub check_span : List (TimeOnlySpan T) → TimeOnlySpan T → List Violation

@@ -1,6 +1,6 @@
 -- scheduler/feasibility.rs: `piece_key`, `companions_among`, and what a piece runs on.
 use Rattle.std.specs.Prelude.{ℕ, Bool, true, false, not, ◌&&◌, List, map, eqb, ℤ}
-use Rattle.std.proofs.Math.Option.{Option, none, some}
+use Rattle.std.specs.Prelude.{Option, None, Some}
 use Rattle.std.specs.Int.Signed.{lt_z}
 use Rattle.loops.specs.Lists.{keep, any_of, among, option}
 use Rattle.model.specs.Sheet.{Sheet}
@@ -9,13 +9,13 @@ use Rattle.model.specs.Schedule.{Part, Assignment, assignments}
 
 -- the part's index, none of the activity whole
 abbrev pub index_of : Option Part → Option ℤ
-index_of p = option p none (λ x. some x.index)
+index_of p = option p None (λ x. Some x.index)
 
 -- the order of part indices: none comes first
 abbrev pub before_index : Option ℤ → Option ℤ → Bool
-before_index x none = false
-before_index none (some j) = true
-before_index (some i) (some j) = lt_z i j
+before_index x None = false
+before_index None (Some j) = true
+before_index (Some i) (Some j) = lt_z i j
 
 abbrev pub same_index : Option ℤ → Option ℤ → Bool
 same_index x y = not (before_index x y) && not (before_index y x)

@@ -3,7 +3,7 @@ use Prim.Native.Nat.{ℕ, suc, ◌<◌, ◌≤◌}
 use mathlib.Core.Path.{◌≡◌, refl, sym, ap, ◌∙◌}
 use mathlib.Core.Bool.{Bool, true, false, cond, not, ◌&&◌, true≢false}
 use mathlib.Core.List.{List, [], ◌∷◌, ◌++◌, map, foldl}
-use mathlib.Core.Option.{Option, none, some}
+use Rattle.std.specs.Prelude.{Option, None, Some}
 use lib.IntN.{ℤ}
 use Rattle.loops.specs.Lists.{keep, each, option}
 use Rattle.loops.specs.Range.{fold, collect}
@@ -80,8 +80,8 @@ module _ (rows : List ℤ) where
     timing_on a r = option (timing (sheet rows) a r) [] (λ t. t ∷ [])
 
     taken : (c : TimedSoFar) (x : Option ResourceTiming) → foldl Step c (option x [] (λ t. t ∷ []) ++ []) ≡ option x c (λ t. Step c t)
-    taken c none = refl
-    taken c (some t) = refl
+    taken c None = refl
+    taken c (Some t) = refl
 
     module _ (acc : Accepted rows) (l : k < row_count rows) (h : is rows k 0 23 ≡ true) (a : ℕ) (e : a ≡ num rows k 1) where
       abbrev of_booking : Assignment ℤ → List ResourceTiming
@@ -138,18 +138,18 @@ module _ (rows : List ℤ) where
       held_aside p q = rw (p, q)
 
       timing_at_lem : (x : Option ℕ) → in_piece rows k j ≡ true → first_place (timed_by rows (num rows j 1) (num rows j 3)) (row_count rows) ≡ x
-          → timing (sheet rows) (num rows k 1) (num rows j 3) ≡ option x none (λ i. some (timing_of rows i))
-      timing_at_lem x p f = ap (λ a. timing (sheet rows) a (num rows j 3)) (sym (piece_activity rows k j p)) ∙ timing_is rows (num rows j 1) (num rows j 3) ∙ ap (λ y. option y none (λ i. some (timing_of rows i))) f
+          → timing (sheet rows) (num rows k 1) (num rows j 3) ≡ option x None (λ i. Some (timing_of rows i))
+      timing_at_lem x p f = ap (λ a. timing (sheet rows) a (num rows j 3)) (sym (piece_activity rows k j p)) ∙ timing_is rows (num rows j 1) (num rows j 3) ∙ ap (λ y. option y None (λ i. Some (timing_of rows i))) f
 
-      pub timed_here : (i : ℕ) → in_piece rows k j ≡ true → held_at rows j ≡ false → first_place (timed_by rows (num rows j 1) (num rows j 3)) (row_count rows) ≡ some i
+      pub timed_here : (i : ℕ) → in_piece rows k j ≡ true → held_at rows j ≡ false → first_place (timed_by rows (num rows j 1) (num rows j 3)) (row_count rows) ≡ Some i
           → timed_on g (piece_timing piece (timing_of rows i)) ≡ timed_at rows k piece g j
       unfolding timed_at
-      timed_here i p q f = rw (p, q, timing_at_lem (some i) p f)
+      timed_here i p q f = rw (p, q, timing_at_lem (Some i) p f)
 
-      untimed_here : in_piece rows k j ≡ true → held_at rows j ≡ false → first_place (timed_by rows (num rows j 1) (num rows j 3)) (row_count rows) ≡ none
+      untimed_here : in_piece rows k j ≡ true → held_at rows j ≡ false → first_place (timed_by rows (num rows j 1) (num rows j 3)) (row_count rows) ≡ None
           → g ≡ timed_at rows k piece g j
       unfolding timed_at
-      untimed_here p q f = rw (p, q, timing_at_lem none p f)
+      untimed_here p q f = rw (p, q, timing_at_lem None p f)
 
       -- the same, of what the code found
       pub timed_still : {t : Timed} → t ≡ timed_of g → g ≡ timed_at rows k piece g j → t ≡ timed_of (timed_at rows k piece g j)
@@ -162,7 +162,7 @@ module _ (rows : List ℤ) where
           → r ≡ At i → found_of r ≡ timing_place rows j → in_piece rows k j ≡ true → held_at rows j ≡ false → Accepted rows → PieceAmounts piece
           → t' ≡ timed_of (timed_at rows k piece g j)
       timed_found {t} {t'} {x} {r} {i} e u v w f p q acc a =
-          let z : first_place (timed_by rows (num rows j 1) (num rows j 3)) (row_count rows) ≡ some i = timing_row rows j (piece_kind rows k j p) (sym (ap found_of w) ∙ f) in
+          let z : first_place (timed_by rows (num rows j 1) (num rows j 3)) (row_count rows) ≡ Some i = timing_row rows j (piece_kind rows k j p) (sym (ap found_of w) ∙ f) in
           u
           ∙ ap (λ y. timed_with y piece x) e
           ∙ timed_known g piece x a (rw v (row_amounts rows acc j i z))
@@ -170,7 +170,7 @@ module _ (rows : List ℤ) where
 
   -- ---- the whole derivation
 
-  derived_is : Accepted rows → (k o : ℕ) (piece : Piece) → k < row_count rows → is rows k 0 23 ≡ true → place_of rows 2 (num rows k 1) ≡ some o
+  derived_is : Accepted rows → (k o : ℕ) (piece : Piece) → k < row_count rows → is rows k 0 23 ≡ true → place_of rows 2 (num rows k 1) ≡ Some o
       → piece ≡ piece_of (sheet rows) (activity_of rows o) (part_at rows k)
       → timed (piece_duration piece (columns_of rows o 4)) (fold (timed_at rows k piece) start (row_count rows))
       ≡ derived (sheet rows) (assignment_of rows k) (activity_of rows o)
@@ -182,7 +182,7 @@ module _ (rows : List ℤ) where
   -- the same, of what the code found
   pub duration_found : (k o : ℕ) {d : Derived} {t : Timed} {piece : Piece} {a b c : ℕ} → t ≡ timed_of (fold (timed_at rows k piece) start (row_count rows))
       → d ≡ derived_of t (piece_duration piece (record { setup_ms = a; process_ms = b; teardown_ms = c })) → a ≡ num rows o 4 → b ≡ num rows o 5 → c ≡ num rows o 6
-      → piece ≡ piece_of (sheet rows) (activity_of rows o) (part_at rows k) → Accepted rows → k < row_count rows → is rows k 0 23 ≡ true → place_of rows 2 (num rows k 1) ≡ some o
+      → piece ≡ piece_of (sheet rows) (activity_of rows o) (part_at rows k) → Accepted rows → k < row_count rows → is rows k 0 23 ≡ true → place_of rows 2 (num rows k 1) ≡ Some o
       → d ≡ within (derived (sheet rows) (assignment_of rows k) (activity_of rows o))
   duration_found k o {d} {t} {piece} e f p q r w acc l h z =
       let u : d ≡ derived_of t (piece_duration piece (columns_of rows o 4)) = rw (p, q, r) at f in

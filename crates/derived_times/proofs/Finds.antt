@@ -4,7 +4,7 @@ use Prim.Native.Nat.{ℕ, zero, suc}
 use mathlib.Core.Path.{◌≡◌, refl, ap, sym, ◌∙◌}
 use mathlib.Core.Bool.{Bool, true, false, cond, ◌&&◌, ◌||◌, or-false}
 use mathlib.Core.List.{List}
-use mathlib.Core.Option.{Option, none, some}
+use Rattle.std.specs.Prelude.{Option, None, Some}
 use native.Mathlib.Omega.{arith}
 use lib.Dec.{eqb, ltb}
 use borrow.Author.Tests.{lt-ltb, le-ltb}
@@ -28,7 +28,7 @@ use Rattle.derived_times.specs.inner.Rows.{columns_of, timed_by, timing_of, earl
 
 -- a list put together by place, whose rows give one element or none
 pub head_of : {A : Type 0} (q : ℕ → Bool) (g : ℕ → A) (f : ℕ → List A) (n : ℕ) → ((k : ℕ) → head (f k) ≡ some_if (q k) (g k))
-    → head (collect f n) ≡ option (first_place q n) none (λ i. some (g i))
+    → head (collect f n) ≡ option (first_place q n) None (λ i. Some (g i))
 head_of q g f n h = head_collect f n ∙ first_same _ _ n h ∙ first_placed q g n
 
 module _ (rows : List ℤ) where
@@ -38,7 +38,7 @@ module _ (rows : List ℤ) where
   abbrev split_row : ℕ → ℕ → List Split
   split_row x k = given (eqb (num_at (sheet rows) k 1) x) (record { max_parts = int_at (sheet rows) k 2; min_part = num_at (sheet rows) k 3; overhead = num_at (sheet rows) k 4 })
 
-  pub split_is : (x : ℕ) → split (sheet rows) x ≡ option (place_of rows 4 x) none (λ i. some (split_of i))
+  pub split_is : (x : ℕ) → split (sheet rows) x ≡ option (place_of rows 4 x) None (λ i. Some (split_of i))
   unfolding split place_of
   split_is x = head_of (named rows 4 x) split_of _ (row_count rows) (λ k. at k (is rows k 0 4) refl)
     where
@@ -56,7 +56,7 @@ module _ (rows : List ℤ) where
       go false true h g = unfold timing_at timed_by timing_of names is in (rw (is_num rows k 0 10 g) (head_given (eqb (num rows k 1) a && eqb (num rows k 2) r) (Duration (columns_of rows k 3))))
       go false false h g = unfold timing_at timed_by timing_of names is in (rw (h, g))
 
-  pub timing_is : (a r : ℕ) → timing (sheet rows) a r ≡ option (first_place (timed_by rows a r) (row_count rows)) none (λ i. some (timing_of rows i))
+  pub timing_is : (a r : ℕ) → timing (sheet rows) a r ≡ option (first_place (timed_by rows a r) (row_count rows)) None (λ i. Some (timing_of rows i))
   unfolding timing
   timing_is a r = head_of (timed_by rows a r) (timing_of rows) (timing_at (sheet rows) a r) (row_count rows) (timing_row a r)
 
@@ -69,15 +69,15 @@ earlier_is p q (suc n) = go (first_place p n) (first_place q n) (p n) (q n) refl
   where
     go : (x y : Option ℕ) (a b : Bool) → first_place p n ≡ x → first_place q n ≡ y
         → earlier_of (or_else x (some_if a n)) (or_else y (some_if b n)) ≡ or_else (earlier_of x y) (some_if (a || b) n)
-    go none none true true e f = rw (le-ltb n n (omega arith))
-    go none none true false e f = refl
-    go none none false b e f = refl
-    go none (some j) true b e f = rw (le-ltb n j (let h = found_at q n j f in omega (arith, h.0)))
-    go none (some j) false b e f = refl
-    go (some i) none a true e f = rw (lt-ltb i n (found_at p n i e).0)
-    go (some i) none a false e f = refl
-    go (some i) (some j) a b e f = one (ltb i j)
+    go None None true true e f = rw (le-ltb n n (omega arith))
+    go None None true false e f = refl
+    go None None false b e f = refl
+    go None (Some j) true b e f = rw (le-ltb n j (let h = found_at q n j f in omega (arith, h.0)))
+    go None (Some j) false b e f = refl
+    go (Some i) None a true e f = rw (lt-ltb i n (found_at p n i e).0)
+    go (Some i) None a false e f = refl
+    go (Some i) (Some j) a b e f = one (ltb i j)
       where
-        one : (c : Bool) → cond c (some i) (some j) ≡ or_else (cond c (some i) (some j)) (some_if (a || b) n)
+        one : (c : Bool) → cond c (Some i) (Some j) ≡ or_else (cond c (Some i) (Some j)) (some_if (a || b) n)
         one true = refl
         one false = refl

@@ -3,7 +3,7 @@ use Prim.Native.Nat.{ℕ, ◌+◌, ◌<◌, ◌≤◌}
 use mathlib.Core.Path.{◌≡◌, refl, sym, ap, ap₂, ◌∙◌}
 use mathlib.Core.Bool.{Bool, beq, true, false, cond, ◌||◌, true≢false}
 use mathlib.Core.List.{List}
-use mathlib.Core.Option.{Option, none, some}
+use Rattle.std.specs.Prelude.{Option, None, Some}
 use native.Mathlib.Omega.{arith}
 use mir.Syntax.{w64}
 use mir.Val.{SFits, to_z, of_z}
@@ -60,11 +60,11 @@ kind_10 = unfold owner_kind in refl
 
 -- the earlier of two places that were found, by the code's test
 module _ {i j : ℕ} {r e : Option ℕ} where
-  pub earlier_first : i < j → r ≡ some i → e ≡ cond (ltb i j) (some i) (some j) → r ≡ e
-  earlier_first l p q = let h : cond (ltb i j) (some i) (some j) ≡ some i = rw (lt-ltb i j l) in p ∙ sym (q ∙ h)
+  pub earlier_first : i < j → r ≡ Some i → e ≡ cond (ltb i j) (Some i) (Some j) → r ≡ e
+  earlier_first l p q = let h : cond (ltb i j) (Some i) (Some j) ≡ Some i = rw (lt-ltb i j l) in p ∙ sym (q ∙ h)
 
-  pub earlier_second : j ≤ i → r ≡ some j → e ≡ cond (ltb i j) (some i) (some j) → r ≡ e
-  earlier_second l p q = let h : cond (ltb i j) (some i) (some j) ≡ some j = rw (le-ltb i j l) in p ∙ sym (q ∙ h)
+  pub earlier_second : j ≤ i → r ≡ Some j → e ≡ cond (ltb i j) (Some i) (Some j) → r ≡ e
+  earlier_second l p q = let h : cond (ltb i j) (Some i) (Some j) ≡ Some j = rw (le-ltb i j l) in p ∙ sym (q ∙ h)
 
 module _ (rows : List ℤ) where
   -- ---- the activity's row
@@ -74,14 +74,14 @@ module _ (rows : List ℤ) where
 
   -- ---- the split's row
 
-  split_place : (x o : ℕ) → place_of rows 2 x ≡ some o → first_place (owned_by rows o 4) (row_count rows) ≡ place_of rows 4 x
+  split_place : (x o : ℕ) → place_of rows 2 x ≡ Some o → first_place (owned_by rows o 4) (row_count rows) ≡ place_of rows 4 x
   unfolding place_of
   split_place x o e =
       place_same (owned_by rows o 4) (named rows 4 x) (row_count rows) (λ k l. of_activity rows 4 o x (unfold owner_kind in refl) (unfold place_of in e) k ∙ unfold named in refl)
 
   -- ---- the part
 
-  pub part_none : (k : ℕ) → is rows k 0 23 ≡ true → is_none (cell rows k 7) ≡ true → part_at rows k ≡ none
+  pub part_none : (k : ℕ) → is rows k 0 23 ≡ true → is_none (cell rows k 7) ≡ true → part_at rows k ≡ None
   part_none k h e = rw (is_num rows k 0 23 h, e)
 
   both : (a b : Bool) → beq a b ≡ true → a ≡ false → b ≡ false
@@ -90,41 +90,41 @@ module _ (rows : List ℤ) where
   both false false e f = refl
 
   pub part_some : Accepted rows → (k : ℕ) → k < row_count rows → is rows k 0 23 ≡ true → is_none (cell rows k 7) ≡ false
-      → part_at rows k ≡ some (record { index = cell rows k 7; work = num rows k 8 })
+      → part_at rows k ≡ Some (record { index = cell rows k 7; work = num rows k 8 })
   part_some acc k l h e =
       let f : is_none (cell rows k 8) ≡ false = both (is_none (cell rows k 7)) (is_none (cell rows k 8)) (both_parts rows acc k l h) e in
       rw (is_num rows k 0 23 h, e, f)
 
   -- ---- the piece
 
-  module _ (k o : ℕ) (h : is rows k 0 23 ≡ true) (e : place_of rows 2 (num rows k 1) ≡ some o) where
+  module _ (k o : ℕ) (h : is rows k 0 23 ≡ true) (e : place_of rows 2 (num rows k 1) ≡ Some o) where
     piece_whole : is_none (cell rows k 7) ≡ true → Whole ≡ piece_of (sheet rows) (activity_of rows o) (part_at rows k)
     unfolding piece_of
     piece_whole f = rw (part_none k h f)
 
-    split_at_lem : (x : Option ℕ) → place_of rows 4 (num rows k 1) ≡ x → split (sheet rows) (num rows o 1) ≡ option x none (λ i. some (split_of rows i))
-    split_at_lem x f = ap (split (sheet rows)) (placed rows 2 (num rows k 1) o e).id_is ∙ split_is rows (num rows k 1) ∙ ap (λ y. option y none (λ i. some (split_of rows i))) f
+    split_at_lem : (x : Option ℕ) → place_of rows 4 (num rows k 1) ≡ x → split (sheet rows) (num rows o 1) ≡ option x None (λ i. Some (split_of rows i))
+    split_at_lem x f = ap (split (sheet rows)) (placed rows 2 (num rows k 1) o e).id_is ∙ split_is rows (num rows k 1) ∙ ap (λ y. option y None (λ i. Some (split_of rows i))) f
 
     -- a part's times are amounts
     pub part_amounts : Accepted rows → (num rows k 8 ≤ 4000000000000) × (num rows o 5 ≤ 4000000000000)
     part_amounts acc = (at_most rows acc k 23 8 h, at_most rows acc o 2 5 (place_kind rows 2 (num rows k 1) e))
 
     module _ (acc : Accepted rows) (l : k < row_count rows) (f : is_none (cell rows k 7) ≡ false) where
-      piece_unsplit : none ≡ first_place (owned_by rows o 4) (row_count rows) → Whole ≡ piece_of (sheet rows) (activity_of rows o) (part_at rows k)
+      piece_unsplit : None ≡ first_place (owned_by rows o 4) (row_count rows) → Whole ≡ piece_of (sheet rows) (activity_of rows o) (part_at rows k)
       unfolding piece_of
-      piece_unsplit q = rw (part_some acc k l h f, split_at_lem none (sym (q ∙ split_place (num rows k 1) o e)))
+      piece_unsplit q = rw (part_some acc k l h f, split_at_lem None (sym (q ∙ split_place (num rows k 1) o e)))
 
-      split_row : (i : ℕ) → some i ≡ first_place (owned_by rows o 4) (row_count rows) → place_of rows 4 (num rows k 1) ≡ some i
+      split_row : (i : ℕ) → Some i ≡ first_place (owned_by rows o 4) (row_count rows) → place_of rows 4 (num rows k 1) ≡ Some i
       split_row i q = sym (q ∙ split_place (num rows k 1) o e)
 
-      pub piece_part : (i : ℕ) → some i ≡ first_place (owned_by rows o 4) (row_count rows)
+      pub piece_part : (i : ℕ) → Some i ≡ first_place (owned_by rows o 4) (row_count rows)
           → InPart (part_of (cell rows k 7) (num rows k 8) (num rows o 5) (num rows i 4)) ≡ piece_of (sheet rows) (activity_of rows o) (part_at rows k)
       unfolding piece_of
-      piece_part i q = rw (part_some acc k l h f, split_at_lem (some i) (split_row i q))
+      piece_part i q = rw (part_some acc k l h f, split_at_lem (Some i) (split_row i q))
 
   -- the same, of what the code found
   module _ (k o : ℕ) {x : ℤ} {b : Bool} (q : b ≡ is_none (to_z w64 (of_z w64 x))) (c : x ≡ cell rows k 7) (s : SFits w64 x) (h : is rows k 0 23 ≡ true)
-      (e : place_of rows 2 (num rows k 1) ≡ some o) where
+      (e : place_of rows 2 (num rows k 1) ≡ Some o) where
     pub whole_found : b ≡ true → Whole ≡ piece_of (sheet rows) (activity_of rows o) (part_at rows k)
     whole_found z = piece_whole k o h e (rw (to_z-of_z s, c) at (sym q ∙ z))
 
@@ -135,13 +135,13 @@ module _ (rows : List ℤ) where
   pub piece_found : (k o : ℕ) {x : ℤ} {b : Bool} {r : Found} {i work whole overhead : ℕ} {part : PartTimes} → part ≡ part_of (to_z w64 (of_z w64 x)) work whole overhead
       → x ≡ cell rows k 7 → SFits w64 x → work ≡ num rows k 8 → whole ≡ num rows o 5 → overhead ≡ num rows i 4 → b ≡ is_none (to_z w64 (of_z w64 x)) → b ≡ false
       → r ≡ At i → found_of r ≡ first_place (owned_by rows o 4) (row_count rows)
-      → is rows k 0 23 ≡ true → place_of rows 2 (num rows k 1) ≡ some o → Accepted rows → k < row_count rows
+      → is rows k 0 23 ≡ true → place_of rows 2 (num rows k 1) ≡ Some o → Accepted rows → k < row_count rows
       → InPart part ≡ piece_of (sheet rows) (activity_of rows o) (part_at rows k)
   piece_found k o {i = i} p c s w a v q z t f h e acc l =
       ap InPart (rw (to_z-of_z s, c, w, a, v) at p) ∙ piece_part k o h e acc l (rw (to_z-of_z s, c) at (sym q ∙ z)) i (sym (ap found_of t) ∙ f)
 
   module _ (k o : ℕ) (x : ℤ) (work whole overhead : ℕ) (part : PartTimes) (p : part ≡ part_of x work whole overhead) (h : is rows k 0 23 ≡ true)
-      (e : place_of rows 2 (num rows k 1) ≡ some o) (acc : Accepted rows) where
+      (e : place_of rows 2 (num rows k 1) ≡ Some o) (acc : Accepted rows) where
     pub work_amount : work ≡ num rows k 8 → part.work_ms ≤ 4000000000000
     work_amount w = rw (p, w) (part_amounts k o h e acc).0
 
@@ -172,17 +172,17 @@ module _ (rows : List ℤ) where
   unfolding timing_place
   timing_row j h e = sym (rw h at e)
 
-  pub row_amounts : Accepted rows → (j i : ℕ) → first_place (timed_by rows (num rows j 1) (num rows j 3)) (row_count rows) ≡ some i → TimingAmounts (timing_of rows i)
+  pub row_amounts : Accepted rows → (j i : ℕ) → first_place (timed_by rows (num rows j 1) (num rows j 3)) (row_count rows) ≡ Some i → TimingAmounts (timing_of rows i)
   row_amounts acc j i e = timing_amounts acc (num rows j 1) (num rows j 3) i (found_at _ (row_count rows) i e).1
 
   -- ---- the row of a booking's timing, as it is found
 
-  pub row_none : (k : ℕ) → is rows k 0 23 ≡ false → none ≡ timing_place rows k
+  pub row_none : (k : ℕ) → is rows k 0 23 ≡ false → None ≡ timing_place rows k
   unfolding timing_place
   row_none k h = rw h
 
   -- an activity that is not in the sheet has no timings
-  pub row_unknown : Accepted rows → (k : ℕ) → is rows k 0 23 ≡ true → place_of rows 2 (num rows k 1) ≡ none → none ≡ timing_place rows k
+  pub row_unknown : Accepted rows → (k : ℕ) → is rows k 0 23 ≡ true → place_of rows 2 (num rows k 1) ≡ None → None ≡ timing_place rows k
   unfolding timing_place timed_by
   row_unknown acc k h e =
       let p = sym e in
@@ -203,7 +203,7 @@ module _ (rows : List ℤ) where
   unfolding timing_place
   timing_is_row k = record { within = λ i. go i (is rows k 0 23) }
     where
-      go : (i : ℕ) (b : Bool) → cond b (first_place (timed_by rows (num rows k 1) (num rows k 3)) (row_count rows)) none ≡ some i → i < row_count rows
+      go : (i : ℕ) (b : Bool) → cond b (first_place (timed_by rows (num rows k 1) (num rows k 3)) (row_count rows)) None ≡ Some i → i < row_count rows
       go i true e = (found_at _ (row_count rows) i e).0
       go i false e = let z : ◌≡◌ {A = ℕ} 0 1 = cc in absurd (omega arith)
 

@@ -3,7 +3,7 @@ use Prim.Native.Nat.{ℕ, ◌+◌, ◌^◌, ◌<◌, ◌≤◌}
 use mathlib.Core.Path.{◌≡◌, refl, sym, ap, ◌∙◌}
 use mathlib.Core.Bool.{Bool, true, false, cond, not, ◌||◌, true≢false, or-false}
 use mathlib.Core.List.{List, [], ◌∷◌}
-use mathlib.Core.Option.{Option, none, some}
+use Rattle.std.specs.Prelude.{Option, None, Some}
 use native.Mathlib.Omega.{arith}
 use lib.Dec.{ltb, leb}
 use lib.IntN.{ℤ}
@@ -36,8 +36,8 @@ use Rattle.derived_times.specs.inner.Needs.{rest_ms, rest_at, Times, Needs}
 
 most : (e : Option ActivityDuration) → rest_ms (within e) ≤ 9007199254740992
 unfolding within
-most none = omega arith
-most (some d) = go (ltb (total_ms d) (2 ^ 53)) refl
+most None = omega arith
+most (Some d) = go (ltb (total_ms d) (2 ^ 53)) refl
   where
     go : (b : Bool) → ltb (total_ms d) (2 ^ 53) ≡ b → rest_ms (cond b (Within d) TooLarge) ≤ 9007199254740992
     go true h = let l : total_ms d < 9007199254740992 = ltb-true (total_ms d) 9007199254740992 h in omega arith
@@ -48,8 +48,8 @@ rest_most e h = rw h (most e)
 
 large_is : (e : Option ActivityDuration) → leb 9007199254740992 (rest_ms (within e)) ≡ too_large e
 unfolding within
-large_is none = le-leb 9007199254740992 9007199254740992 (omega arith)
-large_is (some d) = go (ltb (total_ms d) (2 ^ 53)) refl
+large_is None = le-leb 9007199254740992 9007199254740992 (omega arith)
+large_is (Some d) = go (ltb (total_ms d) (2 ^ 53)) refl
   where
     go : (b : Bool) → ltb (total_ms d) (2 ^ 53) ≡ b → leb 9007199254740992 (rest_ms (cond b (Within d) TooLarge)) ≡ not b
     go true h = let l : total_ms d < 9007199254740992 = ltb-true (total_ms d) 9007199254740992 h in lt-leb 9007199254740992 (d.process_ms + d.teardown_ms) (omega arith)
@@ -65,12 +65,12 @@ module _ (rows : List ℤ) where
   unfolding rest_at
   rest_none k h = rw (assignment_none rows k h)
 
-  pub rest_unknown : (k : ℕ) → is rows k 0 23 ≡ true → place_of rows 2 (num rows k 1) ≡ none → 0 ≡ rest_at rows k
+  pub rest_unknown : (k : ℕ) → is rows k 0 23 ≡ true → place_of rows 2 (num rows k 1) ≡ None → 0 ≡ rest_at rows k
   unfolding rest_at
   rest_unknown k h e = rw (assignment_row rows k h, find_activity_lem rows (num rows k 1), e)
 
   pub rest_known : (k o : ℕ) {v : ℕ} {d : Derived} → v ≡ rest_ms d → d ≡ within (derived (sheet rows) (assignment_of rows k) (activity_of rows o)) → is rows k 0 23 ≡ true
-      → place_of rows 2 (num rows k 1) ≡ some o → v ≡ rest_at rows k
+      → place_of rows 2 (num rows k 1) ≡ Some o → v ≡ rest_at rows k
   unfolding rest_at
   rest_known k o p q h e = p ∙ ap rest_ms q ∙ rw (assignment_row rows k h, find_activity_lem rows (num rows k 1), e)
 
@@ -84,47 +84,47 @@ module _ (rows : List ℤ) where
           known : (x : Option (Activity ℤ))
               → leb 9007199254740992 (option x 0 (λ a. rest_ms (within (derived (sheet rows) (assignment_of rows k) a))))
               ≡ (option x false (λ a. too_large (derived (sheet rows) (assignment_of rows k) a)) || false)
-          known none = lt-leb 9007199254740992 0 (omega arith)
-          known (some a) = large_is (derived (sheet rows) (assignment_of rows k) a) ∙ sym (or-false (too_large (derived (sheet rows) (assignment_of rows k) a)))
+          known None = lt-leb 9007199254740992 0 (omega arith)
+          known (Some a) = large_is (derived (sheet rows) (assignment_of rows k) a) ∙ sym (or-false (too_large (derived (sheet rows) (assignment_of rows k) a)))
 
   pub large_here : (k : ℕ) {need : List ℕ} → Times rows need → k < row_count rows → leb 9007199254740992 (get_or need k 0) ≡ any_of (is_too_large (sheet rows)) (assignment_at (sheet rows) k)
   large_here k t l = ap (leb 9007199254740992) (t.at k l) ∙ too_large_lem k
 
   -- ---- the search
 
-  pub fault_none : (k : ℕ) {b : Bool} → b ≡ any_of (is_too_large (sheet rows)) (assignment_at (sheet rows) k) → b ≡ false → time_fault rows k ≡ none
+  pub fault_none : (k : ℕ) {b : Bool} → b ≡ any_of (is_too_large (sheet rows)) (assignment_at (sheet rows) k) → b ≡ false → time_fault rows k ≡ None
   unfolding time_fault
   fault_none k e f = rw (sym e ∙ f)
 
-  pub fault_some : (k : ℕ) {b : Bool} → b ≡ any_of (is_too_large (sheet rows)) (assignment_at (sheet rows) k) → b ≡ true → time_fault rows k ≡ some (record { number = 6; place = k })
+  pub fault_some : (k : ℕ) {b : Bool} → b ≡ any_of (is_too_large (sheet rows)) (assignment_at (sheet rows) k) → b ≡ true → time_fault rows k ≡ Some (record { number = 6; place = k })
   unfolding time_fault
   fault_some k e f = rw (sym e ∙ f)
 
-  pub refused_at : (k n : ℕ) → k < n → n ≡ row_count rows → first (time_fault rows) k ≡ none → time_fault rows k ≡ some (record { number = 6; place = k })
-      → some (record { number = 6; place = k }) ≡ time_refusal rows
+  pub refused_at : (k n : ℕ) → k < n → n ≡ row_count rows → first (time_fault rows) k ≡ None → time_fault rows k ≡ Some (record { number = 6; place = k })
+      → Some (record { number = 6; place = k }) ≡ time_refusal rows
   unfolding time_refusal
   refused_at k n l z e f = sym (first_hit (time_fault rows) k (row_count rows) (omega arith) e f)
 
-  pub not_refused : (k n : ℕ) → k ≤ n → n ≤ k → n ≡ row_count rows → first (time_fault rows) k ≡ none → none ≡ time_refusal rows
+  pub not_refused : (k n : ℕ) → k ≤ n → n ≤ k → n ≡ row_count rows → first (time_fault rows) k ≡ None → None ≡ time_refusal rows
   unfolding time_refusal
   not_refused k n l m z e = first_done (time_fault rows) k n (row_count rows) l m z e
 
   -- ---- what a sheet that is not refused has
 
-  all_within : time_refusal rows ≡ none → (k : ℕ) → k < row_count rows → any_of (is_too_large (sheet rows)) (assignment_at (sheet rows) k) ≡ false
+  all_within : time_refusal rows ≡ None → (k : ℕ) → k < row_count rows → any_of (is_too_large (sheet rows)) (assignment_at (sheet rows) k) ≡ false
   unfolding time_refusal time_fault
   all_within e k l = if_none (any_of (is_too_large (sheet rows)) (assignment_at (sheet rows) k)) _ (first_none (time_fault rows) (row_count rows) e k l)
 
   needed : (e : Option ActivityDuration) (setup : ℕ) → too_large e ≡ false → option e 0 (λ d. setup + d.process_ms + d.teardown_ms) ≡ setup + rest_ms (within e)
   unfolding within
-  needed none setup f = absurd (true≢false f)
-  needed (some d) setup f = go (ltb (total_ms d) (2 ^ 53)) f
+  needed None setup f = absurd (true≢false f)
+  needed (Some d) setup f = go (ltb (total_ms d) (2 ^ 53)) f
     where
       go : (b : Bool) → not b ≡ false → setup + d.process_ms + d.teardown_ms ≡ setup + rest_ms (cond b (Within d) TooLarge)
       go true f = omega arith
       go false f = absurd (true≢false f)
 
-  module _ (k : ℕ) (b : Assignment ℤ) (a : Activity ℤ) (p : assignment_at (sheet rows) k ≡ b ∷ []) (q : find_activity (sheet rows) b.activity ≡ some a) where
+  module _ (k : ℕ) (b : Assignment ℤ) (a : Activity ℤ) (p : assignment_at (sheet rows) k ≡ b ∷ []) (q : find_activity (sheet rows) b.activity ≡ Some a) where
     large_at : any_of (is_too_large (sheet rows)) (assignment_at (sheet rows) k) ≡ (too_large (derived (sheet rows) b a) || false)
     unfolding any_of is_too_large
     large_at = rw (p, q)
@@ -138,7 +138,7 @@ module _ (rows : List ℤ) where
     needed_at f = needed (duration_on (sheet rows) a b.part (runs_on (sheet rows) b)) b.setup f
 
   -- the times are those that checks 1 and 6 are defined by
-  pub needs_of : (need : List ℕ) → Times rows need → time_refusal rows ≡ none → Needs rows need
+  pub needs_of : (need : List ℕ) → Times rows need → time_refusal rows ≡ None → Needs rows need
   needs_of need t e = record {
     short = t.short;
     at = λ k b a l p q.

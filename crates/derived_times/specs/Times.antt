@@ -1,6 +1,6 @@
 -- Refusal 6: a booking whose derived time is not finite, or is 2^53 or more. Assumes nothing.
 use Rattle.std.specs.Prelude.{ℕ, ◌^◌, Bool, true, false, not, List, ltb, ℤ}
-use Rattle.std.proofs.Math.Option.{Option, none, some}
+use Rattle.std.specs.Prelude.{Option, None, Some}
 use Rattle.loops.specs.Lists.{any_of, option}
 use Rattle.loops.specs.Search.{first}
 use Rattle.rows.specs.Cells.{row_count}
@@ -14,8 +14,8 @@ use Rattle.definition.specs.Pieces.{runs_on}
 
 -- a derived time that is refused: it is not finite, or the exact setup + process + teardown so found is 2^53 or more
 abbrev pub too_large : Option ActivityDuration → Bool
-too_large none = true
-too_large (some d) = not (ltb (total_ms d) (2 ^ 53))
+too_large None = true
+too_large (Some d) = not (ltb (total_ms d) (2 ^ 53))
 
 module _ {T : Type 0} (s : Sheet T) where
   -- the derived duration of a booking of an activity

@@ -2,7 +2,7 @@
 #![tactic(auto)]
 
 ghost use Rattle.std.specs.Prelude.{◌≡◌, ◌<◌, ◌≤◌, true, set};
-ghost use Rattle.std.proofs.Math.Option.{some};
+ghost use Rattle.std.specs.Prelude.{Some};
 ghost use Rattle.loops.specs.Lists.{any_of};
 ghost use Rattle.loops.specs.Range.{fold};
 ghost use Rattle.rows.specs.Cells.{row_count, num, is};
@@ -114,7 +114,7 @@ fn timing_at(rows: &[i64], i: usize) -> ResourceTiming
 
 // What booking k's piece is judged as, of the activity of row o.
 fn piece_at(rows: &[i64], owned: &[u16; 8810], o: usize, k: usize) -> Piece
-    requires { Accepted rows.now × Owned rows.now owned.now × (k < row_count rows.now) × (is rows.now k 0 23 ≡ true) × (place_of rows.now 2 (num rows.now k 1) ≡ some o) }
+    requires { Accepted rows.now × Owned rows.now owned.now × (k < row_count rows.now) × (is rows.now k 0 23 ≡ true) × (place_of rows.now 2 (num rows.now k 1) ≡ Some o) }
     ensures piece { result ≡ piece_of (sheet rows.now) (activity_of rows.now o) (part_at rows.now k) }
     ensures amounts { PieceAmounts result }
 {
@@ -191,7 +191,7 @@ pub fn duration_on(
     o: usize,
     k: usize,
 ) -> Derived
-    requires { Accepted rows.now × Owned rows.now owned.now × Held rows.now held.now × Timings rows.now t.now × (k < row_count rows.now) × (is rows.now k 0 23 ≡ true) × (place_of rows.now 2 (num rows.now k 1) ≡ some o) }
+    requires { Accepted rows.now × Owned rows.now owned.now × Held rows.now held.now × Timings rows.now t.now × (k < row_count rows.now) × (is rows.now k 0 23 ≡ true) × (place_of rows.now 2 (num rows.now k 1) ≡ Some o) }
     ensures { result ≡ within (derived (sheet rows.now) (assignment_of rows.now k) (activity_of rows.now o)) }
 {
     let piece = piece_at(rows, owned, o, k);

@@ -2,7 +2,7 @@
 use Prim.Native.Nat.{ℕ}
 use mathlib.Core.Path.{◌≡◌, ap, ap₂}
 use mathlib.Core.List.{List}
-use mathlib.Core.Option.{none}
+use Rattle.std.specs.Prelude.{None}
 use lib.IntN.{ℤ}
 use lib.ListN.{length}
 use Rattle.definition.specs.CheckSchedule.{findings}
@@ -18,11 +18,11 @@ use Rattle.feasibility.proofs.Calls.{same_calls}
 use Rattle.refusals.specs.Lending.{answered}
 
 -- a sheet that is not refused has every number in the class of its column
-in_class_lem : (rows : List ℤ) → sheet_refusal rows ≡ none → InClass rows
+in_class_lem : (rows : List ℤ) → sheet_refusal rows ≡ None → InClass rows
 in_class_lem rows h = record { columns = (sheet_accepted rows h).columns }
 
 -- the same answer to both, given the same room
-same_answer : (a b : List ℤ) (room : ℕ) → sheet_refusal a ≡ none → sheet_refusal b ≡ none → findings a ≡ findings b → check_answer a room ≡ check_answer b room
+same_answer : (a b : List ℤ) (room : ℕ) → sheet_refusal a ≡ None → sheet_refusal b ≡ None → findings a ≡ findings b → check_answer a room ≡ check_answer b room
 unfolding check_answer refusal
 same_answer a b room p q same = ap₂ answered (same_refusal a b room p q (ap length same)) (ap length same)
 

@@ -2,7 +2,7 @@
 use Prim.Native.Nat.{ℕ, ◌*◌, ◌/◌, ◌^◌, ◌<◌}
 use mathlib.Core.Path.{◌≡◌, refl, ap, ◌∙◌}
 use mathlib.Core.List.{List, ◌++◌, append_assoc}
-use mathlib.Core.Option.{none, some}
+use Rattle.std.specs.Prelude.{None, Some}
 use native.Mathlib.Omega.{arith}
 use lib.IntN.{ℤ}
 use lib.ListN.{length}
@@ -56,7 +56,7 @@ Ends rows o answer o' = (answer ≡ check_answer rows (length o / 4)) × (o' ≡
 
 module _ (rows o : List ℤ) where
   -- refused by 1 to 6
-  refused_sheet : {number place : ℕ} → sheet_refusal rows ≡ some (record { number = number; place = place }) → Ends rows o (Call-as-Refused number place) o
+  refused_sheet : {number place : ℕ} → sheet_refusal rows ≡ Some (record { number = number; place = place }) → Ends rows o (Call-as-Refused number place) o
   unfolding refusal check_answer findings_after flat
   refused_sheet h = ends_refused 4 four (omega arith) (λ f. refl) rows (findings rows) o h
 
@@ -67,13 +67,13 @@ module _ (rows o : List ℤ) where
     pub rows_left : verdict_of v ≡ refusal_of rows → v ≡ Refused number place → o ≡ findings_after rows o
     rows_left q e = (refused_sheet (by_rows rows q e)).1
 
-    pub times_answer : verdict_of v ≡ time_refusal rows → refusal_of rows ≡ none → v ≡ Refused number place → Call-as-Refused number place ≡ check_answer rows (length o / 4)
+    pub times_answer : verdict_of v ≡ time_refusal rows → refusal_of rows ≡ None → v ≡ Refused number place → Call-as-Refused number place ≡ check_answer rows (length o / 4)
     times_answer q a e = (refused_sheet (by_times rows a q e)).0
 
-    pub times_left : verdict_of v ≡ time_refusal rows → refusal_of rows ≡ none → v ≡ Refused number place → o ≡ findings_after rows o
+    pub times_left : verdict_of v ≡ time_refusal rows → refusal_of rows ≡ None → v ≡ Refused number place → o ≡ findings_after rows o
     times_left q a e = (refused_sheet (by_times rows a q e)).1
 
-  module _ (passed : sheet_refusal rows ≡ none) (o₀ : List ℤ) {x : List ℤ} {k : ℕ} {r : Handed} (short : length o < 2 ^ 60)
+  module _ (passed : sheet_refusal rows ≡ None) (o₀ : List ℤ) {x : List ℤ} {k : ℕ} {r : Handed} (short : length o < 2 ^ 60)
       (ran : sink x k ≡ emit (sink o₀ 0) (findings rows)) (told : r ≡ handed (length o / 4) (length x / 4) k) where
     -- the first pass held them all, and they were copied
     pub accepted_copy : {o' : List ℤ} → length o₀ ≡ 4096 → o' ≡ after_handing r (k * 4) x o → r ≡ Over → Ends rows o (Call-as-Accepted k) o'

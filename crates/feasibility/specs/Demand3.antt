@@ -1,7 +1,7 @@
 -- Demand 3: two accepted sheets, the second being the first with one whole number of milliseconds, zero or below too, added to every instant and nothing
 -- else changed, have the same findings, line for line: those of the definition, and those that any two calls write. Assumes nothing.
 use Rattle.std.specs.Prelude.{ℕ, ◌*◌, ◌/◌, ◌≡◌, List, ℤ, length, take}
-use Rattle.std.proofs.Math.Option.{none}
+use Rattle.std.specs.Prelude.{None}
 use Rattle.findings.specs.Findings.{flat}
 use Rattle.definition.specs.CheckSchedule.{findings}
 use Rattle.shift.specs.Shift.{Shifted}
@@ -29,4 +29,4 @@ pub record Alike (a b : List ℤ) : Type 0 where
   pub answers : (room : ℕ) → check_answer a room ≡ check_answer b room
 
 abbrev pub Demand3 : Type 0
-Demand3 = (d : ℤ) (a b : List ℤ) → sheet_refusal a ≡ none → sheet_refusal b ≡ none → Shifted d a b → Alike a b
+Demand3 = (d : ℤ) (a b : List ℤ) → sheet_refusal a ≡ None → sheet_refusal b ≡ None → Shifted d a b → Alike a b

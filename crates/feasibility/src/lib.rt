@@ -2,7 +2,7 @@
 #![tactic(auto)]
 
 ghost use Rattle.std.specs.Prelude.{◌/◌, ◌≡◌, length};
-ghost use Rattle.std.proofs.Math.Option.{none};
+ghost use Rattle.std.specs.Prelude.{None};
 ghost use Rattle.findings.specs.inner.Sink.{sink, emit};
 ghost use Rattle.model.specs.inner.Indexed.{Indexed};
 ghost use Rattle.pieces.specs.inner.Held.{Held};
@@ -85,7 +85,7 @@ fn write_findings(
     need: &[u64; 800],
     out: &mut [i64],
 ) -> Answer
-    requires { Indexed rows.now kinds.now links.now owned.now × Held rows.now held.now × Needs rows.now need.now × (sheet_refusal rows.now ≡ none) }
+    requires { Indexed rows.now kinds.now links.now owned.now × Held rows.now held.now × Needs rows.now need.now × (sheet_refusal rows.now ≡ None) }
     ensures value { result ≡ check_answer rows.now (length out.old / 4) }
     ensures out_after { out.new ≡ findings_after rows.now out.old }
 {

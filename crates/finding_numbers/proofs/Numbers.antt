@@ -3,7 +3,7 @@ use Prim.Native.Nat.{ℕ}
 use mathlib.Core.Path.{◌≡◌, refl}
 use mathlib.Core.Bool.{Bool, true, false, cond}
 use mathlib.Core.List.{List, [], ◌∷◌, ◌++◌}
-use mathlib.Core.Option.{Option, none, some}
+use Rattle.std.specs.Prelude.{Option, None, Some}
 use lib.Dec.{eqb}
 use lib.IntN.{ℤ}
 use Rattle.loops.specs.Lists.{given, all_of, each, option}
@@ -50,8 +50,8 @@ of_cond n true l m h k = h
 of_cond n false l m h k = k
 
 of_option : {X : Type 0} (n : ℕ) (o : Option X) (l : List Violation) (f : X → List Violation) → Of n l → ((x : X) → Of n (f x)) → Of n (option o l f)
-of_option n none l f h k = h
-of_option n (some x) l f h k = k x
+of_option n None l f h k = h
+of_option n (Some x) l f h k = k x
 
 of_two : (n : ℕ) (l m : List Violation) → Of n l → Of n m → Of n (l ++ m)
 of_two n l m h k = record { all = all_both (is_of n) l m h.all k.all }
@@ -68,8 +68,8 @@ module _ {T : Type 0} (K : Clock T) (s : Sheet T) where
   -- ---- 1
 
   of_early : (a : Assignment T) (o : Option T) → Of 1 (early_assignment K s a o)
-  of_early a none = of_none 1
-  of_early a (some release) = search parts
+  of_early a None = of_none 1
+  of_early a (Some release) = search parts
 
   of_known : (earlier : List (Assignment T)) (a : Assignment T) (x : Activity T) → Of 1 (check_known K s earlier a x)
   unfolding check_known
@@ -82,8 +82,8 @@ module _ {T : Type 0} (K : Clock T) (s : Sheet T) where
   -- ---- 2
 
   of_early_span : (x : TimeOnlySpan T) (o : Option T) → Of 2 (early_span K s x o)
-  of_early_span x none = of_none 2
-  of_early_span x (some release) = search parts
+  of_early_span x None = of_none 2
+  of_early_span x (Some release) = search parts
 
   of_first : (x : TimeOnlySpan T) (a : Activity T) → Of 2 (check_first K s x a)
   unfolding check_first

@@ -2,7 +2,7 @@
 use Prim.Native.Nat.{ℕ, ◌*◌, ◌/◌, ◌^◌, ◌<◌, ◌≤◌}
 use mathlib.Core.Bool.{Bool, true, false, ◌&&◌, not}
 use mathlib.Core.List.{List, ◌++◌}
-use mathlib.Core.Option.{Option, none, some}
+use Rattle.std.specs.Prelude.{Option, None, Some}
 use mathlib.Core.Path.{◌≡◌, refl, sym, ap, ◌∙◌}
 use native.Mathlib.Omega.{arith}
 use lib.Dec.{ltb, leb}
@@ -76,13 +76,13 @@ module _ (text : List ℕ) (id : ℕ) (rows : List ℤ) {o o' : List ℤ} {g : R
       go (Not k p) q = rw (refusal_is q)
 
   -- the first reading is lent none of the rows, and so leaves them as they were
-  module _ (none : List ℤ) (z : length none ≡ 0) where
+  module _ (None : List ℤ) (z : length None ≡ 0) where
     pub refused_rows : {k p : ℕ} → a ≡ Refused k p
-        → none ++ rows ≡ lent_after (periods_refusal (length rows / 10) 0 (periods_in text)) (flat_lines (closure_row (pos id)) (closures text)) rows
-    refused_rows q = rw (refusal_is (was_refused g.refused g.count (sym e ∙ q))) (none_ahead none rows z)
+        → None ++ rows ≡ lent_after (periods_refusal (length rows / 10) 0 (periods_in text)) (flat_lines (closure_row (pos id)) (closures text)) rows
+    refused_rows q = rw (refusal_is (was_refused g.refused g.count (sym e ∙ q))) (none_ahead None rows z)
 
     -- the second fills them
-    pub read_rows : {n : ℕ} → a ≡ Accepted n → {rows' : List ℤ} {h : Reading} → ReadOn (length rows / 10) id (none ++ rows) unread (periods_in text) rows' h
+    pub read_rows : {n : ℕ} → a ≡ Accepted n → {rows' : List ℤ} {h : Reading} → ReadOn (length rows / 10) id (None ++ rows) unread (periods_in text) rows' h
         → rows' ≡ lent_after (periods_refusal (length rows / 10) 0 (periods_in text)) (flat_lines (closure_row (pos id)) (closures text)) rows
     unfolding closures
     read_rows q s =
@@ -90,7 +90,7 @@ module _ (text : List ℕ) (id : ℕ) (rows : List ℤ) {o o' : List ℤ} {g : R
         let cs = each closures_of (periods_in text) in
         let m = flat_length 10 (closure_row (pos id)) (omega arith) (row_long (pos id)) cs in
         rw (refusal_is f)
-        (ap (λ (k : Sink). k.buf) ((rw (none_ahead none rows z) at s.numbers)
+        (ap (λ (k : Sink). k.buf) ((rw (none_ahead None rows z) at s.numbers)
         ∙ lines_whole 10 (closure_row (pos id)) (omega arith) (row_long (pos id)) rows cs (omega (arith, fits f)) (omega arith))
         ∙ ap (λ (n : ℕ). flat_lines (closure_row (pos id)) cs ++ drop n rows) (sym m))
 
@@ -105,7 +105,7 @@ module _ (text : List ℕ) (id : ℕ) (rows : List ℤ) {o o' : List ℤ} {g : R
 
 -- ---- the lines, then the periods
 
-module _ (text : List ℕ) (id : ℕ) (rows : List ℤ) {w : Place} (f : place_of w ≡ wrong_from none 0 (lines text)) where
+module _ (text : List ℕ) (id : ℕ) (rows : List ℤ) {w : Place} (f : place_of w ≡ wrong_from None 0 (lines text)) where
   module _ {p : ℕ} (q : w ≡ At p) where
     pub wrong_answer : Refused 11 p ≡ answered (text_refusal text (length rows / 10)) (length (closures text))
     wrong_answer = rw (sym f ∙ ap place_of q)
@@ -200,10 +200,10 @@ unfolding freebusy_answer freebusy_refusal closures
 accepted_few text resource room {n} e = go (freebusy_refusal text resource room) refl e
   where
     go : (o : Option Refusal) → freebusy_refusal text resource room ≡ o → answered o (length (closures text)) ≡ Accepted n → n ≤ room
-    go none p q =
-        let a = or_none_right (refuse (ltb 65536 (length text)) OVERLONG 0) (or_else (refuse (not (in_class id_c resource)) OUT_OF_RANGE 0) (or_else (line_refusal (wrong_from none 0 (lines text))) (periods_refusal room 0 (periods_in text)))) p in
-        let b = or_none_right (refuse (not (in_class id_c resource)) OUT_OF_RANGE 0) (or_else (line_refusal (wrong_from none 0 (lines text))) (periods_refusal room 0 (periods_in text))) a in
-        let d = or_none_right (line_refusal (wrong_from none 0 (lines text))) (periods_refusal room 0 (periods_in text)) b in
+    go None p q =
+        let a = or_none_right (refuse (ltb 65536 (length text)) OVERLONG 0) (or_else (refuse (not (in_class id_c resource)) OUT_OF_RANGE 0) (or_else (line_refusal (wrong_from None 0 (lines text))) (periods_refusal room 0 (periods_in text)))) p in
+        let b = or_none_right (refuse (not (in_class id_c resource)) OUT_OF_RANGE 0) (or_else (line_refusal (wrong_from None 0 (lines text))) (periods_refusal room 0 (periods_in text))) a in
+        let d = or_none_right (line_refusal (wrong_from None 0 (lines text))) (periods_refusal room 0 (periods_in text)) b in
         let k : length (closures text) ≡ n = cc in
         omega (arith, passed_fit room 0 (periods_in text) 0 (omega arith) d)
-    go (some x) p q = absurd (let z : ◌≡◌ {A = ℕ} 0 1 = cc in omega arith)
+    go (Some x) p q = absurd (let z : ◌≡◌ {A = ℕ} 0 1 = cc in omega arith)

@@ -3,7 +3,7 @@ use Prim.Native.Nat.{ℕ, ◌+◌, ◌^◌, ◌<◌, ◌≤◌}
 use mathlib.Core.Bool.{Bool, true, false, cond, ◌&&◌, not}
 use mathlib.Core.List.{List, [], ◌∷◌, ◌++◌, append-nil}
 use mathlib.Core.Logic.{◌⊎◌, inl, inr}
-use mathlib.Core.Option.{Option, none, some}
+use Rattle.std.specs.Prelude.{Option, None, Some}
 use mathlib.Core.Path.{◌≡◌, refl, sym, ap, ◌∙◌}
 use native.Mathlib.Omega.{arith}
 use native.Mathlib.Nat.{add-zero}
@@ -30,11 +30,11 @@ use Rattle.freebusy.specs.inner.Reading.{put_closures, ReadOn}
 -- ---- one period
 
 -- a period that passes has no row, or one that fits
-passed_one : (room n : ℕ) (b : Busy) → period_refusal room n b ≡ none → (closures_of b ≡ []) ⊎ ((c : Closure) × (closures_of b ≡ c ∷ []) × (n < room))
+passed_one : (room n : ℕ) (b : Busy) → period_refusal room n b ≡ None → (closures_of b ≡ []) ⊎ ((c : Closure) × (closures_of b ≡ c ∷ []) × (n < room))
 unfolding period_refusal closures_of
 passed_one room n b e = go b.free (window_of b.bytes) (ltb n room) refl e
   where
-    go : (f : Bool) (w : Window) (t : Bool) → ltb n room ≡ t → or_else (window_refusal b.place w) (refuse (not f && not t) OVERFULL b.place) ≡ none
+    go : (f : Bool) (w : Window) (t : Bool) → ltb n room ≡ t → or_else (window_refusal b.place w) (refuse (not f && not t) OVERFULL b.place) ≡ None
         → (cond f [] (window_closures w) ≡ []) ⊎ ((c : Closure) × (cond f [] (window_closures w) ≡ c ∷ []) × (n < room))
     go f (Wrong k) t q e = absurd (none_some (sym e))
     go true (Span a e') t q e = inl refl
@@ -54,7 +54,7 @@ refusal_append room n (x ∷ a) b =
 
 module _ (room id : ℕ) where
   -- periods that pass have rows that fit
-  pub passed_fit : (bs : List Busy) (n : ℕ) → n ≤ room → periods_refusal room n bs ≡ none → n + length (each closures_of bs) ≤ room
+  pub passed_fit : (bs : List Busy) (n : ℕ) → n ≤ room → periods_refusal room n bs ≡ None → n + length (each closures_of bs) ≤ room
   unfolding periods_refusal each
   passed_fit [] n h e = omega arith
   passed_fit (b ∷ bs) n h e =
@@ -70,7 +70,7 @@ module _ (room id : ℕ) where
 
   module _ (small : room < 2 ^ 60) where
     -- and are counted right
-    passed_count : (bs : List Busy) (o : List ℤ) (n : ℕ) → periods_refusal room n bs ≡ none
+    passed_count : (bs : List Busy) (o : List ℤ) (n : ℕ) → periods_refusal room n bs ≡ None
         → (put_closures id (sink o n) (each closures_of bs)).count ≡ n + length (each closures_of bs)
     unfolding periods_refusal each put_lines put_line
     passed_count [] o n e = sym (add-zero n)
@@ -79,8 +79,8 @@ module _ (room id : ℕ) where
         let q = or_none_right (period_refusal room n b) (periods_refusal room (n + length (closures_of b)) bs) e in
         go (closures_of b) (passed_one room n b p) q (λ o n e. passed_count bs o n e)
       where
-        go : (cs : List Closure) → (cs ≡ []) ⊎ ((c : Closure) × (cs ≡ c ∷ []) × (n < room)) → periods_refusal room (n + length cs) bs ≡ none
-            → ((o : List ℤ) (n : ℕ) → periods_refusal room n bs ≡ none → (put_closures id (sink o n) (each closures_of bs)).count ≡ n + length (each closures_of bs))
+        go : (cs : List Closure) → (cs ≡ []) ⊎ ((c : Closure) × (cs ≡ c ∷ []) × (n < room)) → periods_refusal room (n + length cs) bs ≡ None
+            → ((o : List ℤ) (n : ℕ) → periods_refusal room n bs ≡ None → (put_closures id (sink o n) (each closures_of bs)).count ≡ n + length (each closures_of bs))
             → (put_closures id (sink o n) (cs ++ each closures_of bs)).count ≡ n + length (cs ++ each closures_of bs)
         go cs (inl q) e k = rw q (k o n (rw (q, add-zero n) at e))
         go cs (inr q) e k =
@@ -91,14 +91,14 @@ module _ (room id : ℕ) where
 
     count_then : {rows rows' : List ℤ} {from to : Reading} (a b : List Busy) → ReadOn room id rows from a rows' to → (v : Option Refusal)
         → or_else (or_else v (periods_refusal room from.count a)) (periods_refusal room to.count b) ≡ or_else v (periods_refusal room from.count (a ++ b))
-    count_then {rows = rows} {from = from} {to = to} a b r (some x) = refl
-    count_then {rows = rows} {from = from} {to = to} a b r none =
+    count_then {rows = rows} {from = from} {to = to} a b r (Some x) = refl
+    count_then {rows = rows} {from = from} {to = to} a b r None =
         go (periods_refusal room from.count a) refl ∙ sym (refusal_append room from.count a b)
       where
         go : (x : Option Refusal) → periods_refusal room from.count a ≡ x
             → or_else x (periods_refusal room to.count b) ≡ or_else x (periods_refusal room (from.count + length (each closures_of a)) b)
-        go (some x) e = refl
-        go none e = ap (λ (k : ℕ). periods_refusal room k b) (ap (λ (s : Sink). s.count) r.numbers ∙ passed_count a rows from.count e)
+        go (Some x) e = refl
+        go None e = ap (λ (k : ℕ). periods_refusal room k b) (ap (λ (s : Sink). s.count) r.numbers ∙ passed_count a rows from.count e)
 
     pub read_then : {rows rows' rows'' : List ℤ} {from to on : Reading} (a b : List Busy) → ReadOn room id rows from a rows' to → ReadOn room id rows' to b rows'' on
         → ReadOn room id rows from (a ++ b) rows'' on

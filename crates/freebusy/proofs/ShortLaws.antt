@@ -2,7 +2,7 @@
 use Prim.Native.Nat.{ℕ, suc, ◌≤◌, ◌<◌}
 use mathlib.Core.Bool.{Bool, true, false, cond}
 use mathlib.Core.List.{List, [], ◌∷◌}
-use mathlib.Core.Option.{Option, none, some}
+use Rattle.std.specs.Prelude.{Option, None, Some}
 use mathlib.Core.Path.{◌≡◌, refl, sym}
 use native.Mathlib.Omega.{arith}
 use lib.ListN.{length}
@@ -34,9 +34,9 @@ module _ (l : List ℕ) (short : length l < 8) where
   no_freebusy = sym (other_length FREEBUSY (leading is_name_byte l) (λ e. omega (arith, e, leading_short is_name_byte l)))
 
   pub short_open : (begun : Option ℕ) (p : ℕ) → begun ≡ open_after begun p l
-  short_open none p = rw no_begin
-  short_open (some q) p = rw no_end
+  short_open None p = rw no_begin
+  short_open (Some q) p = rw no_end
 
   pub short_periods : (begun : Option ℕ) (p : ℕ) → periods_at begun p l ≡ []
-  short_periods none p = refl
-  short_periods (some q) p = rw no_freebusy
+  short_periods None p = refl
+  short_periods (Some q) p = rw no_freebusy

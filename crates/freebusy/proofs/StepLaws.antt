@@ -2,7 +2,7 @@
 use Prim.Native.Nat.{ℕ, ◌+◌, ◌-◌, ◌^◌, ◌≤◌, ◌<◌, min}
 use mathlib.Core.Bool.{Bool, true, false, cond, ◌&&◌, not}
 use mathlib.Core.List.{List, [], ◌∷◌, ◌++◌, map}
-use mathlib.Core.Option.{Option, none, some}
+use Rattle.std.specs.Prelude.{Option, None, Some}
 use mathlib.Core.Path.{◌≡◌, sym, ◌∙◌}
 use native.Mathlib.Omega.{arith}
 use native.Mathlib.Numerals.{add-one}
@@ -135,7 +135,7 @@ module _ (room id : ℕ) (rows : List ℤ) (from : Reading) {b : Place} (p : ℕ
         → v ≡ value_of l → g ≡ is_free l → t ≡ true → ReadOn room id rows from (periods_at (place_of b) p l) rows' to
     unfolding periods_of
     line_periods r v g h =
-        let k : periods_at (some q) p l ≡ map (busy p (is_free l)) (parts 44 (value_of l)) = rw (sym f ∙ h) in
+        let k : periods_at (Some q) p l ≡ map (busy p (is_free l)) (parts 44 (value_of l)) = rw (sym f ∙ h) in
         rw (e, k) (rw (v, g) at r)
 
 -- a short one
@@ -155,7 +155,7 @@ module _ (room id : ℕ) (rows : List ℤ) (from : Reading) (b : Option ℕ) (p 
 
 -- ---- the lines of a text
 
-pub text_start : (room id : ℕ) (rows : List ℤ) (text : List ℕ) → Going room id rows unread (periods_in text) rows unread (periods_from none 0 (lines text))
+pub text_start : (room id : ℕ) (rows : List ℤ) (text : List ℕ) → Going room id rows unread (periods_in text) rows unread (periods_from None 0 (lines text))
 unfolding periods_in
 text_start room id rows text = going_start room id rows unread (periods_in text)
 

@@ -1,6 +1,6 @@
 -- The call `read_freebusy`: what it answers for any bytes, any resource number and any lent numbers, and what it leaves in them. Assumes nothing.
 use Rattle.std.specs.Prelude.{ℕ, ◌+◌, ◌/◌, cond, ◌&&◌, not, List, [], ◌∷◌, ltb, length, ℤ, pos}
-use Rattle.std.proofs.Math.Option.{Option, none, some}
+use Rattle.std.specs.Prelude.{Option, None, Some}
 use Rattle.loops.specs.Lists.{each}
 use Rattle.loops.specs.Search.{or_else}
 use Rattle.refusals.specs.Refusals.{OUT_OF_RANGE, OVERLONG, MALFORMED, OVERFULL, Refusal, refuse}
@@ -17,7 +17,7 @@ use Rattle.freebusy_components.specs.Components.{Busy, wrong_from, periods_from}
 
 -- the periods of a text, in its order
 unfoldable pub periods_in : List ℕ → List Busy
-periods_in text = periods_from none 0 (lines text)
+periods_in text = periods_from None 0 (lines text)
 
 -- ---- the closures
 
@@ -50,13 +50,13 @@ closure_row resource c =
 
 -- 11: a line, the least of all
 abbrev pub line_refusal : Option ℕ → Option Refusal
-line_refusal none = none
-line_refusal (some p) = some (record { number = MALFORMED; place = p })
+line_refusal None = None
+line_refusal (Some p) = Some (record { number = MALFORMED; place = p })
 
 -- 12, or 11 for an end not after its start, of a period of the line at place p
 abbrev pub window_refusal : ℕ → Window → Option Refusal
-window_refusal p (Span a e) = none
-window_refusal p (Wrong k) = some (record { number = k; place = p })
+window_refusal p (Span a e) = None
+window_refusal p (Wrong k) = Some (record { number = k; place = p })
 
 -- a period, where n rows went before it and `room` rows are lent: its window, then 13 where it has a row and that does not fit
 unfoldable pub period_refusal : ℕ → ℕ → Busy → Option Refusal
@@ -65,7 +65,7 @@ period_refusal room n b =
 
 -- the first of the periods that is refused
 unfoldable pub periods_refusal : ℕ → ℕ → List Busy → Option Refusal
-periods_refusal room n [] = none
+periods_refusal room n [] = None
 periods_refusal room n (b ∷ bs) = or_else (period_refusal room n b) (periods_refusal room (n + length (closures_of b)) bs)
 
 -- 8; 3 for the resource number; 11 by line; then, all lines having passed, by period
@@ -73,7 +73,7 @@ unfoldable pub freebusy_refusal : List ℕ → ℤ → ℕ → Option Refusal
 freebusy_refusal text resource room =
     or_else (refuse (ltb 65536 (length text)) OVERLONG 0)
     (or_else (refuse (not (in_class id_c resource)) OUT_OF_RANGE 0)
-    (or_else (line_refusal (wrong_from none 0 (lines text))) (periods_refusal room 0 (periods_in text))))
+    (or_else (line_refusal (wrong_from None 0 (lines text))) (periods_refusal room 0 (periods_in text))))
 
 -- ---- the call
 

@@ -2,7 +2,8 @@
 use Prim.Native.Nat.{ℕ, zero, suc, ◌-◌, ◌≤◌, ◌<◌}
 use mathlib.Core.Bool.{Bool, true, false, ◌&&◌, ◌||◌}
 use mathlib.Core.List.{List, [], ◌∷◌}
-use mathlib.Core.Option.{Option, none, some, map}
+use Rattle.std.specs.Prelude.{Option, None, Some}
+use Rattle.std.specs.Prelude.{option_map}
 use mathlib.Core.Path.{◌≡◌, refl, sym, ap, ap₂, ◌∙◌}
 use native.Mathlib.Omega.{arith}
 use lib.Dec.{eqb, ltb}
@@ -111,9 +112,9 @@ quoted_unseen (x ∷ xs) =
     (ap (characters qsafe_char) (until_capitals 34 (omega arith) xs) ∙ characters_unseen qsafe_char qsafe_unseen (until_byte 34 xs))
     (ap (λ o. option o false is_empty) (after_capitals 34 (omega arith) xs) ∙ go (after 34 xs)))
   where
-    go : (o : Option (List ℕ)) → option (map capitals o) false is_empty ≡ option o false is_empty
-    go none = refl
-    go (some l) = empty_unseen l
+    go : (o : Option (List ℕ)) → option (option_map capitals o) false is_empty ≡ option o false is_empty
+    go None = refl
+    go (Some l) = empty_unseen l
 
 pub value_unseen : (v : List ℕ) → param_value (capitals v) ≡ param_value v
 unfolding param_value paramtext

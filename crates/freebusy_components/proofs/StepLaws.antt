@@ -2,7 +2,7 @@
 use Prim.Native.Nat.{ℕ, ◌≤◌, ◌<◌}
 use mathlib.Core.Bool.{Bool, true, false, not}
 use mathlib.Core.List.{List, ◌++◌}
-use mathlib.Core.Option.{Option, none, some}
+use Rattle.std.specs.Prelude.{Option, None, Some}
 use mathlib.Core.Path.{◌≡◌, sym, ap, ◌∙◌}
 use lib.ListN.{length, drop, take}
 use borrow.Author.Tests.{lt-ltb, le-ltb, not-true, not-false}
@@ -20,13 +20,13 @@ use Rattle.freebusy_components.specs.inner.Room.{after_line}
 -- ---- the lesser of two places
 
 module _ {a b : Place} {x : ℕ} (e : a ≡ At x) where
-  pub first_only : b ≡ Nowhere → some x ≡ least (place_of a) (place_of b)
+  pub first_only : b ≡ Nowhere → Some x ≡ least (place_of a) (place_of b)
   first_only f = rw (e, f)
 
-  pub second_less : {y : ℕ} → b ≡ At y → y < x → some y ≡ least (place_of a) (place_of b)
+  pub second_less : {y : ℕ} → b ≡ At y → y < x → Some y ≡ least (place_of a) (place_of b)
   second_less {y} f h = rw (e, f, lt-ltb y x h)
 
-  pub first_less : {y : ℕ} → b ≡ At y → x ≤ y → some x ≡ least (place_of a) (place_of b)
+  pub first_less : {y : ℕ} → b ≡ At y → x ≤ y → Some x ≡ least (place_of a) (place_of b)
   first_less {y} f h = rw (e, f, le-ltb y x h)
 
 pub ruleset lesser = (first_only, second_less, first_less)
@@ -35,20 +35,20 @@ pub ruleset lesser = (first_only, second_less, first_less)
 
 module _ {b : Place} (p : ℕ) (l : List ℕ) {r : Bool} where
   module _ (e : b ≡ Nowhere) (q : r ≡ spells BEGIN l) where
-    pub opens : r ≡ true → some p ≡ open_after (place_of b) p l
+    pub opens : r ≡ true → Some p ≡ open_after (place_of b) p l
     unfolding is_begin
     opens t = rw (e, sym q ∙ t)
 
-    pub stays_closed : r ≡ false → none ≡ open_after (place_of b) p l
+    pub stays_closed : r ≡ false → None ≡ open_after (place_of b) p l
     unfolding is_begin
     stays_closed t = rw (e, sym q ∙ t)
 
   module _ {o : ℕ} (e : b ≡ At o) (q : r ≡ spells END l) where
-    pub closes : r ≡ true → none ≡ open_after (place_of b) p l
+    pub closes : r ≡ true → None ≡ open_after (place_of b) p l
     unfolding is_end
     closes t = rw (e, sym q ∙ t)
 
-    pub stays_open : r ≡ false → some o ≡ open_after (place_of b) p l
+    pub stays_open : r ≡ false → Some o ≡ open_after (place_of b) p l
     unfolding is_end
     stays_open t = rw (e, sym q ∙ t)
 
@@ -78,16 +78,16 @@ module _ {b : Place} (l : List ℕ) {r : Bool} where
 pub ruleset rulings = (against_outside, against_begun, against_grammar, against_other)
 
 module _ (b : Option ℕ) (p : ℕ) (l : List ℕ) (ended : Bool) where
-  pub wrong_unended : not ended ≡ true → some p ≡ wrong_at b p (line l ended)
+  pub wrong_unended : not ended ≡ true → Some p ≡ wrong_at b p (line l ended)
   unfolding wrong_at
   wrong_unended h = rw (not-true ended h)
 
   module _ {r : Bool} (h : not ended ≡ false) (q : r ≡ against b l) where
-    pub wrong_against : r ≡ true → some p ≡ wrong_at b p (line l ended)
+    pub wrong_against : r ≡ true → Some p ≡ wrong_at b p (line l ended)
     unfolding wrong_at
     wrong_against t = rw (not-false ended h, sym q ∙ t)
 
-    pub wrong_none : r ≡ false → none ≡ wrong_at b p (line l ended)
+    pub wrong_none : r ≡ false → None ≡ wrong_at b p (line l ended)
     unfolding wrong_at
     wrong_none t = rw (not-false ended h, sym q ∙ t)
 

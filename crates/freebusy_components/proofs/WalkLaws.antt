@@ -2,7 +2,7 @@
 use Prim.Native.Nat.{ℕ, suc, ◌+◌, ◌-◌, ◌≤◌, ◌<◌, min}
 use mathlib.Core.Bool.{Bool, true, false, cond}
 use mathlib.Core.List.{List}
-use mathlib.Core.Option.{Option, none, some}
+use Rattle.std.specs.Prelude.{Option, None, Some}
 use mathlib.Core.Path.{◌≡◌, refl, ap, ◌∙◌}
 use native.Mathlib.Omega.{arith}
 use native.Mathlib.Numerals.{add-one}
@@ -28,10 +28,10 @@ three x y z = go (ltb y x) (ltb z y) refl refl
     go false false p q = let h = ltb-false y x p in let k = ltb-false z y q in rw (le-ltb z x (omega arith), p)
 
 least_assoc : (a b c : Option ℕ) → least (least a b) c ≡ least a (least b c)
-least_assoc none b c = refl
-least_assoc (some x) none c = refl
-least_assoc (some x) (some y) none = refl
-least_assoc (some x) (some y) (some z) = ap (λ (n : ℕ). some n) (three x y z)
+least_assoc None b c = refl
+least_assoc (Some x) None c = refl
+least_assoc (Some x) (Some y) None = refl
+least_assoc (Some x) (Some y) (Some z) = ap (λ (n : ℕ). Some n) (three x y z)
 
 -- ---- the space: what it holds after the rest of the lines is what it holds after all of them
 
@@ -52,12 +52,12 @@ module _ (rest space : List ℕ) {left : List ℕ} (w : space_after rest space �
 -- ---- the walk: what was found so far, with what the rest gives, is what the text gives, and so it is with the space
 
 pub record Walking (text space₀ rest : List ℕ) (begun wrong : Option ℕ) (p : ℕ) (space : List ℕ) : Type 0 where
-  pub found : least wrong (wrong_from begun p (lines rest)) ≡ wrong_from none 0 (lines text)
+  pub found : least wrong (wrong_from begun p (lines rest)) ≡ wrong_from None 0 (lines text)
   pub within : p + length rest ≤ length text
   pub left : space_after rest space ≡ space_after text space₀
   pub long : length space ≡ length space₀
 
-pub walking_start : (text space : List ℕ) → Walking text space text none none 0 space
+pub walking_start : (text space : List ℕ) → Walking text space text None None 0 space
 walking_start text space = record { found = refl; within = omega arith; left = refl; long = refl }
 
 first_on_lem : (rest : List ℕ) (begun : Option ℕ) (p : ℕ) → 0 < length rest → (sent : List ℕ) → sent ≡ first_sent rest
@@ -85,7 +85,7 @@ module _ {text space₀ rest : List ℕ} {begun wrong : Option ℕ} {p : ℕ} {s
   walking_long = w.long
 
   module _ (h : length rest ≤ 0) where
-    pub walking_end : {r : Option ℕ} → r ≡ least wrong begun → r ≡ wrong_from none 0 (lines text)
+    pub walking_end : {r : Option ℕ} → r ≡ least wrong begun → r ≡ wrong_from None 0 (lines text)
     unfolding wrong_from
     walking_end e = e ∙ (rw (lines_none rest h) at w.found)
 

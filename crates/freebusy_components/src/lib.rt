@@ -2,7 +2,7 @@
 #![tactic(auto)]
 
 ghost use Rattle.std.specs.Prelude.{◌≡◌, ◌+◌, ◌<◌, ◌≤◌, min, length};
-ghost use Rattle.std.proofs.Math.Option.{none};
+ghost use Rattle.std.specs.Prelude.{None};
 ghost use Rattle.freebusy_lines.specs.Lines.{line, unfolded, lines};
 ghost use Rattle.freebusy_components.specs.Components.{open_after, against, wrong_at, least, wrong_from};
 ghost use Rattle.freebusy_components.specs.inner.Places.{place_of};
@@ -119,7 +119,7 @@ pub fn past_line(k: usize, length: usize) -> usize
 // The least place against the rules. Lines are unfolded in the lent space.
 pub fn first_wrong(text: &[u8], space: &mut [u8]) -> Place
     requires { (length text.now ≤ length space.old) × (length text.now < 65537) }
-    ensures result_value { place_of result ≡ wrong_from none 0 (lines text.now) }
+    ensures result_value { place_of result ≡ wrong_from None 0 (lines text.now) }
     ensures space_after { space.new ≡ space_after text.now space.old }
 {
     let mut rest = text;

@@ -2,7 +2,7 @@
 use Prim.Native.Nat.{ℕ, suc, ◌+◌, ◌<◌}
 use mathlib.Core.Bool.{Bool, true, false, cond, not, false≢true}
 use mathlib.Core.List.{List, [], ◌∷◌, ◌++◌, append-nil, append_assoc}
-use mathlib.Core.Option.{Option, none, some}
+use Rattle.std.specs.Prelude.{Option, None, Some}
 use mathlib.Core.Path.{◌≡◌, refl, sym, ap, ◌∙◌}
 use native.Mathlib.Omega.{arith}
 use lib.Dec.{eqb, ltb}
@@ -97,7 +97,7 @@ taken l (freebusy_of {k = k} n ps v e x h f) =
     let r = runs_then (names_run 58 colon n a) (params_run x) in
     let w : n ++ (ps ++ (58 ∷ v)) ≡ (n ++ ps) ++ (58 ∷ v) = sym (append_assoc n ps (58 ∷ v)) in
     let u : until_unquoted 58 ((n ++ ps) ++ (58 ∷ v)) ≡ n ++ ps = until_runs r (58 ∷ v) ∙ ap (λ (z : List ℕ). (n ++ ps) ++ z) (until_here 58 v) ∙ append-nil (n ++ ps) in
-    let t : after_unquoted 58 ((n ++ ps) ++ (58 ∷ v)) ≡ some v = after_runs r (58 ∷ v) ∙ after_here 58 v in
+    let t : after_unquoted 58 ((n ++ ps) ++ (58 ∷ v)) ≡ Some v = after_runs r (58 ∷ v) ∙ after_here 58 v in
     let m = names_run 59 semicolon n a in
     let i : until_unquoted 59 (n ++ ps) ≡ n = until_runs m ps ∙ ap (λ (z : List ℕ). n ++ z) (params_start x) ∙ append-nil n in
     let j : after_unquoted 59 (n ++ ps) ≡ after_unquoted 59 ps = after_runs m ps in
@@ -128,8 +128,8 @@ unfolding one_fbparam fbtypeparam other_param is_fbtype
 type_found p h i = go (after 61 p) refl (and_right (spells FBTYPE (until_byte 61 p)) (option (after 61 p) false iana_token) (or_left (fbtypeparam p) (other_param p) h (rw i)))
   where
     go : (o : Option (List ℕ)) → after 61 p ≡ o → option o false iana_token ≡ true → Fbtypeparam p
-    go none e f = absurd (false≢true f)
-    go (some t) e f = rw (together 61 p t e) (fbtypeparam_of (until_byte 61 p) t i f)
+    go None e f = absurd (false≢true f)
+    go (Some t) e f = rw (together 61 p t e) (fbtypeparam_of (until_byte 61 p) t i f)
 
 other_found : (p : List ℕ) → one_fbparam p ≡ true → is_fbtype p ≡ false → OtherParam p
 unfolding one_fbparam fbtypeparam other_param param is_fbtype
@@ -138,8 +138,8 @@ other_found p h i =
     go (after 61 p) refl (and_left (iana_token (until_byte 61 p)) (option (after 61 p) false param_values) g) (and_right (iana_token (until_byte 61 p)) (option (after 61 p) false param_values) g)
   where
     go : (o : Option (List ℕ)) → after 61 p ≡ o → iana_token (until_byte 61 p) ≡ true → option o false param_values ≡ true → OtherParam p
-    go none e n f = absurd (false≢true f)
-    go (some v) e n f = rw (together 61 p v e) (other_param_of (until_byte 61 p) v n i (values_found v f))
+    go None e n f = absurd (false≢true f)
+    go (Some v) e n f = rw (together 61 p v e) (other_param_of (until_byte 61 p) v n i (values_found v f))
 
 params_found : (ps : List (List ℕ)) → all_of one_fbparam ps ≡ true → Fbparam (count_of is_fbtype ps) (joined 59 ps)
 unfolding all_of count_of joined
@@ -159,8 +159,8 @@ head_found h e = go (after_unquoted 59 h) refl (and_right (spells FREEBUSY (unti
   where
     go : (o : Option (List ℕ)) → after_unquoted 59 h ≡ o → fbparam (option o [] (unquoted_parts 59)) ≡ true
         → (k : ℕ) × (ps : List ℕ) × (h ≡ until_unquoted 59 h ++ ps) × (Fbparam k ps) × (k < 2)
-    go none p f = (0, [], alone_in 59 false h p ∙ sym (append-nil (until_unquoted 59 h)), no_param, omega arith)
-    go (some r) p f =
+    go None p f = (0, [], alone_in 59 false h p ∙ sym (append-nil (until_unquoted 59 h)), no_param, omega arith)
+    go (Some r) p f =
         let ps = unquoted_parts 59 r in
         let a = params_found ps (and_left (all_of one_fbparam ps) (ltb (count_of is_fbtype ps) 2) f) in (
           count_of is_fbtype ps,
@@ -178,8 +178,8 @@ found l e = go (after_unquoted 58 l) refl (and_left (named h) (option (after_unq
     h = until_unquoted 58 l
 
     go : (o : Option (List ℕ)) → after_unquoted 58 l ≡ o → named h ≡ true → option o false fbvalue ≡ true → Freebusy l
-    go none p n f = absurd (false≢true f)
-    go (some v) p n f =
+    go None p n f = absurd (false≢true f)
+    go (Some v) p n f =
         let d = head_found h n in
         let m : spells FREEBUSY (until_unquoted 59 h) ≡ true = unfold named in and_left (spells FREEBUSY (until_unquoted 59 h)) (fbparam (params_in h)) n in
         let w : l ≡ until_unquoted 59 h ++ (d.1 ++ (58 ∷ v)) =

@@ -2,7 +2,7 @@
 use Prim.Native.Nat.{ℕ, ◌+◌, ◌*◌, ◌-◌}
 use mathlib.Core.Bool.{Bool, true, false, cond, not, ◌&&◌, false≢true}
 use mathlib.Core.List.{List, [], ◌∷◌, ◌++◌}
-use mathlib.Core.Option.{Option, none, some}
+use Rattle.std.specs.Prelude.{Option, None, Some}
 use mathlib.Core.Path.{◌≡◌, refl, sym, ap, ◌∙◌}
 use native.Mathlib.Omega.{arith}
 use lib.Dec.{eqb}
@@ -67,47 +67,47 @@ comma_capital : (x : ℕ) → (capital x ≡ 44 → ⊥) → no_comma x ≡ true
 unfolding capital
 comma_capital x h = rw (ne_eqb x 44 (λ e. h (rw e)))
 
-counted_clear : (any : Bool) (n : ℕ) (s : List ℕ) (k : Counted) → counted_from any n s ≡ some k → (k.unit ≡ 44 → ⊥) → clear k.rest → clear s
+counted_clear : (any : Bool) (n : ℕ) (s : List ℕ) (k : Counted) → counted_from any n s ≡ Some k → (k.unit ≡ 44 → ⊥) → clear k.rest → clear s
 unfolding counted_from all_of
 counted_clear any n [] k e u r = absurd (no_some e)
 counted_clear any n (x ∷ s) k e u r = go (is_digit x) refl e (λ f. counted_clear true (n * 10 + (x - 48)) s k f u r)
   where
-    last : (t : Bool) → cond t (some (counts n (capital x) s)) none ≡ some k → (no_comma x && all_of no_comma s) ≡ true
+    last : (t : Bool) → cond t (Some (counts n (capital x) s)) None ≡ Some k → (no_comma x && all_of no_comma s) ≡ true
     last true e =
         let q = some_is e in
         both (comma_capital x (λ z. u (sym (ap (λ (c : Counted). c.unit) q) ∙ z))) (ap (λ (c : Counted). all_of no_comma c.rest) q ∙ r)
     last false e = absurd (no_some e)
 
-    go : (t : Bool) → is_digit x ≡ t → cond t (counted_from true (n * 10 + (x - 48)) s) (cond any (some (counts n (capital x) s)) none) ≡ some k
-        → (counted_from true (n * 10 + (x - 48)) s ≡ some k → clear s) → (no_comma x && all_of no_comma s) ≡ true
+    go : (t : Bool) → is_digit x ≡ t → cond t (counted_from true (n * 10 + (x - 48)) s) (cond any (Some (counts n (capital x) s)) None) ≡ Some k
+        → (counted_from true (n * 10 + (x - 48)) s ≡ Some k → clear s) → (no_comma x && all_of no_comma s) ≡ true
     go true p e f = both (digit x p) (f e)
     go false p e f = last any e
 
 -- what a reader of seconds takes holds no comma
 abbrev Clears : (List ℕ → Option ℕ) → Type 0
-Clears f = (s : List ℕ) (n : ℕ) → f s ≡ some n → clear s
+Clears f = (s : List ℕ) (n : ℕ) → f s ≡ Some n → clear s
 
 then_clear : (next : List ℕ → Option ℕ) → Clears next → (m : ℕ) → Clears (then_maybe next m)
 unfolding then_maybe all_of
 then_clear next h m [] n e = refl
 then_clear next h m (x ∷ s) n e = go (next (x ∷ s)) refl e
   where
-    go : (o : Option ℕ) → next (x ∷ s) ≡ o → option o none (λ k. some (m + k)) ≡ some n → (no_comma x && all_of no_comma s) ≡ true
-    go none p e = absurd (no_some e)
-    go (some k) p e = h (x ∷ s) k p
+    go : (o : Option ℕ) → next (x ∷ s) ≡ o → option o None (λ k. Some (m + k)) ≡ Some n → (no_comma x && all_of no_comma s) ≡ true
+    go None p e = absurd (no_some e)
+    go (Some k) p e = h (x ∷ s) k p
 
 amount_clear : (c seconds : ℕ) (next : List ℕ → Option ℕ) → eqb c 44 ≡ false → Clears next → Clears (amount c seconds next)
 amount_clear c seconds next h f s n e = go (counted_from false 0 s) refl e
   where
-    unit : (k : Counted) (t : Bool) → counted_from false 0 s ≡ some k → eqb k.unit c ≡ t → cond t (then_maybe next (k.count * seconds) k.rest) none ≡ some n → clear s
+    unit : (k : Counted) (t : Bool) → counted_from false 0 s ≡ Some k → eqb k.unit c ≡ t → cond t (then_maybe next (k.count * seconds) k.rest) None ≡ Some n → clear s
     unit k true p q e =
         counted_clear false 0 s k p (λ z. false≢true (sym h ∙ ap (λ (y : ℕ). eqb y 44) (sym (eqb-true k.unit c q)) ∙ rw z))
         (then_clear next f (k.count * seconds) k.rest n e)
     unit k false p q e = absurd (no_some e)
 
-    go : (o : Option Counted) → counted_from false 0 s ≡ o → option o none (λ k. cond (eqb k.unit c) (then_maybe next (k.count * seconds) k.rest) none) ≡ some n → clear s
-    go none p e = absurd (no_some e)
-    go (some k) p e = unit k (eqb k.unit c) p refl e
+    go : (o : Option Counted) → counted_from false 0 s ≡ o → option o None (λ k. cond (eqb k.unit c) (then_maybe next (k.count * seconds) k.rest) None) ≡ Some n → clear s
+    go None p e = absurd (no_some e)
+    go (Some k) p e = unit k (eqb k.unit c) p refl e
 
 nothing_clear : Clears nothing_more
 nothing_clear s n e = absurd (no_some e)
@@ -115,9 +115,9 @@ nothing_clear s n e = absurd (no_some e)
 either_clear : (f g : List ℕ → Option ℕ) → Clears f → Clears g → Clears (λ s. or_else (f s) (g s))
 either_clear f g h k s n e = go (f s) refl e
   where
-    go : (o : Option ℕ) → f s ≡ o → or_else o (g s) ≡ some n → clear s
-    go none p e = k s n e
-    go (some m) p e = h s m p
+    go : (o : Option ℕ) → f s ≡ o → or_else o (g s) ≡ Some n → clear s
+    go None p e = k s n e
+    go (Some m) p e = h s m p
 
 second_clear : Clears dur_second
 unfolding dur_second
@@ -132,11 +132,11 @@ unfolding dur_hour
 hour_clear = amount_clear 72 3600 dur_minute refl minute_clear
 
 -- a letter, and then what f reads
-after_letter : (c : ℕ) (f : List ℕ → Option ℕ) → eqb 44 c ≡ false → Clears f → (x : ℕ) (s : List ℕ) (n : ℕ) → cond (is_letter c x) (f s) none ≡ some n → clear (x ∷ s)
+after_letter : (c : ℕ) (f : List ℕ → Option ℕ) → eqb 44 c ≡ false → Clears f → (x : ℕ) (s : List ℕ) (n : ℕ) → cond (is_letter c x) (f s) None ≡ Some n → clear (x ∷ s)
 unfolding all_of
 after_letter c f h k x s n e = go (is_letter c x) refl e
   where
-    go : (t : Bool) → is_letter c x ≡ t → cond t (f s) none ≡ some n → (no_comma x && all_of no_comma s) ≡ true
+    go : (t : Bool) → is_letter c x ≡ t → cond t (f s) None ≡ Some n → (no_comma x && all_of no_comma s) ≡ true
     go true p e = both (letter c x h p) (k s n e)
     go false p e = absurd (no_some e)
 
@@ -167,7 +167,7 @@ unfolding dur_value all_of
 value_clear [] n e = refl
 value_clear (x ∷ s) n e = go (is_sign x) refl e
   where
-    go : (t : Bool) → is_sign x ≡ t → cond t (dur_unsigned s) (dur_unsigned (x ∷ s)) ≡ some n → (no_comma x && all_of no_comma s) ≡ true
+    go : (t : Bool) → is_sign x ≡ t → cond t (dur_unsigned s) (dur_unsigned (x ∷ s)) ≡ Some n → (no_comma x && all_of no_comma s) ≡ true
     go true p e = both (no_comma_lem is_sign refl x p) (unsigned_clear s n e)
     go false p e = unsigned_clear (x ∷ s) n e
 
@@ -179,8 +179,8 @@ side_clear s test h e =
     go (after 47 s) refl (and_right (date_time (until_byte 47 s)) (option (after 47 s) false test) e)
   where
     go : (o : Option (List ℕ)) → after 47 s ≡ o → option o false test ≡ true → clear s
-    go none p f = absurd (false≢true f)
-    go (some d) p f =
+    go None p f = absurd (false≢true f)
+    go (Some d) p f =
         ap (all_of no_comma) (together 47 s d p)
         ∙ all_both no_comma (until_byte 47 s) (47 ∷ d) (date_clear (until_byte 47 s) (and_left (date_time (until_byte 47 s)) (option (after 47 s) false test) e)) (h d f)
 
@@ -188,8 +188,8 @@ some_value : (d : List ℕ) → is_some (dur_value d) ≡ true → clear d
 some_value d e = go (dur_value d) refl e
   where
     go : (o : Option ℕ) → dur_value d ≡ o → is_some o ≡ true → clear d
-    go none p e = absurd (false≢true e)
-    go (some n) p e = value_clear d n p
+    go None p e = absurd (false≢true e)
+    go (Some n) p e = value_clear d n p
 
 pub period_clear : (s : List ℕ) → period s ≡ true → clear s
 unfolding period period_explicit period_start

@@ -2,7 +2,7 @@
 use Prim.Native.Nat.{ℕ}
 use mathlib.Core.Bool.{Bool, true, false, cond, not, ◌||◌}
 use mathlib.Core.List.{List, [], ◌∷◌, ◌++◌, append-nil}
-use mathlib.Core.Option.{none, some}
+use Rattle.std.specs.Prelude.{None, Some}
 use mathlib.Core.Path.{◌≡◌, refl, sym, ap, ◌∙◌}
 use native.Mathlib.Omega.{arith}
 use lib.Dec.{eqb}
@@ -13,10 +13,10 @@ use Rattle.text_fields.specs.Parts.{until_byte, on_first}
 use Rattle.freebusy_lines.specs.Bytes.{after}
 use Rattle.freebusy_property.specs.Quotes.{quoted_after, parting, one_more, parts_in, until_in, after_in}
 
-pub some_is : {A : Type 0} {a b : A} → some a ≡ some b → a ≡ b
+pub some_is : {A : Type 0} {a b : A} → Some a ≡ Some b → a ≡ b
 some_is e = cc
 
-pub no_some : {A : Type 0} {a : A} → none ≡ some a → ⊥
+pub no_some : {A : Type 0} {a : A} → None ≡ Some a → ⊥
 no_some e = let z : ◌≡◌ {A = ℕ} 0 1 = cc in omega arith
 
 -- ---- bytes that are passed over, and whether what follows them stands in quotes
@@ -71,7 +71,7 @@ pub until_here : (b : ℕ) (w : List ℕ) → until_in false b (b ∷ w) ≡ []
 unfolding until_in
 until_here b w = rw (eq-eqb b b refl)
 
-pub after_here : (b : ℕ) (w : List ℕ) → after_in false b (b ∷ w) ≡ some w
+pub after_here : (b : ℕ) (w : List ℕ) → after_in false b (b ∷ w) ≡ Some w
 unfolding after_in
 after_here b w = rw (eq-eqb b b refl)
 
@@ -107,35 +107,35 @@ no_byte b (x ∷ xs) = go (eqb x b) refl (no_byte b xs)
     go true e h = refl
     go false e h = rw (e, h)
 
-pub together : (b : ℕ) (xs v : List ℕ) → after b xs ≡ some v → xs ≡ until_byte b xs ++ (b ∷ v)
+pub together : (b : ℕ) (xs v : List ℕ) → after b xs ≡ Some v → xs ≡ until_byte b xs ++ (b ∷ v)
 unfolding until_byte after
 together b [] v e = absurd (no_some e)
 together b (x ∷ xs) v e = go (eqb x b) refl e (together b xs v)
   where
-    go : (t : Bool) → eqb x b ≡ t → cond t (some xs) (after b xs) ≡ some v → (after b xs ≡ some v → xs ≡ until_byte b xs ++ (b ∷ v))
+    go : (t : Bool) → eqb x b ≡ t → cond t (Some xs) (after b xs) ≡ Some v → (after b xs ≡ Some v → xs ≡ until_byte b xs ++ (b ∷ v))
         → x ∷ xs ≡ cond t [] (x ∷ until_byte b xs) ++ (b ∷ v)
     go true p e h = rw (eqb-true x b p, some_is e)
     go false p e h = ap (λ (l : List ℕ). x ∷ l) (h e)
 
 module _ (b : ℕ) where
-  pub together_in : (q : Bool) (xs v : List ℕ) → after_in q b xs ≡ some v → xs ≡ until_in q b xs ++ (b ∷ v)
+  pub together_in : (q : Bool) (xs v : List ℕ) → after_in q b xs ≡ Some v → xs ≡ until_in q b xs ++ (b ∷ v)
   unfolding until_in after_in
   together_in q [] v e = absurd (no_some e)
   together_in q (x ∷ xs) v e = go (parting q b x) refl e (together_in (quoted_after q x) xs v)
     where
-      go : (t : Bool) → parting q b x ≡ t → cond t (some xs) (after_in (quoted_after q x) b xs) ≡ some v
-          → (after_in (quoted_after q x) b xs ≡ some v → xs ≡ until_in (quoted_after q x) b xs ++ (b ∷ v))
+      go : (t : Bool) → parting q b x ≡ t → cond t (Some xs) (after_in (quoted_after q x) b xs) ≡ Some v
+          → (after_in (quoted_after q x) b xs ≡ Some v → xs ≡ until_in (quoted_after q x) b xs ++ (b ∷ v))
           → x ∷ xs ≡ cond t [] (x ∷ until_in (quoted_after q x) b xs) ++ (b ∷ v)
       go true p e h = rw (eqb-true x b (and_right (not q) (eqb x b) p), some_is e)
       go false p e h = ap (λ (l : List ℕ). x ∷ l) (h e)
 
-  pub alone_in : (q : Bool) (xs : List ℕ) → after_in q b xs ≡ none → xs ≡ until_in q b xs
+  pub alone_in : (q : Bool) (xs : List ℕ) → after_in q b xs ≡ None → xs ≡ until_in q b xs
   unfolding until_in after_in
   alone_in q [] e = refl
   alone_in q (x ∷ xs) e = go (parting q b x) e (alone_in (quoted_after q x) xs)
     where
-      go : (t : Bool) → cond t (some xs) (after_in (quoted_after q x) b xs) ≡ none
-          → (after_in (quoted_after q x) b xs ≡ none → xs ≡ until_in (quoted_after q x) b xs)
+      go : (t : Bool) → cond t (Some xs) (after_in (quoted_after q x) b xs) ≡ None
+          → (after_in (quoted_after q x) b xs ≡ None → xs ≡ until_in (quoted_after q x) b xs)
           → x ∷ xs ≡ cond t [] (x ∷ until_in (quoted_after q x) b xs)
       go true e h = absurd (no_some (sym e))
       go false e h = ap (λ (l : List ℕ). x ∷ l) (h e)

@@ -2,7 +2,7 @@
 use Prim.Native.Nat.{ℕ, zero, suc, ◌-◌, ◌<◌, ◌≤◌}
 use mathlib.Core.Bool.{Bool, true, false, cond, not, ◌&&◌, and-false, or-false, false≢true}
 use mathlib.Core.List.{List, [], ◌∷◌, ◌++◌}
-use mathlib.Core.Option.{Option, none, some}
+use Rattle.std.specs.Prelude.{Option, None, Some}
 use mathlib.Core.Path.{◌≡◌, refl, sym, ap, ◌∙◌}
 use native.Mathlib.Omega.{arith}
 use native.Mathlib.Decide.{dec_lt}
@@ -85,7 +85,7 @@ module _ (v : List ℕ) where
   name_until (x ∷ n) h =
       rw (apart is_name_byte x 61 equals_no_name (and_left (is_name_byte x) (all_of is_name_byte n) h), name_until n (and_right (is_name_byte x) (all_of is_name_byte n) h))
 
-  pub name_after : (n : List ℕ) → all_of is_name_byte n ≡ true → after 61 (n ++ (61 ∷ v)) ≡ some v
+  pub name_after : (n : List ℕ) → all_of is_name_byte n ≡ true → after 61 (n ++ (61 ∷ v)) ≡ Some v
   unfolding after all_of
   name_after [] h = refl
   name_after (x ∷ n) h =
@@ -224,11 +224,11 @@ module _ (b : ℕ) (s : Separates b) where
       rw q (go (after 34 xs) refl i)
     where
       go : (o : Option (List ℕ)) → after 34 xs ≡ o → option o false is_empty ≡ true → Runs b false (34 ∷ xs) false
-      go none p i = absurd (false≢true i)
-      go (some []) p i =
+      go None p i = absurd (false≢true i)
+      go (Some []) p i =
           let w : Runs b true (until_byte 34 xs ++ (34 ∷ [])) false = runs_then (inside_runs b (until_byte 34 xs) (no_byte 34 xs)) (passes 34 refl stays) in
           passes 34 s.no_quote_lem (rw (← together 34 xs [] p) at w)
-      go (some (y ∷ r)) p i = absurd (false≢true i)
+      go (Some (y ∷ r)) p i = absurd (false≢true i)
 
   pub value_run : (v : List ℕ) → param_value v ≡ true → Runs b false v false
   unfolding param_value paramtext all_of

@@ -2,7 +2,7 @@
 use Prim.Native.Nat.{ℕ, suc, ◌+◌, ◌/◌}
 use mathlib.Core.Bool.{Bool, true, false, cond}
 use mathlib.Core.List.{List, [], ◌∷◌, map}
-use mathlib.Core.Option.{Option, none, some}
+use Rattle.std.specs.Prelude.{Option, None, Some}
 use mathlib.Core.Path.{◌≡◌, refl, sym, ap, ◌∙◌}
 use lib.ListN.{length, length-map}
 use Rattle.loops.specs.Lists.{each}
@@ -28,12 +28,12 @@ unfolding is_end
 end_unseen l = spells_unseen _ l
 
 open_unseen : (begun : Option ℕ) (p : ℕ) (l : List ℕ) → open_after begun p (capitals l) ≡ open_after begun p l
-open_unseen none p l = rw (begin_unseen l)
-open_unseen (some q) p l = rw (end_unseen l)
+open_unseen None p l = rw (begin_unseen l)
+open_unseen (Some q) p l = rw (end_unseen l)
 
 against_unseen : (begun : Option ℕ) (l : List ℕ) → against begun (capitals l) ≡ against begun l
-against_unseen none l = end_unseen l
-against_unseen (some q) l = rw (begin_unseen l, is_freebusy_unseen l, freebusy_unseen l)
+against_unseen None l = end_unseen l
+against_unseen (Some q) l = rw (begin_unseen l, is_freebusy_unseen l, freebusy_unseen l)
 
 wrong_unseen : (begun : Option ℕ) (p : ℕ) (ls : List Line) → wrong_from begun p (map line_capitals ls) ≡ wrong_from begun p ls
 unfolding wrong_from wrong_at
@@ -52,8 +52,8 @@ upper_map p f [] = refl
 upper_map p f (s ∷ ss) = ap (λ (bs : List Busy). busy p f (capitals s) ∷ bs) (upper_map p f ss)
 
 at_capitals : (begun : Option ℕ) (p : ℕ) (l : List ℕ) → periods_at begun p (capitals l) ≡ map upper_busy (periods_at begun p l)
-at_capitals none p l = refl
-at_capitals (some q) p l = rw (is_freebusy_unseen l, is_free_unseen l, periods_capitals l) (go (is_freebusy l))
+at_capitals None p l = refl
+at_capitals (Some q) p l = rw (is_freebusy_unseen l, is_free_unseen l, periods_capitals l) (go (is_freebusy l))
   where
     go : (b : Bool) → cond b (map (busy p (is_free l)) (map capitals (periods_of l))) [] ≡ map upper_busy (cond b (map (busy p (is_free l)) (periods_of l)) [])
     go true = upper_map p (is_free l) (periods_of l)
@@ -88,12 +88,12 @@ each_unseen (b ∷ bs) = rw (closures_unseen b, each_unseen bs)
 
 in_capitals : (s : List ℕ) → periods_in (capitals s) ≡ map upper_busy (periods_in s)
 unfolding periods_in
-in_capitals s = rw (lines_capitals s) (from_capitals none 0 (lines s))
+in_capitals s = rw (lines_capitals s) (from_capitals None 0 (lines s))
 
 upper_alike : (s : List ℕ) → Alike (capitals s) s
 unfolding freebusy_answer freebusy_after freebusy_refusal closures
 upper_alike s resource lent =
-    let w : wrong_from none 0 (lines (capitals s)) ≡ wrong_from none 0 (lines s) = rw (lines_capitals s) (wrong_unseen none 0 (lines s)) in (
+    let w : wrong_from None 0 (lines (capitals s)) ≡ wrong_from None 0 (lines s) = rw (lines_capitals s) (wrong_unseen None 0 (lines s)) in (
       rw (length-map s capital, w, in_capitals s, refusals_unseen (length lent / 10) 0 (periods_in s), each_unseen (periods_in s)),
       rw (length-map s capital, w, in_capitals s, refusals_unseen (length lent / 10) 0 (periods_in s), each_unseen (periods_in s)),
     )

@@ -2,7 +2,7 @@
 use Prim.Native.Nat.{ℕ, zero, suc, ◌+◌, ◌*◌, ◌/◌, ◌<◌}
 use mathlib.Core.Bool.{Bool, true, false, cond, ◌&&◌, not}
 use mathlib.Core.List.{List, [], ◌∷◌, ◌++◌}
-use mathlib.Core.Option.{none}
+use Rattle.std.specs.Prelude.{None}
 use mathlib.Core.Path.{◌≡◌, refl, ◌∙◌}
 use native.Mathlib.Omega.{arith}
 use lib.Dec.{ltb, leb}
@@ -128,13 +128,13 @@ module _ (resource : ℤ) (rows : List ℤ) (k : ℕ) (i : in_class id_c resourc
 
 -- ---- the law
 
-known : (text : List ℕ) (resource : ℤ) (room : ℕ) → freebusy_refusal text resource room ≡ none → in_class id_c resource ≡ true
+known : (text : List ℕ) (resource : ℤ) (room : ℕ) → freebusy_refusal text resource room ≡ None → in_class id_c resource ≡ true
 unfolding freebusy_refusal
 known text resource room e = go (in_class id_c resource)
-    (or_none_left (refuse (not (in_class id_c resource)) OUT_OF_RANGE 0) (or_else (line_refusal (wrong_from none 0 (lines text))) (periods_refusal room 0 (periods_in text)))
-    (or_none_right (refuse (ltb 65536 (length text)) OVERLONG 0) (or_else (refuse (not (in_class id_c resource)) OUT_OF_RANGE 0) (or_else (line_refusal (wrong_from none 0 (lines text))) (periods_refusal room 0 (periods_in text)))) e))
+    (or_none_left (refuse (not (in_class id_c resource)) OUT_OF_RANGE 0) (or_else (line_refusal (wrong_from None 0 (lines text))) (periods_refusal room 0 (periods_in text)))
+    (or_none_right (refuse (ltb 65536 (length text)) OVERLONG 0) (or_else (refuse (not (in_class id_c resource)) OUT_OF_RANGE 0) (or_else (line_refusal (wrong_from None 0 (lines text))) (periods_refusal room 0 (periods_in text)))) e))
   where
-    go : (b : Bool) → refuse (not b) OUT_OF_RANGE 0 ≡ none → b ≡ true
+    go : (b : Bool) → refuse (not b) OUT_OF_RANGE 0 ≡ None → b ≡ true
     go true e = refl
     go false e = absurd (let z : ◌≡◌ {A = ℕ} 0 1 = cc in omega arith)
 

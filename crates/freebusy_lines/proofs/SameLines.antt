@@ -3,7 +3,7 @@
 use Prim.Native.Nat.{ℕ}
 use mathlib.Core.Bool.{Bool, true, false, cond, ◌&&◌, ◌||◌, not, and-false}
 use mathlib.Core.List.{List, [], ◌∷◌, ◌++◌}
-use mathlib.Core.Option.{some}
+use Rattle.std.specs.Prelude.{Some}
 use mathlib.Core.Path.{◌≡◌, refl, ap, ◌∙◌}
 use lib.Dec.{eqb}
 use lib.Seq.{append_snoc}
@@ -49,7 +49,7 @@ pub record Before (p : List ℕ) (cr lf start : Bool) : Type 0 where
   pub lf_is : ends_crlf p ≡ lf
   pub start_is : (is_empty p || ends_crlf p) ≡ start
 
-last_snoc : (p : List ℕ) (x : ℕ) → last (p ++ x ∷ []) ≡ some x
+last_snoc : (p : List ℕ) (x : ℕ) → last (p ++ x ∷ []) ≡ Some x
 unfolding last
 last_snoc [] x = refl
 last_snoc (y ∷ []) x = refl

@@ -1,6 +1,6 @@
 -- Bytes by their numbers, and words with letters in either case. Assumes nothing.
 use Rattle.std.specs.Prelude.{ℕ, Bool, true, false, cond, ◌&&◌, ◌||◌, not, List, [], ◌∷◌, eqb}
-use Rattle.std.proofs.Math.Option.{Option, none, some}
+use Rattle.std.specs.Prelude.{Option, None, Some}
 use Rattle.loops.specs.Lists.{all_of, is_empty}
 use Rattle.text_fields.specs.Spelling.{is_digit}
 use Rattle.letters.specs.Letters.{is_capital, capital}
@@ -51,5 +51,5 @@ leading p (x ∷ xs) = cond (p x) (x ∷ leading p xs) []
 
 -- what follows the first byte b; none where there is no b
 unfoldable pub after : ℕ → List ℕ → Option (List ℕ)
-after b [] = none
-after b (x ∷ xs) = cond (eqb x b) (some xs) (after b xs)
+after b [] = None
+after b (x ∷ xs) = cond (eqb x b) (Some xs) (after b xs)

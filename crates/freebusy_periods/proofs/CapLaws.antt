@@ -3,7 +3,7 @@ use Prim.Native.Nat.{ℕ, ◌+◌, ◌*◌, ◌-◌, ◌≤◌, ◌<◌}
 use mathlib.Core.Bool.{Bool, true, false, cond, not}
 use mathlib.Core.List.{List, [], ◌∷◌}
 use mathlib.Core.Logic.{◌⊎◌, inl, inr}
-use mathlib.Core.Option.{Option, none, some}
+use Rattle.std.specs.Prelude.{Option, None, Some}
 use mathlib.Core.Path.{◌≡◌, refl, sym, ap, ◌∙◌}
 use native.Mathlib.Omega.{arith}
 use native.Mathlib.Nat.{le-mul_of_pos_right}
@@ -77,8 +77,8 @@ alike_itself n = inl refl
 -- seconds are added after they are cut, or before
 pub added_alike : (m n : ℕ) (o : Option ℕ) → Alike m n → capped (added m (capped o)) ≡ capped (added n o)
 unfolding capped added
-added_alike m n none h = refl
-added_alike m n (some k) h = ap (λ (j : ℕ). some j) (alike_same (m + at_most k) (n + k) (alike_plus m n (at_most k) k h (alike_cut k)))
+added_alike m n None h = refl
+added_alike m n (Some k) h = ap (λ (j : ℕ). Some j) (alike_same (m + at_most k) (n + k) (alike_plus m n (at_most k) k h (alike_cut k)))
 
 pub cut_sum : (m n p q : ℕ) → p ≡ at_most m → q ≡ at_most n → at_most (p + q) ≡ at_most (m + n)
 cut_sum m n p q e f = alike_same (p + q) (m + n) (alike_plus p m q n (rw e (alike_cut m)) (rw f (alike_cut n)))
@@ -91,10 +91,10 @@ counted_alike any m n [] h = refl
 counted_alike any m n (x ∷ xs) h = go (is_digit x) any (counted_alike true _ _ xs (alike_digit m n (x - 48) h))
   where
     go : (b any : Bool) → capped_count (counted_from true (m * 10 + (x - 48)) xs) ≡ capped_count (counted_from true (n * 10 + (x - 48)) xs)
-        → capped_count (cond b (counted_from true (m * 10 + (x - 48)) xs) (cond any (some (counts m (capital x) xs)) none))
-        ≡ capped_count (cond b (counted_from true (n * 10 + (x - 48)) xs) (cond any (some (counts n (capital x) xs)) none))
+        → capped_count (cond b (counted_from true (m * 10 + (x - 48)) xs) (cond any (Some (counts m (capital x) xs)) None))
+        ≡ capped_count (cond b (counted_from true (n * 10 + (x - 48)) xs) (cond any (Some (counts n (capital x) xs)) None))
     go true any e = e
-    go false true e = ap (λ (k : ℕ). some (counts k (capital x) xs)) (alike_same m n h)
+    go false true e = ap (λ (k : ℕ). Some (counts k (capital x) xs)) (alike_same m n h)
     go false false e = refl
 
 -- the first i bytes are digits, of the number n, cut; there was one where 0 < i
@@ -120,16 +120,16 @@ module _ {s : List ℕ} {n i : ℕ} (c : Reading s n i) where
   }
 
   pub reading_unit : {r : Bool} {u : ℕ} → i < length s → r ≡ is_digit (get_or s i 0) → not r ≡ true → u ≡ capital (get_or s i 0)
-      → cond (ltb 0 i) (some (counts n u (drop (i + 1) s))) none ≡ capped_count (counted s)
+      → cond (ltb 0 i) (Some (counts n u (drop (i + 1) s))) None ≡ capped_count (counted s)
   unfolding counted_from
   reading_unit {r} {u} k e t p =
       let h : is_digit (get_or s i 0) ≡ false = sym e ∙ not-true r t in go (ltb 0 i) ∙ sym (rw (drop-cons s i 0 k, h, add-one i)) ∙ c.same
     where
-      go : (b : Bool) → cond b (some (counts n u (drop (i + 1) s))) none ≡ capped_count (cond b (some (counts n (capital (get_or s i 0)) (drop (i + 1) s))) none)
+      go : (b : Bool) → cond b (Some (counts n u (drop (i + 1) s))) None ≡ capped_count (cond b (Some (counts n (capital (get_or s i 0)) (drop (i + 1) s))) None)
       go true = rw (p, cap_under n c.small)
       go false = refl
 
-  pub reading_end : length s ≤ i → none ≡ capped_count (counted s)
+  pub reading_end : length s ≤ i → None ≡ capped_count (counted s)
   unfolding counted_from
   reading_end h = sym (rw (drop_of_length-le s {i = i} h)) ∙ c.same
 

@@ -2,7 +2,8 @@
 use Prim.Native.Nat.{ℕ, ◌+◌, ◌*◌, ◌-◌}
 use mathlib.Core.Bool.{Bool, true, false, cond, ◌&&◌, ◌||◌}
 use mathlib.Core.List.{List, [], ◌∷◌}
-use mathlib.Core.Option.{Option, none, some, map}
+use Rattle.std.specs.Prelude.{Option, None, Some}
+use Rattle.std.specs.Prelude.{option_map}
 use mathlib.Core.Path.{◌≡◌, refl, ap, ap₂, ◌∙◌}
 use native.Mathlib.Omega.{arith}
 use lib.Dec.{eqb, ltb}
@@ -29,37 +30,37 @@ Blind f = (s : List ℕ) → f (capitals s) ≡ f s
 abbrev rest_capitals : Counted → Counted
 rest_capitals k = counts k.count k.unit (capitals k.rest)
 
-counted_from_capitals : (any : Bool) (n : ℕ) (s : List ℕ) → counted_from any n (capitals s) ≡ map rest_capitals (counted_from any n s)
+counted_from_capitals : (any : Bool) (n : ℕ) (s : List ℕ) → counted_from any n (capitals s) ≡ option_map rest_capitals (counted_from any n s)
 unfolding counted_from
 counted_from_capitals any n [] = refl
 counted_from_capitals any n (x ∷ s) =
-    ap (λ (b : Bool). cond b (counted_from true (n * 10 + (capital x - 48)) (capitals s)) (cond any (some (counts n (capital (capital x)) (capitals s))) none)) (digit_unseen x)
+    ap (λ (b : Bool). cond b (counted_from true (n * 10 + (capital x - 48)) (capitals s)) (cond any (Some (counts n (capital (capital x)) (capitals s))) None)) (digit_unseen x)
     ∙ go (is_digit x) any refl (counted_from_capitals true (n * 10 + (x - 48)) s)
   where
-    go : (b any : Bool) → is_digit x ≡ b → counted_from true (n * 10 + (x - 48)) (capitals s) ≡ map rest_capitals (counted_from true (n * 10 + (x - 48)) s)
-        → cond b (counted_from true (n * 10 + (capital x - 48)) (capitals s)) (cond any (some (counts n (capital (capital x)) (capitals s))) none)
-        ≡ map rest_capitals (cond b (counted_from true (n * 10 + (x - 48)) s) (cond any (some (counts n (capital x) s)) none))
+    go : (b any : Bool) → is_digit x ≡ b → counted_from true (n * 10 + (x - 48)) (capitals s) ≡ option_map rest_capitals (counted_from true (n * 10 + (x - 48)) s)
+        → cond b (counted_from true (n * 10 + (capital x - 48)) (capitals s)) (cond any (Some (counts n (capital (capital x)) (capitals s))) None)
+        ≡ option_map rest_capitals (cond b (counted_from true (n * 10 + (x - 48)) s) (cond any (Some (counts n (capital x) s)) None))
     go true any p k = ap (λ (y : ℕ). counted_from true (n * 10 + (y - 48)) (capitals s)) (digit_kept x p) ∙ k
-    go false true p k = ap (λ (y : ℕ). some (counts n y (capitals s))) (capital_twice x)
+    go false true p k = ap (λ (y : ℕ). Some (counts n y (capitals s))) (capital_twice x)
     go false false p k = refl
 
-pub counted_capitals : (s : List ℕ) → counted (capitals s) ≡ map rest_capitals (counted s)
+pub counted_capitals : (s : List ℕ) → counted (capitals s) ≡ option_map rest_capitals (counted s)
 counted_capitals s = counted_from_capitals false 0 s
 
 then_unseen : (next : List ℕ → Option ℕ) (n : ℕ) → Blind next → Blind (then_maybe next n)
 unfolding then_maybe
 then_unseen next n u [] = refl
-then_unseen next n u (x ∷ s) = ap (λ (o : Option ℕ). option o none (λ m. some (n + m))) (u (x ∷ s))
+then_unseen next n u (x ∷ s) = ap (λ (o : Option ℕ). option o None (λ m. Some (n + m))) (u (x ∷ s))
 
 amount_unseen : (c seconds : ℕ) (next : List ℕ → Option ℕ) → Blind next → Blind (amount c seconds next)
 amount_unseen c seconds next u s =
-    ap (λ (o : Option Counted). option o none (λ k. cond (eqb k.unit c) (then_maybe next (k.count * seconds) k.rest) none)) (counted_capitals s) ∙ go (counted s)
+    ap (λ (o : Option Counted). option o None (λ k. cond (eqb k.unit c) (then_maybe next (k.count * seconds) k.rest) None)) (counted_capitals s) ∙ go (counted s)
   where
     go : (o : Option Counted)
-        → option (map rest_capitals o) none (λ k. cond (eqb k.unit c) (then_maybe next (k.count * seconds) k.rest) none)
-        ≡ option o none (λ k. cond (eqb k.unit c) (then_maybe next (k.count * seconds) k.rest) none)
-    go none = refl
-    go (some k) = ap (λ (o : Option ℕ). cond (eqb k.unit c) o none) (then_unseen next (k.count * seconds) u k.rest)
+        → option (option_map rest_capitals o) None (λ k. cond (eqb k.unit c) (then_maybe next (k.count * seconds) k.rest) None)
+        ≡ option o None (λ k. cond (eqb k.unit c) (then_maybe next (k.count * seconds) k.rest) None)
+    go None = refl
+    go (Some k) = ap (λ (o : Option ℕ). cond (eqb k.unit c) o None) (then_unseen next (k.count * seconds) u k.rest)
 
 -- ---- the productions, one after the other
 
@@ -79,7 +80,7 @@ time_unseen : Blind dur_time
 unfolding dur_time
 time_unseen [] = refl
 time_unseen (x ∷ s) =
-    ap₂ (λ (y : ℕ) (o : Option ℕ). cond (eqb y LETTER_T) o none) (capital_twice x) (ap₂ or_else (hour_unseen s) (ap₂ or_else (minute_unseen s) (second_unseen s)))
+    ap₂ (λ (y : ℕ) (o : Option ℕ). cond (eqb y LETTER_T) o None) (capital_twice x) (ap₂ or_else (hour_unseen s) (ap₂ or_else (minute_unseen s) (second_unseen s)))
 
 date_unseen : Blind dur_date
 unfolding dur_date
@@ -93,7 +94,7 @@ unsigned_unseen : Blind dur_unsigned
 unfolding dur_unsigned
 unsigned_unseen [] = refl
 unsigned_unseen (x ∷ s) =
-    ap₂ (λ (y : ℕ) (o : Option ℕ). cond (eqb y LETTER_P) o none) (capital_twice x) (ap₂ or_else (date_unseen s) (ap₂ or_else (time_unseen s) (week_unseen s)))
+    ap₂ (λ (y : ℕ) (o : Option ℕ). cond (eqb y LETTER_P) o None) (capital_twice x) (ap₂ or_else (date_unseen s) (ap₂ or_else (time_unseen s) (week_unseen s)))
 
 sign_unseen : (x : ℕ) → is_sign (capital x) ≡ is_sign x
 sign_unseen x = ap₂ ◌||◌ (byte_unseen PLUS (omega arith) x) (byte_unseen HYPHEN (omega arith) x)
@@ -117,9 +118,9 @@ before_unseen f u s = ap f (until_capitals SLASH (omega arith) s) ∙ u (until_b
 behind_unseen : {B : Type 0} (b : B) (f : List ℕ → B) → Blind f → (s : List ℕ) → option (after SLASH (capitals s)) b f ≡ option (after SLASH s) b f
 behind_unseen b f u s = ap (λ (o : Option (List ℕ)). option o b f) (after_capitals SLASH (omega arith) s) ∙ go (after SLASH s)
   where
-    go : (o : Option (List ℕ)) → option (map capitals o) b f ≡ option o b f
-    go none = refl
-    go (some r) = u r
+    go : (o : Option (List ℕ)) → option (option_map capitals o) b f ≡ option o b f
+    go None = refl
+    go (Some r) = u r
 
 pub period_unseen : (s : List ℕ) → period (capitals s) ≡ period s
 unfolding period period_explicit period_start
@@ -130,20 +131,20 @@ period_unseen s =
 end_unseen : (a : ℕ) → Blind (end_from a)
 unfolding end_from
 end_unseen a e =
-    ap (λ (b : Bool). cond b (instant (capitals e)) (option (dur_value (capitals e)) none (λ n. moved a (is_back (capitals e)) n))) (date_time_unseen e)
+    ap (λ (b : Bool). cond b (instant (capitals e)) (option (dur_value (capitals e)) None (λ n. moved a (is_back (capitals e)) n))) (date_time_unseen e)
     ∙ ap₂ (λ (i o : Option ℕ). cond (date_time e) i o) (instant_unseen e)
-    (ap₂ (λ (o : Option ℕ) (b : Bool). option o none (λ n. moved a b n)) (value_unseen e) (back_unseen e))
+    (ap₂ (λ (o : Option ℕ) (b : Bool). option o None (λ n. moved a b n)) (value_unseen e) (back_unseen e))
 
 pub window_unseen : (s : List ℕ) → window_of (capitals s) ≡ window_of s
 unfolding window_of
 window_unseen s =
     ap
-    (λ (o : Option ℕ). option o (Wrong UNDATED) λ a. option (option (after SLASH (capitals s)) none (end_from a)) (Wrong UNDATED) λ e. cond (ltb a e) (Span a e) (Wrong MALFORMED))
+    (λ (o : Option ℕ). option o (Wrong UNDATED) λ a. option (option (after SLASH (capitals s)) None (end_from a)) (Wrong UNDATED) λ e. cond (ltb a e) (Span a e) (Wrong MALFORMED))
     (before_unseen instant instant_unseen s)
     ∙ go (instant (until_byte SLASH s))
   where
     go : (o : Option ℕ)
-        → option o (Wrong UNDATED) (λ a. option (option (after SLASH (capitals s)) none (end_from a)) (Wrong UNDATED) λ e. cond (ltb a e) (Span a e) (Wrong MALFORMED))
-        ≡ option o (Wrong UNDATED) (λ a. option (option (after SLASH s) none (end_from a)) (Wrong UNDATED) λ e. cond (ltb a e) (Span a e) (Wrong MALFORMED))
-    go none = refl
-    go (some a) = ap (λ (o : Option ℕ). option o (Wrong UNDATED) λ e. cond (ltb a e) (Span a e) (Wrong MALFORMED)) (behind_unseen none (end_from a) (end_unseen a) s)
+        → option o (Wrong UNDATED) (λ a. option (option (after SLASH (capitals s)) None (end_from a)) (Wrong UNDATED) λ e. cond (ltb a e) (Span a e) (Wrong MALFORMED))
+        ≡ option o (Wrong UNDATED) (λ a. option (option (after SLASH s) None (end_from a)) (Wrong UNDATED) λ e. cond (ltb a e) (Span a e) (Wrong MALFORMED))
+    go None = refl
+    go (Some a) = ap (λ (o : Option ℕ). option o (Wrong UNDATED) λ e. cond (ltb a e) (Span a e) (Wrong MALFORMED)) (behind_unseen None (end_from a) (end_unseen a) s)

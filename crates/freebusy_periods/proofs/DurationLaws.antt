@@ -2,7 +2,8 @@
 use Prim.Native.Nat.{ℕ, ◌+◌, ◌*◌, ◌-◌, ◌≤◌}
 use mathlib.Core.Bool.{Bool, true, false, cond, not, or-true}
 use mathlib.Core.List.{List, [], ◌∷◌}
-use mathlib.Core.Option.{Option, none, some, none-ne-some}
+use Rattle.std.specs.Prelude.{Option, None, Some}
+use Rattle.std.proofs.lemmas.Option.{none-some}
 use mathlib.Core.Path.{◌≡◌, refl, sym, ap, ◌∙◌}
 use native.Mathlib.Omega.{arith}
 use lib.Dec.{eqb, leb}
@@ -32,16 +33,16 @@ once : (s : List ℕ) (a : Amount) → capped (then_maybe nothing_more a.count (
 once s a = let e : a.count ≡ a.count * 1 = omega arith in ap (λ (n : ℕ). capped (then_maybe nothing_more n (left s a))) e
 
 module _ (s : List ℕ) (a : Amount) (e : count_of a s ≡ capped_count (counted s)) where
-  pub second_none : not a.found ≡ true → none ≡ capped (dur_second s)
+  pub second_none : not a.found ≡ true → None ≡ capped (dur_second s)
   unfolding dur_second capped
   second_none h = ap capped (sym (amount_none LETTER_S 1 nothing_more s (told_none s a e h)))
 
-  pub minute_none : not a.found ≡ true → none ≡ capped (dur_minute s)
+  pub minute_none : not a.found ≡ true → None ≡ capped (dur_minute s)
   unfolding dur_minute capped
   minute_none h = ap capped (sym (amount_none LETTER_M 60 dur_second s (told_none s a e h)))
 
   module _ (f : not a.found ≡ false) where
-    pub second_other : (a.unit ≡ LETTER_S → ⊥) → none ≡ capped (dur_second s)
+    pub second_other : (a.unit ≡ LETTER_S → ⊥) → None ≡ capped (dur_second s)
     unfolding dur_second capped
     second_other n = let t = told_some s a e f in ap capped (sym (amount_other LETTER_S 1 nothing_more s t.0 t.1.is (λ p. n (t.1.letter ∙ p))))
 
@@ -50,7 +51,7 @@ module _ (s : List ℕ) (a : Amount) (e : count_of a s ≡ capped_count (counted
     second_here u q =
         let t = told_some s a e f in q ∙ once s a ∙ amount_here LETTER_S 1 nothing_more s a t.0 t.1 u (omega arith)
 
-    pub minute_other : (a.unit ≡ LETTER_M → ⊥) → none ≡ capped (dur_minute s)
+    pub minute_other : (a.unit ≡ LETTER_M → ⊥) → None ≡ capped (dur_minute s)
     unfolding dur_minute capped
     minute_other n = let t = told_some s a e f in ap capped (sym (amount_other LETTER_M 60 dur_second s t.0 t.1.is (λ p. n (t.1.letter ∙ p))))
 
@@ -60,11 +61,11 @@ module _ (s : List ℕ) (a : Amount) (e : count_of a s ≡ capped_count (counted
 
 -- ---- dur-hour / dur-minute / dur-second
 
-after_t_none : (s : List ℕ) → counted s ≡ none → after_t s ≡ none
+after_t_none : (s : List ℕ) → counted s ≡ None → after_t s ≡ None
 unfolding after_t dur_hour dur_minute dur_second
 after_t_none s e = rw (amount_none LETTER_H 3600 dur_minute s e, amount_none LETTER_M 60 dur_second s e, amount_none LETTER_S 1 nothing_more s e)
 
-module _ (s : List ℕ) (k : Counted) (e : counted s ≡ some k) where
+module _ (s : List ℕ) (k : Counted) (e : counted s ≡ Some k) where
   after_t_hour : k.unit ≡ LETTER_H → after_t s ≡ amount LETTER_H 3600 dur_minute s
   unfolding after_t dur_hour dur_minute dur_second
   after_t_hour u =
@@ -82,13 +83,13 @@ module _ (s : List ℕ) (k : Counted) (e : counted s ≡ some k) where
   after_t_second u =
       rw (amount_other LETTER_H 3600 dur_minute s k e (λ p. omega (arith, u, p)), amount_other LETTER_M 60 dur_second s k e (λ p. omega (arith, u, p)))
 
-  after_t_other : (k.unit ≡ LETTER_H → ⊥) → (k.unit ≡ LETTER_M → ⊥) → (k.unit ≡ LETTER_S → ⊥) → after_t s ≡ none
+  after_t_other : (k.unit ≡ LETTER_H → ⊥) → (k.unit ≡ LETTER_M → ⊥) → (k.unit ≡ LETTER_S → ⊥) → after_t s ≡ None
   unfolding after_t dur_hour dur_minute dur_second
   after_t_other h m n =
       rw (amount_other LETTER_H 3600 dur_minute s k e h, amount_other LETTER_M 60 dur_second s k e m, amount_other LETTER_S 1 nothing_more s k e n)
 
 module _ (s : List ℕ) (a : Amount) (e : count_of a s ≡ capped_count (counted s)) where
-  pub time_none : not a.found ≡ true → none ≡ capped (after_t s)
+  pub time_none : not a.found ≡ true → None ≡ capped (after_t s)
   unfolding capped
   time_none h = ap capped (sym (after_t_none s (told_none s a e h)))
 
@@ -108,7 +109,7 @@ module _ (s : List ℕ) (a : Amount) (e : count_of a s ≡ capped_count (counted
         let t = told_some s a e f in
         q ∙ once s a ∙ amount_here LETTER_S 1 nothing_more s a t.0 t.1 u (omega arith) ∙ ap capped (sym (after_t_second s t.0 t.1.is (sym t.1.letter ∙ u)))
 
-    pub time_other : (a.unit ≡ LETTER_H → ⊥) → (a.unit ≡ LETTER_M → ⊥) → (a.unit ≡ LETTER_S → ⊥) → none ≡ capped (after_t s)
+    pub time_other : (a.unit ≡ LETTER_H → ⊥) → (a.unit ≡ LETTER_M → ⊥) → (a.unit ≡ LETTER_S → ⊥) → None ≡ capped (after_t s)
     unfolding capped
     time_other h m n =
         let t = told_some s a e f in
@@ -117,20 +118,20 @@ module _ (s : List ℕ) (a : Amount) (e : count_of a s ≡ capped_count (counted
 -- ---- a letter, and what follows it
 
 module _ (c : ℕ) (f : List ℕ → Option ℕ) (s : List ℕ) where
-  letter_none : length s ≡ 0 → none ≡ capped (letter_then c f s)
+  letter_none : length s ≡ 0 → None ≡ capped (letter_then c f s)
   unfolding letter_then capped
   letter_none h = go s h
     where
-      go : (s : List ℕ) → length s ≡ 0 → none ≡ capped (letter_then c f s)
+      go : (s : List ℕ) → length s ≡ 0 → None ≡ capped (letter_then c f s)
       go [] h = refl
       go (x ∷ s) h = absurd (omega arith)
 
   module _ {r : Bool} (n : length s ≡ 0 → ⊥) (q : r ≡ is_letter c (get_or s 0 0)) where
-    letter_other : not r ≡ true → none ≡ capped (letter_then c f s)
+    letter_other : not r ≡ true → None ≡ capped (letter_then c f s)
     unfolding letter_then capped
     letter_other h = go s (sym q ∙ not-true r h)
       where
-        go : (s : List ℕ) → is_letter c (get_or s 0 0) ≡ false → none ≡ capped (letter_then c f s)
+        go : (s : List ℕ) → is_letter c (get_or s 0 0) ≡ false → None ≡ capped (letter_then c f s)
         go [] e = refl
         go (x ∷ s) e = rw e
 
@@ -153,20 +154,20 @@ unsigned_is [] = refl
 unsigned_is (x ∷ s) = refl
 
 module _ (s : List ℕ) where
-  pub no_time_lem : length s ≡ 0 → none ≡ capped (dur_time s)
+  pub no_time_lem : length s ≡ 0 → None ≡ capped (dur_time s)
   no_time_lem h = letter_none LETTER_T after_t s h ∙ ap capped (time_is s)
 
-  pub no_unsigned : length s ≡ 0 → none ≡ capped (dur_unsigned s)
+  pub no_unsigned : length s ≡ 0 → None ≡ capped (dur_unsigned s)
   no_unsigned h = letter_none LETTER_P after_p s h ∙ ap capped (unsigned_is s)
 
   module _ {r : Bool} (n : length s ≡ 0 → ⊥) where
-    pub not_t : r ≡ is_letter LETTER_T (get_or s 0 0) → not r ≡ true → none ≡ capped (dur_time s)
+    pub not_t : r ≡ is_letter LETTER_T (get_or s 0 0) → not r ≡ true → None ≡ capped (dur_time s)
     not_t q h = letter_other LETTER_T after_t s n q h ∙ ap capped (time_is s)
 
     pub with_t : {o : Option ℕ} → r ≡ is_letter LETTER_T (get_or s 0 0) → not r ≡ false → o ≡ capped (after_t (take (length s - 1) (drop 1 s))) → o ≡ capped (dur_time s)
     with_t q h e = letter_here LETTER_T after_t s n q h e ∙ ap capped (time_is s)
 
-    pub not_p : r ≡ is_letter LETTER_P (get_or s 0 0) → not r ≡ true → none ≡ capped (dur_unsigned s)
+    pub not_p : r ≡ is_letter LETTER_P (get_or s 0 0) → not r ≡ true → None ≡ capped (dur_unsigned s)
     not_p q h = letter_other LETTER_P after_p s n q h ∙ ap capped (unsigned_is s)
 
     pub with_p : {o : Option ℕ} → r ≡ is_letter LETTER_P (get_or s 0 0) → not r ≡ false → o ≡ capped (after_p (take (length s - 1) (drop 1 s))) → o ≡ capped (dur_unsigned s)
@@ -175,23 +176,23 @@ module _ (s : List ℕ) where
 -- ---- dur-date / dur-time / dur-week
 
 -- where digits come first there is no dur-time
-counted_time : (s : List ℕ) (k : Counted) → counted s ≡ some k → dur_time s ≡ none
+counted_time : (s : List ℕ) (k : Counted) → counted s ≡ Some k → dur_time s ≡ None
 unfolding dur_time counted_from
 counted_time [] k e = refl
 counted_time (x ∷ s) k e = go (is_digit x) refl e
   where
-    go : (b : Bool) → is_digit x ≡ b → cond b (counted_from true (0 * 10 + (x - 48)) s) none ≡ some k → dur_time (x ∷ s) ≡ none
+    go : (b : Bool) → is_digit x ≡ b → cond b (counted_from true (0 * 10 + (x - 48)) s) None ≡ Some k → dur_time (x ∷ s) ≡ None
     go true p q = rw (ne_eqb (capital x) LETTER_T (λ h. omega (arith, digit_small x p, digit_kept x p, h)))
       where
         digit_small : (x : ℕ) → is_digit x ≡ true → x ≤ 57
         digit_small x p = leb-true x 57 (and_right (leb 48 x) (leb x 57) p)
-    go false p q = absurd (none-ne-some _ q)
+    go false p q = absurd (none-some _ q)
 
-after_p_none : (s : List ℕ) → counted s ≡ none → after_p s ≡ dur_time s
+after_p_none : (s : List ℕ) → counted s ≡ None → after_p s ≡ dur_time s
 unfolding after_p dur_date dur_week
 after_p_none s e = rw (amount_none LETTER_D 86400 dur_time s e, amount_none LETTER_W 604800 nothing_more s e) (or_none_lem (dur_time s))
 
-module _ (s : List ℕ) (k : Counted) (e : counted s ≡ some k) where
+module _ (s : List ℕ) (k : Counted) (e : counted s ≡ Some k) where
   after_p_date : k.unit ≡ LETTER_D → after_p s ≡ amount LETTER_D 86400 dur_time s
   unfolding after_p dur_date dur_week
   after_p_date u =
@@ -201,7 +202,7 @@ module _ (s : List ℕ) (k : Counted) (e : counted s ≡ some k) where
   unfolding after_p dur_date dur_week
   after_p_week u = rw (amount_other LETTER_D 86400 dur_time s k e (λ p. omega (arith, u, p)), counted_time s k e)
 
-  after_p_other : (k.unit ≡ LETTER_D → ⊥) → (k.unit ≡ LETTER_W → ⊥) → after_p s ≡ none
+  after_p_other : (k.unit ≡ LETTER_D → ⊥) → (k.unit ≡ LETTER_W → ⊥) → after_p s ≡ None
   unfolding after_p dur_date dur_week
   after_p_other d w = rw (amount_other LETTER_D 86400 dur_time s k e d, counted_time s k e, amount_other LETTER_W 604800 nothing_more s k e w)
 
@@ -220,18 +221,18 @@ module _ (s : List ℕ) (a : Amount) (e : count_of a s ≡ capped_count (counted
         let t = told_some s a e f in
         q ∙ amount_here LETTER_W 604800 nothing_more s a t.0 t.1 u (omega arith) ∙ ap capped (sym (after_p_week s t.0 t.1.is (sym t.1.letter ∙ u)))
 
-    pub date_other : (a.unit ≡ LETTER_D → ⊥) → (a.unit ≡ LETTER_W → ⊥) → none ≡ capped (after_p s)
+    pub date_other : (a.unit ≡ LETTER_D → ⊥) → (a.unit ≡ LETTER_W → ⊥) → None ≡ capped (after_p s)
     unfolding capped
     date_other d w =
         let t = told_some s a e f in ap capped (sym (after_p_other s t.0 t.1.is (λ p. d (t.1.letter ∙ p)) (λ p. w (t.1.letter ∙ p))))
 
 -- ---- the sign
 
-pub value_none : (s : List ℕ) → length s ≡ 0 → none ≡ capped (dur_value s)
+pub value_none : (s : List ℕ) → length s ≡ 0 → None ≡ capped (dur_value s)
 unfolding dur_value capped
 value_none s h = go s h
   where
-    go : (s : List ℕ) → length s ≡ 0 → none ≡ capped (dur_value s)
+    go : (s : List ℕ) → length s ≡ 0 → None ≡ capped (dur_value s)
     go [] h = refl
     go (x ∷ s) h = absurd (omega arith)
 

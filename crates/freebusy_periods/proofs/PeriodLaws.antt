@@ -3,7 +3,8 @@ use Prim.Native.Nat.{ℕ, ◌+◌, ◌*◌, ◌-◌, ◌≤◌, ◌<◌}
 use mathlib.Core.Bool.{Bool, true, false, cond, not}
 use mathlib.Core.List.{List, [], ◌∷◌}
 use mathlib.Core.Logic.{inl, inr}
-use mathlib.Core.Option.{Option, none, some, none-ne-some, some-injective}
+use Rattle.std.specs.Prelude.{Option, None, Some}
+use Rattle.std.proofs.lemmas.Option.{none-some, same_Some}
 use mathlib.Core.Path.{◌≡◌, refl, sym, ap, ap₂, ◌∙◌}
 use native.Mathlib.Omega.{arith}
 use lib.Dec.{ltb, leb, eqb}
@@ -31,7 +32,7 @@ use Rattle.freebusy_periods.proofs.CapLaws.{Alike, alike_cut}
 
 -- ---- moving an instant
 
-far : (a n : ℕ) (back : Bool) → a ≤ 4000000000000 → 4000000001 ≤ n → moved a back n ≡ none
+far : (a n : ℕ) (back : Bool) → a ≤ 4000000000000 → 4000000001 ≤ n → moved a back n ≡ None
 unfolding moved
 far a n true h k = rw (lt-leb (n * 1000) a (omega arith))
 far a n false h k = rw (lt-leb (a + n * 1000) 4000000000000 (omega arith))
@@ -49,21 +50,21 @@ module _ (a k n : ℕ) (b : Bool) (h : a ≤ 4000000000000) (p : k ≡ at_most n
   cut_is : moved a b k ≡ moved a b n
   cut_is = ap (moved a b) p ∙ moved_cut a n b h
 
-  pub back_out : b ≡ true → a < k * 1000 → none ≡ moved a b n
+  pub back_out : b ≡ true → a < k * 1000 → None ≡ moved a b n
   unfolding moved
-  back_out e l = let z : moved a b k ≡ none = rw (e, lt-leb (k * 1000) a l) in sym z ∙ cut_is
+  back_out e l = let z : moved a b k ≡ None = rw (e, lt-leb (k * 1000) a l) in sym z ∙ cut_is
 
-  pub back_in : b ≡ true → k * 1000 ≤ a → some (a - k * 1000) ≡ moved a b n
+  pub back_in : b ≡ true → k * 1000 ≤ a → Some (a - k * 1000) ≡ moved a b n
   unfolding moved
-  back_in e l = let z : moved a b k ≡ some (a - k * 1000) = rw (e, le-leb (k * 1000) a l) in sym z ∙ cut_is
+  back_in e l = let z : moved a b k ≡ Some (a - k * 1000) = rw (e, le-leb (k * 1000) a l) in sym z ∙ cut_is
 
-  pub on_out : b ≡ false → 4000000000000 < a + k * 1000 → none ≡ moved a b n
+  pub on_out : b ≡ false → 4000000000000 < a + k * 1000 → None ≡ moved a b n
   unfolding moved
-  on_out e l = let z : moved a b k ≡ none = rw (e, lt-leb (a + k * 1000) 4000000000000 l) in sym z ∙ cut_is
+  on_out e l = let z : moved a b k ≡ None = rw (e, lt-leb (a + k * 1000) 4000000000000 l) in sym z ∙ cut_is
 
-  pub on_in : b ≡ false → a + k * 1000 ≤ 4000000000000 → some (a + k * 1000) ≡ moved a b n
+  pub on_in : b ≡ false → a + k * 1000 ≤ 4000000000000 → Some (a + k * 1000) ≡ moved a b n
   unfolding moved
-  on_in e l = let z : moved a b k ≡ some (a + k * 1000) = rw (e, le-leb (a + k * 1000) 4000000000000 l) in sym z ∙ cut_is
+  on_in e l = let z : moved a b k ≡ Some (a + k * 1000) = rw (e, le-leb (a + k * 1000) 4000000000000 l) in sym z ∙ cut_is
 
 pub ruleset moves = (rules, back_out, back_in, on_out, on_in)
 
@@ -88,21 +89,21 @@ pub ruleset backs = (rules, back_empty, back_is)
 
 -- ---- what stands after the slash, where m is what the code read of a duration
 
-no_duration : (e : List ℕ) (m : Seconds) → seconds_of m ≡ capped (dur_value e) → m ≡ Not → dur_value e ≡ none
+no_duration : (e : List ℕ) (m : Seconds) → seconds_of m ≡ capped (dur_value e) → m ≡ Not → dur_value e ≡ None
 unfolding capped
 no_duration e m q z = go (dur_value e) (sym (ap seconds_of z) ∙ q)
   where
-    go : (o : Option ℕ) → none ≡ capped o → o ≡ none
-    go none q = refl
-    go (some n) q = absurd (none-ne-some _ q)
+    go : (o : Option ℕ) → None ≡ capped o → o ≡ None
+    go None q = refl
+    go (Some n) q = absurd (none-some _ q)
 
-a_duration : (e : List ℕ) (m : Seconds) (n : ℕ) → seconds_of m ≡ capped (dur_value e) → m ≡ Is n → (k : ℕ) × ((dur_value e ≡ some k) × (n ≡ at_most k))
+a_duration : (e : List ℕ) (m : Seconds) (n : ℕ) → seconds_of m ≡ capped (dur_value e) → m ≡ Is n → (k : ℕ) × ((dur_value e ≡ Some k) × (n ≡ at_most k))
 unfolding capped
 a_duration e m n q z = go (dur_value e) refl (sym (ap seconds_of z) ∙ q)
   where
-    go : (o : Option ℕ) → dur_value e ≡ o → some n ≡ capped o → (k : ℕ) × ((dur_value e ≡ some k) × (n ≡ at_most k))
-    go none p q = absurd (none-ne-some _ (sym q))
-    go (some k) p q = (k, (p, some-injective n (at_most k) q))
+    go : (o : Option ℕ) → dur_value e ≡ o → Some n ≡ capped o → (k : ℕ) × ((dur_value e ≡ Some k) × (n ≡ at_most k))
+    go None p q = absurd (none-some _ (sym q))
+    go (Some k) p q = (k, (p, same_Some n (at_most k) q))
 
 module _ (e : List ℕ) {r : Bool} (p : r ≡ date_time e) where
   pub ends_date : r ≡ true → true ≡ ends_period e
@@ -121,7 +122,7 @@ module _ (e : List ℕ) {r : Bool} (p : r ≡ date_time e) where
   unfolding end_from
   end_date a t q = let d : date_time e ≡ true = sym p ∙ t in rw d q
 
-  pub end_none : (a : ℕ) {m : Seconds} → r ≡ false → seconds_of m ≡ capped (dur_value e) → m ≡ Not → none ≡ end_from a e
+  pub end_none : (a : ℕ) {m : Seconds} → r ≡ false → seconds_of m ≡ capped (dur_value e) → m ≡ Not → None ≡ end_from a e
   unfolding end_from
   end_none a {m} t q z = let d : date_time e ≡ false = sym p ∙ t in rw (d, no_duration e m q z)
 
@@ -172,10 +173,10 @@ module _ (s : List ℕ) {f : List ℕ} (e : f ≡ until_byte SLASH s) where
 
   pub window_early : {i : Instant} → told i ≡ instant f → i ≡ Outside → Wrong UNDATED ≡ window_of s
   unfolding window_of
-  window_early q z = let h : instant (until_byte SLASH s) ≡ none = sym (sym (ap told z) ∙ q ∙ ap instant e) in rw h
+  window_early q z = let h : instant (until_byte SLASH s) ≡ None = sym (sym (ap told z) ∙ q ∙ ap instant e) in rw h
 
   module _ {i : Instant} {a : ℕ} (q : told i ≡ instant f) (z : i ≡ At a) where
-    started : instant (until_byte SLASH s) ≡ some a
+    started : instant (until_byte SLASH s) ≡ Some a
     started = sym (sym (ap told z) ∙ q ∙ ap instant e)
 
     pub window_alone : length s ≤ length f → Wrong UNDATED ≡ window_of s
@@ -201,27 +202,27 @@ pub ruleset windows = (rules, start_most, window_early, window_alone, window_lat
 
 -- ---- a window lies in the range of instants, and ends after its start
 
-moved_most : (a n : ℕ) (b : Bool) (t : ℕ) → a ≤ 4000000000000 → moved a b n ≡ some t → t ≤ 4000000000000
+moved_most : (a n : ℕ) (b : Bool) (t : ℕ) → a ≤ 4000000000000 → moved a b n ≡ Some t → t ≤ 4000000000000
 unfolding moved
 moved_most a n true t h q = go (leb (n * 1000) a) q
   where
-    go : (c : Bool) → some_if c (a - n * 1000) ≡ some t → t ≤ 4000000000000
-    go true q = let z = some-injective _ _ q in omega arith
-    go false q = absurd (none-ne-some _ q)
+    go : (c : Bool) → some_if c (a - n * 1000) ≡ Some t → t ≤ 4000000000000
+    go true q = let z = same_Some _ _ q in omega arith
+    go false q = absurd (none-some _ q)
 moved_most a n false t h q = go (leb (a + n * 1000) last_instant) refl q
   where
-    go : (c : Bool) → leb (a + n * 1000) last_instant ≡ c → some_if c (a + n * 1000) ≡ some t → t ≤ 4000000000000
-    go true k q = let z = some-injective _ _ q in omega (arith, leb-true (a + n * 1000) last_instant k)
-    go false k q = absurd (none-ne-some _ q)
+    go : (c : Bool) → leb (a + n * 1000) last_instant ≡ c → some_if c (a + n * 1000) ≡ Some t → t ≤ 4000000000000
+    go true k q = let z = same_Some _ _ q in omega (arith, leb-true (a + n * 1000) last_instant k)
+    go false k q = absurd (none-some _ q)
 
-end_most : (a : ℕ) (e : List ℕ) (t : ℕ) → a ≤ 4000000000000 → end_from a e ≡ some t → t ≤ 4000000000000
+end_most : (a : ℕ) (e : List ℕ) (t : ℕ) → a ≤ 4000000000000 → end_from a e ≡ Some t → t ≤ 4000000000000
 unfolding end_from
 end_most a e t h q = go (date_time e) (dur_value e) q
   where
-    go : (b : Bool) (o : Option ℕ) → cond b (instant e) (option o none (λ n. moved a (is_back e) n)) ≡ some t → t ≤ 4000000000000
+    go : (b : Bool) (o : Option ℕ) → cond b (instant e) (option o None (λ n. moved a (is_back e) n)) ≡ Some t → t ≤ 4000000000000
     go true o q = instant_most e t (sym q)
-    go false none q = absurd (none-ne-some _ q)
-    go false (some n) q = moved_most a n (is_back e) t h q
+    go false None q = absurd (none-some _ q)
+    go false (Some n) q = moved_most a n (is_back e) t h q
 
 pub window_in_range : (s : List ℕ) (a e : ℕ) → window_of s ≡ Span a e → (a < e) × (e ≤ 4000000000000)
 unfolding window_of
@@ -232,17 +233,17 @@ window_in_range s a e q = go (instant (until_byte SLASH s)) refl q
         let u : b ≡ a = cc in let v : t ≡ e = cc in let k = ltb-true b t p in (omega arith, omega arith)
     judged b t false l p q = let z : ◌≡◌ {A = ℕ} 0 1 = cc in absurd (omega arith)
 
-    ended : (b : ℕ) (o : Option ℕ) → ((t : ℕ) → o ≡ some t → t ≤ 4000000000000) → option o (Wrong UNDATED) (λ t. cond (ltb b t) (Span b t) (Wrong MALFORMED)) ≡ Span a e
+    ended : (b : ℕ) (o : Option ℕ) → ((t : ℕ) → o ≡ Some t → t ≤ 4000000000000) → option o (Wrong UNDATED) (λ t. cond (ltb b t) (Span b t) (Wrong MALFORMED)) ≡ Span a e
         → (a < e) × (e ≤ 4000000000000)
-    ended b none l q = let z : ◌≡◌ {A = ℕ} 0 1 = cc in absurd (omega arith)
-    ended b (some t) l q = judged b t (ltb b t) (l t refl) refl q
+    ended b None l q = let z : ◌≡◌ {A = ℕ} 0 1 = cc in absurd (omega arith)
+    ended b (Some t) l q = judged b t (ltb b t) (l t refl) refl q
 
-    close : (b : ℕ) (o : Option (List ℕ)) → b ≤ 4000000000000 → (t : ℕ) → option o none (end_from b) ≡ some t → t ≤ 4000000000000
-    close b none l t p = absurd (none-ne-some _ p)
-    close b (some x) l t p = end_most b x t l p
+    close : (b : ℕ) (o : Option (List ℕ)) → b ≤ 4000000000000 → (t : ℕ) → option o None (end_from b) ≡ Some t → t ≤ 4000000000000
+    close b None l t p = absurd (none-some _ p)
+    close b (Some x) l t p = end_most b x t l p
 
     go : (o : Option ℕ) → instant (until_byte SLASH s) ≡ o
-        → option o (Wrong UNDATED) (λ b. option (option (after SLASH s) none (end_from b)) (Wrong UNDATED) λ t. cond (ltb b t) (Span b t) (Wrong MALFORMED)) ≡ Span a e
+        → option o (Wrong UNDATED) (λ b. option (option (after SLASH s) None (end_from b)) (Wrong UNDATED) λ t. cond (ltb b t) (Span b t) (Wrong MALFORMED)) ≡ Span a e
         → (a < e) × (e ≤ 4000000000000)
-    go none p q = let z : ◌≡◌ {A = ℕ} 0 1 = cc in absurd (omega arith)
-    go (some b) p q = ended b (option (after SLASH s) none (end_from b)) (close b (after SLASH s) (instant_most (until_byte SLASH s) b (sym p))) q
+    go None p q = let z : ◌≡◌ {A = ℕ} 0 1 = cc in absurd (omega arith)
+    go (Some b) p q = ended b (option (after SLASH s) None (end_from b)) (close b (after SLASH s) (instant_most (until_byte SLASH s) b (sym p))) q

@@ -1,7 +1,7 @@
 -- A duration: RFC 5545, 3.3.6, one definition for each of its productions, under its name. Each reads all that is left of the period, and gives
 -- seconds, of any size; none where it is no such production. Assumes nothing.
 use Rattle.std.specs.Prelude.{ℕ, ◌+◌, ◌*◌, ◌-◌, Bool, true, false, cond, ◌||◌, List, [], ◌∷◌, eqb}
-use Rattle.std.proofs.Math.Option.{Option, none, some}
+use Rattle.std.specs.Prelude.{Option, None, Some}
 use Rattle.loops.specs.Lists.{option}
 use Rattle.loops.specs.Search.{or_else}
 use Rattle.text_fields.specs.Spelling.{is_digit}
@@ -19,23 +19,23 @@ counts n u r = record { count = n; unit = u; rest = r }
 
 -- read on from n, where `any` says whether there was a digit before
 unfoldable pub counted_from : Bool → ℕ → List ℕ → Option Counted
-counted_from any n [] = none
-counted_from any n (x ∷ xs) = cond (is_digit x) (counted_from true (n * 10 + (x - 48)) xs) (cond any (some (counts n (capital x) xs)) none)
+counted_from any n [] = None
+counted_from any n (x ∷ xs) = cond (is_digit x) (counted_from true (n * 10 + (x - 48)) xs) (cond any (Some (counts n (capital x) xs)) None)
 
 abbrev pub counted : List ℕ → Option Counted
 counted s = counted_from false 0 s
 
 -- after n seconds nothing follows, or what `next` reads
 unfoldable pub then_maybe : (List ℕ → Option ℕ) → ℕ → List ℕ → Option ℕ
-then_maybe next n [] = some n
-then_maybe next n (x ∷ xs) = option (next (x ∷ xs)) none (λ m. some (n + m))
+then_maybe next n [] = Some n
+then_maybe next n (x ∷ xs) = option (next (x ∷ xs)) None (λ m. Some (n + m))
 
 -- 1*DIGIT and the letter c, which stands for so many seconds, and then maybe what `next` reads
 abbrev pub amount : ℕ → ℕ → (List ℕ → Option ℕ) → List ℕ → Option ℕ
-amount c seconds next s = option (counted s) none (λ k. cond (eqb k.unit c) (then_maybe next (k.count * seconds) k.rest) none)
+amount c seconds next s = option (counted s) None (λ k. cond (eqb k.unit c) (then_maybe next (k.count * seconds) k.rest) None)
 
 abbrev pub nothing_more : List ℕ → Option ℕ
-nothing_more s = none
+nothing_more s = None
 
 -- dur-second = 1*DIGIT "S"
 unfoldable pub dur_second : List ℕ → Option ℕ
@@ -51,8 +51,8 @@ dur_hour s = amount LETTER_H 3_600 dur_minute s
 
 -- dur-time = "T" (dur-hour / dur-minute / dur-second)
 unfoldable pub dur_time : List ℕ → Option ℕ
-dur_time [] = none
-dur_time (x ∷ xs) = cond (is_letter LETTER_T x) (or_else (dur_hour xs) (or_else (dur_minute xs) (dur_second xs))) none
+dur_time [] = None
+dur_time (x ∷ xs) = cond (is_letter LETTER_T x) (or_else (dur_hour xs) (or_else (dur_minute xs) (dur_second xs))) None
 
 -- dur-day = 1*DIGIT "D", and then maybe what `next` reads
 abbrev pub dur_day : (List ℕ → Option ℕ) → List ℕ → Option ℕ
@@ -68,15 +68,15 @@ dur_week s = amount LETTER_W 604_800 nothing_more s
 
 -- "P" (dur-date / dur-time / dur-week)
 unfoldable pub dur_unsigned : List ℕ → Option ℕ
-dur_unsigned [] = none
-dur_unsigned (x ∷ xs) = cond (is_letter LETTER_P x) (or_else (dur_date xs) (or_else (dur_time xs) (dur_week xs))) none
+dur_unsigned [] = None
+dur_unsigned (x ∷ xs) = cond (is_letter LETTER_P x) (or_else (dur_date xs) (or_else (dur_time xs) (dur_week xs))) None
 
 -- dur-value = (["+"] / "-") "P" (dur-date / dur-time / dur-week): its seconds, and whether it has the minus
 abbrev pub is_sign : ℕ → Bool
 is_sign x = eqb x PLUS || eqb x HYPHEN
 
 unfoldable pub dur_value : List ℕ → Option ℕ
-dur_value [] = none
+dur_value [] = None
 dur_value (x ∷ xs) = cond (is_sign x) (dur_unsigned xs) (dur_unsigned (x ∷ xs))
 
 abbrev pub is_back : List ℕ → Bool

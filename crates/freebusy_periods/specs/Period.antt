@@ -1,6 +1,6 @@
 -- A period: RFC 5545, 3.3.9, and the window that it stands for. Assumes nothing.
 use Rattle.std.specs.Prelude.{ℕ, ◌+◌, ◌*◌, ◌-◌, Bool, false, cond, ◌&&◌, ◌||◌, List, ltb, leb}
-use Rattle.std.proofs.Math.Option.{Option, none}
+use Rattle.std.specs.Prelude.{Option, None}
 use Rattle.loops.specs.Lists.{option, is_some}
 use Rattle.loops.specs.Search.{some_if}
 use Rattle.text_fields.specs.Parts.{until_byte}
@@ -36,11 +36,11 @@ moved a back n = cond back (some_if (leb (n * 1000) a) (a - n * 1000)) (some_if 
 
 -- the end of a period that starts at a
 unfoldable pub end_from : ℕ → List ℕ → Option ℕ
-end_from a e = cond (date_time e) (instant e) (option (dur_value e) none (λ n. moved a (is_back e) n))
+end_from a e = cond (date_time e) (instant e) (option (dur_value e) None (λ n. moved a (is_back e) n))
 
 -- 12 for its start or its end, then 11 for an end not after its start
 unfoldable pub window_of : List ℕ → Window
 window_of s =
     option (instant (before s)) (Wrong UNDATED) λ a.
-    option (option (after SLASH s) none (end_from a)) (Wrong UNDATED) λ e.
+    option (option (after SLASH s) None (end_from a)) (Wrong UNDATED) λ e.
     cond (ltb a e) (Span a e) (Wrong MALFORMED)

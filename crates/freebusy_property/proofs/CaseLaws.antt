@@ -4,7 +4,7 @@ use Prim.Native.Nat.{ℕ, ◌+◌, ◌<◌}
 use mathlib.Core.Bool.{Bool, true, false, cond, not, ◌&&◌, ◌||◌}
 use mathlib.Core.List.{List, [], ◌∷◌, map}
 use mathlib.Core.Option
-use mathlib.Core.Option.{Option, none, some}
+use Rattle.std.specs.Prelude.{Option, None, Some}
 use mathlib.Core.Path.{◌≡◌, refl, sym, ap, ap₂, ◌∙◌}
 use native.Mathlib.Omega.{arith}
 use lib.Dec.{eqb, ltb}
@@ -66,7 +66,7 @@ module _ (b : ℕ) (h : b < 65) where
   after_in_capitals q (x ∷ s) =
       rw (byte_unseen b h x, byte_unseen 34 (omega arith) x, after_in_capitals (quoted_after q x) s) (go (parting q b x) (after_in (quoted_after q x) b s))
     where
-      go : (t : Bool) (o : Option (List ℕ)) → cond t (some (capitals s)) (Option.map capitals o) ≡ Option.map capitals (cond t (some s) o)
+      go : (t : Bool) (o : Option (List ℕ)) → cond t (Some (capitals s)) (Option.map capitals o) ≡ Option.map capitals (cond t (Some s) o)
       go true o = refl
       go false o = refl
 
@@ -89,8 +89,8 @@ module _ (t : List ℕ → Bool) (h : (p : List ℕ) → t (capitals p) ≡ t p)
   count_unseen (p ∷ ps) = ap₂ ◌+◌ (ap (λ b. cond b 1 0) (h p)) (count_unseen ps)
 
   option_unseen : (o : Option (List ℕ)) → option (Option.map capitals o) false t ≡ option o false t
-  option_unseen none = refl
-  option_unseen (some v) = h v
+  option_unseen None = refl
+  option_unseen (Some v) = h v
 
 -- ---- parameters
 
@@ -140,8 +140,8 @@ unfolding params_in
 params_capitals h = ap (λ o. option o [] (unquoted_parts 59)) (after_in_capitals 59 (omega arith) false h) ∙ go (after_unquoted 59 h)
   where
     go : (o : Option (List ℕ)) → option (Option.map capitals o) [] (unquoted_parts 59) ≡ map capitals (option o [] (unquoted_parts 59))
-    go none = refl
-    go (some v) = parts_in_capitals 59 (omega arith) false v
+    go None = refl
+    go (Some v) = parts_in_capitals 59 (omega arith) false v
 
 named_unseen : (h : List ℕ) → named (capitals h) ≡ named h
 unfolding named
@@ -174,8 +174,8 @@ unfolding value_of
 value_capitals l = ap (λ o. option o [] (λ v. v)) (after_in_capitals 58 (omega arith) false l) ∙ go (after_unquoted 58 l)
   where
     go : (o : Option (List ℕ)) → option (Option.map capitals o) [] (λ v. v) ≡ capitals (option o [] (λ v. v))
-    go none = refl
-    go (some v) = refl
+    go None = refl
+    go (Some v) = refl
 
 pub periods_capitals : (l : List ℕ) → periods_of (capitals l) ≡ map capitals (periods_of l)
 unfolding periods_of

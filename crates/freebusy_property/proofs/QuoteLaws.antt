@@ -2,7 +2,7 @@
 use Prim.Native.Nat.{ℕ, suc, ◌+◌, ◌-◌, ◌≤◌, ◌<◌}
 use mathlib.Core.Bool.{Bool, true, false, cond, not}
 use mathlib.Core.List.{List, [], ◌∷◌, ◌++◌, append-nil, append_assoc}
-use mathlib.Core.Option.{none, some}
+use Rattle.std.specs.Prelude.{None, Some}
 use mathlib.Core.Path.{◌≡◌, refl, sym, ◌∙◌}
 use native.Mathlib.Omega.{arith}
 use native.Mathlib.Numerals.{add-one}
@@ -108,26 +108,26 @@ more_parts q b (x ∷ xs) k h = go (parting q b x) refl h (more_parts (quoted_af
         let n = length (until_in (quoted_after q x) b xs) in
         rw (m (omega arith), add-one n, add-one (suc n))
 
-none_left : (q : Bool) (b : ℕ) (xs : List ℕ) → length (until_in q b xs) ≡ length xs → after_in q b xs ≡ none
+none_left : (q : Bool) (b : ℕ) (xs : List ℕ) → length (until_in q b xs) ≡ length xs → after_in q b xs ≡ None
 unfolding until_in after_in
 none_left q b [] h = refl
 none_left q b (x ∷ xs) h = go (parting q b x) h (none_left (quoted_after q x) b xs)
   where
     go : (t : Bool) → length (cond t [] (x ∷ until_in (quoted_after q x) b xs)) ≡ suc (length xs)
-        → (length (until_in (quoted_after q x) b xs) ≡ length xs → after_in (quoted_after q x) b xs ≡ none)
-        → cond t (some xs) (after_in (quoted_after q x) b xs) ≡ none
+        → (length (until_in (quoted_after q x) b xs) ≡ length xs → after_in (quoted_after q x) b xs ≡ None)
+        → cond t (Some xs) (after_in (quoted_after q x) b xs) ≡ None
     go true e k = absurd (omega arith)
     go false e k = k (omega arith)
 
-some_left : (q : Bool) (b : ℕ) (xs : List ℕ) → length (until_in q b xs) < length xs → after_in q b xs ≡ some (drop (length (until_in q b xs) + 1) xs)
+some_left : (q : Bool) (b : ℕ) (xs : List ℕ) → length (until_in q b xs) < length xs → after_in q b xs ≡ Some (drop (length (until_in q b xs) + 1) xs)
 unfolding until_in after_in
 some_left q b [] h = absurd (omega arith)
 some_left q b (x ∷ xs) h = go (parting q b x) h (some_left (quoted_after q x) b xs)
   where
     go : (t : Bool) → length (cond t [] (x ∷ until_in (quoted_after q x) b xs)) < suc (length xs)
         → (length (until_in (quoted_after q x) b xs) < length xs
-        → after_in (quoted_after q x) b xs ≡ some (drop (length (until_in (quoted_after q x) b xs) + 1) xs))
-        → cond t (some xs) (after_in (quoted_after q x) b xs) ≡ some (drop (length (cond t [] (x ∷ until_in (quoted_after q x) b xs)) + 1) (x ∷ xs))
+        → after_in (quoted_after q x) b xs ≡ Some (drop (length (until_in (quoted_after q x) b xs) + 1) xs))
+        → cond t (Some xs) (after_in (quoted_after q x) b xs) ≡ Some (drop (length (cond t [] (x ∷ until_in (quoted_after q x) b xs)) + 1) (x ∷ xs))
     go true e k = refl
     go false e k =
         let n = length (until_in (quoted_after q x) b xs) in
@@ -145,8 +145,8 @@ module _ (b : ℕ) (s : List ℕ) {p : List ℕ} (e : p ≡ until_unquoted b s) 
   pub unquoted_more : eqb b 34 ≡ false → length p < length s → unquoted_parts b s ≡ p ∷ unquoted_parts b (take (length s - (length p + 1)) (drop (length p + 1) s))
   unquoted_more k h = rw (rest_is (length p + 1) s, e) (more_parts false b s k (rw e at h))
 
-  pub unquoted_none : length s ≤ length p → after_unquoted b s ≡ none
+  pub unquoted_none : length s ≤ length p → after_unquoted b s ≡ None
   unquoted_none h = none_left false b s (omega (arith, short false b s, rw e at h))
 
-  pub unquoted_some : length p < length s → after_unquoted b s ≡ some (take (length s - (length p + 1)) (drop (length p + 1) s))
+  pub unquoted_some : length p < length s → after_unquoted b s ≡ Some (take (length s - (length p + 1)) (drop (length p + 1) s))
   unquoted_some h = rw (rest_is (length p + 1) s, e) (some_left false b s (rw e at h))

@@ -1,6 +1,6 @@
 -- The parts of a line that quotes keep together: a byte within quotes parts nothing. Assumes nothing.
 use Rattle.std.specs.Prelude.{ℕ, Bool, true, false, cond, ◌&&◌, not, List, [], ◌∷◌, eqb}
-use Rattle.std.proofs.Math.Option.{Option, none, some}
+use Rattle.std.specs.Prelude.{Option, None, Some}
 use Rattle.text_fields.specs.Parts.{on_first}
 use Rattle.freebusy_lines.specs.Bytes.{QUOTE}
 
@@ -28,8 +28,8 @@ until_in quoted b [] = []
 until_in quoted b (x ∷ xs) = cond (parting quoted b x) [] (x ∷ until_in (quoted_after quoted x) b xs)
 
 unfoldable pub after_in : Bool → ℕ → List ℕ → Option (List ℕ)
-after_in quoted b [] = none
-after_in quoted b (x ∷ xs) = cond (parting quoted b x) (some xs) (after_in (quoted_after quoted x) b xs)
+after_in quoted b [] = None
+after_in quoted b (x ∷ xs) = cond (parting quoted b x) (Some xs) (after_in (quoted_after quoted x) b xs)
 
 -- ---- of a line, which begins outside quotes
 

@@ -2,7 +2,7 @@
 #![tactic(auto)]
 
 ghost use Rattle.std.specs.Prelude.{◌≡◌, ◌<◌, ◌≤◌};
-ghost use Rattle.std.proofs.Math.Option.{some};
+ghost use Rattle.std.specs.Prelude.{Some};
 ghost use Rattle.loops.specs.Search.{any_below};
 ghost use Rattle.rows.specs.Cells.{row_count, num};
 ghost use Rattle.sheet.specs.Places.{named};
@@ -18,7 +18,7 @@ use refusals::Verdict;
 
 // Row k is of kind 20 or 21.
 fn has_members(rows: &[i64], k: usize) -> bool
-    ensures { result ≡ has_members rows.now (some k) }
+    ensures { result ≡ has_members rows.now (Some k) }
 {
     let kind = rows::num_at(rows, k, 0);
     20 <= kind && kind <= 21

@@ -3,7 +3,7 @@ use Prim.Native.Nat.{ℕ, zero, suc}
 use mathlib.Core.Path.{◌≡◌, refl, ap, sym, ◌∙◌}
 use mathlib.Core.Bool.{Bool, true, false, cond, ◌&&◌, true≢false}
 use mathlib.Core.List.{List, [], append-nil}
-use mathlib.Core.Option.{Option, none, some}
+use Rattle.std.specs.Prelude.{Option, None, Some}
 use lib.Dec.{eqb}
 use lib.IntN.{ℤ, pos}
 use lib.Signed.{lt_z}
@@ -39,13 +39,13 @@ module _ {a b c : ℤ} (d : ℤ) (s : SFits w64 a) (t : SFits w64 b) (u : SFits 
 
 -- ---- a row of a test that came out
 
-pub some_yes : {r b : Bool} {k : ℕ} → r ≡ b → r ≡ true → some k ≡ some_if b k
+pub some_yes : {r b : Bool} {k : ℕ} → r ≡ b → r ≡ true → Some k ≡ some_if b k
 some_yes e q = rw (sym e ∙ q)
 
-pub some_no : {r b : Bool} (k : ℕ) → r ≡ b → r ≡ false → none ≡ some_if b k
+pub some_no : {r b : Bool} (k : ℕ) → r ≡ b → r ≡ false → None ≡ some_if b k
 some_no k e q = rw (sym e ∙ q)
 
-pub some_first : {f : Found} {k : ℕ} (y : Option ℕ) → f ≡ At k → some k ≡ or_else (found_of f) y
+pub some_first : {f : Found} {k : ℕ} (y : Option ℕ) → f ≡ At k → Some k ≡ or_else (found_of f) y
 some_first y q = rw q
 
 module _ (rows : List ℤ) (x : ℕ) where
@@ -64,13 +64,13 @@ module _ (rows : List ℤ) (x : ℕ) where
   -- ---- the last constraint
 
   unfoldable pub later_cap : Option ℕ → ℕ → Option ℕ
-  later_cap e k = cond (is rows k 1 x) (some k) e
+  later_cap e k = cond (is rows k 1 x) (Some k) e
 
   pub later_turn : (k : ℕ) (e : Option ℕ) {p r : Option ℕ} → p ≡ some_if (is rows k 1 x) k → r ≡ or_else p e → r ≡ later_cap e k
   unfolding later_cap
   later_turn k e h q = q ∙ ap (λ p. or_else p e) h ∙ go (is rows k 1 x)
     where
-      go : (b : Bool) → or_else (some_if b k) e ≡ cond b (some k) e
+      go : (b : Bool) → or_else (some_if b k) e ≡ cond b (Some k) e
       go true = refl
       go false = refl
 
@@ -86,26 +86,26 @@ module _ (rows : List ℤ) (x : ℕ) where
           (by_constraint rows k (λ l. each (capacity_of (sheet rows) x) l ≡ []) refl (λ e. refl) (λ e. absurd (true≢false (sym e ∙ h))) (λ e. refl) (λ e. refl) (λ e. refl))
 
   lowered : (n : ℕ)
-      → option (fold (only_at (of_kind rows 18) later_cap) none n) none (λ k. some (cell rows k 2))
+      → option (fold (only_at (of_kind rows 18) later_cap) None n) None (λ k. Some (cell rows k 2))
       ≡ last (collect (λ k. given (is rows k 0 18 && is rows k 1 x) (cell rows k 2)) n)
   unfolding fold collect only_at later_cap of_kind
   lowered zero = unfold last in refl
   lowered (suc n) =
-      go (is rows n 0 18) (is rows n 1 x) (fold (only_at (of_kind rows 18) later_cap) none n) (lowered n)
+      go (is rows n 0 18) (is rows n 1 x) (fold (only_at (of_kind rows 18) later_cap) None n) (lowered n)
       ∙ sym (last_append (collect (λ k. given (is rows k 0 18 && is rows k 1 x) (cell rows k 2)) n) (given (is rows n 0 18 && is rows n 1 x) (cell rows n 2)))
     where
-      go : (a b : Bool) (e : Option ℕ) → option e none (λ k. some (cell rows k 2)) ≡ last (collect (λ k. given (is rows k 0 18 && is rows k 1 x) (cell rows k 2)) n)
-          → option (cond a (cond b (some n) e) e) none (λ k. some (cell rows k 2))
+      go : (a b : Bool) (e : Option ℕ) → option e None (λ k. Some (cell rows k 2)) ≡ last (collect (λ k. given (is rows k 0 18 && is rows k 1 x) (cell rows k 2)) n)
+          → option (cond a (cond b (Some n) e) e) None (λ k. Some (cell rows k 2))
           ≡ or_else (last (given (a && b) (cell rows n 2))) (last (collect (λ k. given (is rows k 0 18 && is rows k 1 x) (cell rows k 2)) n))
       go true true e h = unfold last in refl
       go true false e h = unfold last in h
       go false b e h = unfold last in h
 
-  pub override_is : (f : Found) → found_of f ≡ fold (only_at (of_kind rows 18) later_cap) none (row_count rows)
-      → option (found_of f) none (λ k. some (cell rows k 2)) ≡ cap_override (sheet rows) x
+  pub override_is : (f : Found) → found_of f ≡ fold (only_at (of_kind rows 18) later_cap) None (row_count rows)
+      → option (found_of f) None (λ k. Some (cell rows k 2)) ≡ cap_override (sheet rows) x
   unfolding cap_override constraints
   override_is f h =
-      ap (λ e. option e none (λ k. some (cell rows k 2))) h
+      ap (λ e. option e None (λ k. Some (cell rows k 2))) h
       ∙ lowered (row_count rows)
       ∙ ap last
       (sym
@@ -114,13 +114,13 @@ module _ (rows : List ℤ) (x : ℕ) where
   -- ---- both
 
   pub cap_base : {f : Found} {b : ℤ} → SFits w64 b → b ≡ base_of (sheet rows) x
-      → option (found_of f) none (λ k. some (cell rows k 2)) ≡ cap_override (sheet rows) x → f ≡ Nothing → to_z w64 (of_z w64 b) ≡ cap_of (sheet rows) x
+      → option (found_of f) None (λ k. Some (cell rows k 2)) ≡ cap_override (sheet rows) x → f ≡ Nothing → to_z w64 (of_z w64 b) ≡ cap_of (sheet rows) x
   unfolding cap_of
   cap_base s e o q = rw (to_z-of_z s, ← o, q, ← e)
 
   pub cap_lowered : {f : Found} {k : ℕ} {b c r : ℤ} → SFits w64 b → SFits w64 c
       → b ≡ base_of (sheet rows) x
-      → option (found_of f) none (λ k. some (cell rows k 2)) ≡ cap_override (sheet rows) x → f ≡ At k → c ≡ cell rows k 2
+      → option (found_of f) None (λ k. Some (cell rows k 2)) ≡ cap_override (sheet rows) x → f ≡ At k → c ≡ cell rows k 2
       → r ≡ min_z (to_z w64 (of_z w64 b)) (to_z w64 (of_z w64 c)) → r ≡ cap_of (sheet rows) x
   unfolding cap_of
   cap_lowered s t e o q d g = rw (← o, q, ← d, ← e) (rw (to_z-of_z s, to_z-of_z t) at g)

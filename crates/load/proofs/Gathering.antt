@@ -3,7 +3,7 @@ use Prim.Native.Nat.{ℕ, zero, suc, ◌+◌, ◌*◌, ◌<◌, ◌≤◌}
 use mathlib.Core.Path.{◌≡◌, refl, ap, ap₂, sym, ◌∙◌}
 use mathlib.Core.Bool.{Bool, true, false}
 use mathlib.Core.List.{List, [], ◌∷◌, ◌++◌, append-nil}
-use mathlib.Core.Option.{none}
+use Rattle.std.specs.Prelude.{None}
 use native.Mathlib.Omega.{arith}
 use native.Mathlib.Decide.{dec_lt}
 use lib.Dec.{eqb}
@@ -109,7 +109,7 @@ module _ (rows : List ℤ) (x : ℕ) where
   pub gather_other : {k m : ℕ} {b : List ℕ} {r : Bool} → is rows k 0 23 ≡ true → r ≡ is rows k 3 x → r ≡ false → Gathering rows x k b m → Gathering rows x (suc k) b m
   gather_other {k} {r = r} h e f g = passed (at_row k r h e ∙ ap (λ o. given o (booking_of (sheet rows) (assignment_of rows k))) f) g
 
-  pub gather_more : {k m s t u : ℕ} {b b' ls : List ℕ} {r : Bool} → Linked rows ls → refusal_of rows ≡ none → is rows k 0 23 ≡ true → r ≡ is rows k 3 x → r ≡ true → s ≡ num rows k 4 → t ≡ num rows k 5
+  pub gather_more : {k m s t u : ℕ} {b b' ls : List ℕ} {r : Bool} → Linked rows ls → refusal_of rows ≡ None → is rows k 0 23 ≡ true → r ≡ is rows k 3 x → r ≡ true → s ≡ num rows k 4 → t ≡ num rows k 5
       → u ≡ usage (sheet rows) (assignment_of rows k) → u ≤ 1000000 → k < row_count rows → b' ≡ set_three b m s t u → Gathering rows x k b m
       → Gathering rows x (suc k) b' (m + 1)
   gather_more {k} {m} {s} {t} {u} {b} {r = r} ln ref h e f p q w l i c g =

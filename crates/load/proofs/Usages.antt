@@ -2,7 +2,7 @@
 use Prim.Native.Nat.{ℕ}
 use mathlib.Core.Path.{◌≡◌, sym, ap, ◌∙◌}
 use mathlib.Core.List.{List}
-use mathlib.Core.Option.{some}
+use Rattle.std.specs.Prelude.{Some}
 use lib.IntN.{ℤ}
 use Rattle.rows.specs.Cells.{num}
 use Rattle.sheet.specs.declared.Found.{Found}
@@ -16,7 +16,7 @@ use Rattle.model.proofs.Finds.{find_activity_lem, find_resource_lem, found_self}
 use Rattle.load.specs.Load.{usage}
 
 -- a row that was found is found by its own id
-pub own_place_lem : (rows : List ℤ) (x id : ℕ) {f : Found} {k : ℕ} → found_of f ≡ place_of rows x id → f ≡ At k → place_of rows x (num rows k 1) ≡ some k
+pub own_place_lem : (rows : List ℤ) (x id : ℕ) {f : Found} {k : ℕ} → found_of f ≡ place_of rows x id → f ≡ At k → place_of rows x (num rows k 1) ≡ Some k
 own_place_lem rows x id e q = found_self rows x id _ (sym e ∙ ap found_of q)
 
 module _ (rows : List ℤ) (k : ℕ) {f : Found} (h : found_of f ≡ place_of rows 2 (num rows k 1)) where

@@ -4,7 +4,7 @@
 #![tactic(auto)]
 
 ghost use Rattle.std.specs.Prelude.{◌≡◌, true, false, suc, ◌+◌, ◌*◌, ◌<◌, ◌≤◌, max, length, get_or, pos};
-ghost use Rattle.std.proofs.Math.Option.{none, some};
+ghost use Rattle.std.specs.Prelude.{None, Some};
 ghost use Rattle.std.specs.Int.Signed.{lt_z};
 ghost use Rattle.loops.specs.Lists.{option};
 ghost use Rattle.loops.specs.Numbers.{max_z, min_z};
@@ -31,7 +31,7 @@ use sheet::Found;
 
 // What booking k takes of its resource.
 fn usage_of(rows: &[i64], links: &[u16; 1600], owned: &[u16; 8810], k: usize) -> u64
-    requires { Linked rows.now links.now × Owned rows.now owned.now × (refusal_of rows.now ≡ none) × (k < row_count rows.now) × (is rows.now k 0 23 ≡ true) }
+    requires { Linked rows.now links.now × Owned rows.now owned.now × (refusal_of rows.now ≡ None) × (k < row_count rows.now) × (is rows.now k 0 23 ≡ true) }
     ensures value { result ≡ usage (sheet rows.now) (assignment_of rows.now k) }
     ensures bound { result ≤ 1000000 }
 {
@@ -93,7 +93,7 @@ fn or_else(a: Found, b: Found) -> Found
 // The row of the last capacity constraint of the resource.
 fn cap_override(rows: &[i64], kinds: &[u16; 3680], x: u64) -> Found
     requires { Kinds rows.now kinds.now }
-    ensures { option (found_of result) none (λ k. some (cell rows.now k 2)) ≡ cap_override (sheet rows.now) x }
+    ensures { option (found_of result) None (λ k. Some (cell rows.now k 2)) ≡ cap_override (sheet rows.now) x }
 {
     let n = rows::row_count(rows);
     let mut f = Found::Nothing;
@@ -140,7 +140,7 @@ fn add_booking(
     b: &mut [u64; 2400],
     m: usize,
 ) -> usize
-    requires { Linked rows.now links.now × Owned rows.now owned.now × (refusal_of rows.now ≡ none) × (k < row_count rows.now) × (is rows.now k 0 23 ≡ true) × Gathering rows.now x k b.old m }
+    requires { Linked rows.now links.now × Owned rows.now owned.now × (refusal_of rows.now ≡ None) × (k < row_count rows.now) × (is rows.now k 0 23 ≡ true) × Gathering rows.now x k b.old m }
     ensures gathered { Gathering rows.now x (suc k) b.new result }
     ensures behind { Behind b.old b.new m result }
 {

@@ -2,7 +2,7 @@
 use Prim.Native.Nat.{ℕ, ◌<◌, ◌≤◌}
 use mathlib.Core.Path.{◌≡◌, sym, ap, ◌∙◌}
 use mathlib.Core.Bool.{Bool, true, false, cond, not, ◌&&◌, ◌||◌, and-false, and-true}
-use mathlib.Core.Option.{Option, none, some}
+use Rattle.std.specs.Prelude.{Option, None, Some}
 use lib.Dec.{leb}
 use borrow.Author.Tests.{le-leb, lt-leb, not-true, not-false}
 use Rattle.loops.specs.Search.{or_else, some_if}
@@ -72,13 +72,13 @@ pub told_yes : {r b : Bool} → r ≡ b → r ≡ true → not b ≡ false
 told_yes e f = ap not (sym e ∙ f)
 
 module _ {A : Type 0} {b : Bool} (x : A) where
-  pub if_yes : b ≡ true → some x ≡ some_if b x
+  pub if_yes : b ≡ true → Some x ≡ some_if b x
   if_yes e = rw e
 
-  pub if_no : b ≡ false → none ≡ some_if b x
+  pub if_no : b ≡ false → None ≡ some_if b x
   if_no e = rw e
 
-  pub else_yes : (y : Option A) → b ≡ true → some x ≡ or_else (some_if b x) y
+  pub else_yes : (y : Option A) → b ≡ true → Some x ≡ or_else (some_if b x) y
   else_yes y e = rw e
 
   pub else_no : {y v : Option A} → b ≡ false → v ≡ y → v ≡ or_else (some_if b x) y

@@ -4,7 +4,7 @@ use Prim.Native.Nat.{ℕ, zero, suc, ◌+◌, ◌-◌, ◌<◌}
 use mathlib.Core.Path.{◌≡◌, refl, ap, ap₂, sym, ◌∙◌}
 use mathlib.Core.Bool.{Bool, true, false, cond, ◌&&◌, ◌||◌}
 use mathlib.Core.List.{List, [], ◌∷◌, ◌++◌, map, foldl, foldl-append, append_assoc, append-nil}
-use mathlib.Core.Option.{none, some}
+use Rattle.std.specs.Prelude.{None, Some}
 use native.Mathlib.Omega.{arith}
 use lib.ListN.{length, take, drop, length-drop}
 use lib.Seq.{take_all}
@@ -146,12 +146,12 @@ unfolding last
 last_append {A = A} l [] = ap last (append-nil l)
 last_append {A = A} [] (y ∷ m) = go m y
   where
-    go : (m : List A) (y : A) → last (y ∷ m) ≡ or_else (last (y ∷ m)) none
+    go : (m : List A) (y : A) → last (y ∷ m) ≡ or_else (last (y ∷ m)) None
     go [] y = refl
     go (z ∷ m) y = go m z
 last_append {A = A} (x ∷ []) (y ∷ m) = go m y
   where
-    go : (m : List A) (y : A) → last (y ∷ m) ≡ or_else (last (y ∷ m)) (some x)
+    go : (m : List A) (y : A) → last (y ∷ m) ≡ or_else (last (y ∷ m)) (Some x)
     go [] y = refl
     go (z ∷ m) y = go m z
 last_append (x ∷ w ∷ l) (y ∷ m) = last_append (w ∷ l) (y ∷ m)

@@ -3,7 +3,7 @@
 use Prim.Native.Nat.{ℕ, zero, suc, ◌+◌, ◌-◌, ◌<◌, ◌≤◌}
 use mathlib.Core.Path.{◌≡◌, refl, ap, ap₂, sym, ◌∙◌}
 use mathlib.Core.Bool.{Bool, true, false, cond, ◌||◌, true≢false}
-use mathlib.Core.Option.{Option, none, some}
+use Rattle.std.specs.Prelude.{Option, None, Some}
 use mathlib.Core.Logic.{◌⊎◌, inl, inr, ⊎_elim}
 use native.Mathlib.Omega.{arith}
 use native.Mathlib.Numerals.{add-one}
@@ -15,12 +15,12 @@ use Rattle.loops.proofs.Walks.{over}
 
 -- ---- a place that was found
 
-or_some : (x : Option ℕ) (b : Bool) (n k : ℕ) → or_else x (some_if b n) ≡ some k → (x ≡ some k) ⊎ ((b ≡ true) × (n ≡ k))
-or_some (some j) b n k e = inl e
-or_some none true n k e = inr (refl, cc)
-or_some none false n k e = let z : ◌≡◌ {A = ℕ} 0 1 = cc in absurd (omega arith)
+or_some : (x : Option ℕ) (b : Bool) (n k : ℕ) → or_else x (some_if b n) ≡ Some k → (x ≡ Some k) ⊎ ((b ≡ true) × (n ≡ k))
+or_some (Some j) b n k e = inl e
+or_some None true n k e = inr (refl, cc)
+or_some None false n k e = let z : ◌≡◌ {A = ℕ} 0 1 = cc in absurd (omega arith)
 
-pub some_is : {j k : ℕ} → ◌≡◌ {A = Option ℕ} (some j) (some k) → j ≡ k
+pub some_is : {j k : ℕ} → ◌≡◌ {A = Option ℕ} (Some j) (Some k) → j ≡ k
 some_is e = cc
 
 -- a place below n that passes
@@ -39,7 +39,7 @@ hit p (suc n) e = go (any_below p n) refl e (hit p n)
     go false h f r = record { place = n; below = omega arith; passes = f }
 
 module _ (p : ℕ → Bool) where
-  pub found_at : (n k : ℕ) → first_place p n ≡ some k → (k < n) × (p k ≡ true)
+  pub found_at : (n k : ℕ) → first_place p n ≡ Some k → (k < n) × (p k ≡ true)
   unfolding first_place
   found_at zero k e = let z : ◌≡◌ {A = ℕ} 0 1 = cc in absurd (omega arith)
   found_at (suc n) k e =
@@ -49,38 +49,38 @@ module _ (p : ℕ → Bool) where
 -- ---- the first of two or three
 
 module _ {A : Type 0} where
-  pub or_none_lem : (x : Option A) → or_else x none ≡ x
-  or_none_lem none = refl
-  or_none_lem (some x) = refl
+  pub or_none_lem : (x : Option A) → or_else x None ≡ x
+  or_none_lem None = refl
+  or_none_lem (Some x) = refl
 
   pub or_assoc : (x y z : Option A) → or_else (or_else x y) z ≡ or_else x (or_else y z)
-  or_assoc none y z = refl
-  or_assoc (some x) y z = refl
+  or_assoc None y z = refl
+  or_assoc (Some x) y z = refl
 
 -- ---- nothing found
 
 module _ {A : Type 0} where
-  pub or_none_left : (x y : Option A) → or_else x y ≡ none → x ≡ none
-  or_none_left none y e = refl
-  or_none_left (some x) y e = e
+  pub or_none_left : (x y : Option A) → or_else x y ≡ None → x ≡ None
+  or_none_left None y e = refl
+  or_none_left (Some x) y e = e
 
-  pub or_none_right : (x y : Option A) → or_else x y ≡ none → y ≡ none
-  or_none_right none y e = e
-  or_none_right (some x) y e = let z : ◌≡◌ {A = ℕ} 0 1 = cc in absurd (omega arith)
+  pub or_none_right : (x y : Option A) → or_else x y ≡ None → y ≡ None
+  or_none_right None y e = e
+  or_none_right (Some x) y e = let z : ◌≡◌ {A = ℕ} 0 1 = cc in absurd (omega arith)
 
-  pub first_none : (f : ℕ → Option A) (n : ℕ) → first f n ≡ none → (k : ℕ) → k < n → f k ≡ none
+  pub first_none : (f : ℕ → Option A) (n : ℕ) → first f n ≡ None → (k : ℕ) → k < n → f k ≡ None
   unfolding first
   first_none f zero e k h = absurd (not-suc-le-zero h)
   first_none f (suc n) e k h =
       ⊎_elim (λ q. rw q (or_none_right (first f n) (f n) e)) (λ l. first_none f n (or_none_left (first f n) (f n) e) k l)
       (eq-or-lt_of_le (le_of_suc-le-suc h))
 
-  pub if_none : (b : Bool) (x : A) → some_if b x ≡ none → b ≡ false
+  pub if_none : (b : Bool) (x : A) → some_if b x ≡ None → b ≡ false
   if_none true x e = let z : ◌≡◌ {A = ℕ} 0 1 = cc in absurd (omega arith)
   if_none false x e = refl
 
 module _ (p : ℕ → Bool) where
-  pub place_none : (n : ℕ) → first_place p n ≡ none → (k : ℕ) → k < n → p k ≡ false
+  pub place_none : (n : ℕ) → first_place p n ≡ None → (k : ℕ) → k < n → p k ≡ false
   unfolding first_place
   place_none zero e k h = absurd (not-suc-le-zero h)
   place_none (suc n) e k h =
@@ -88,12 +88,12 @@ module _ (p : ℕ → Bool) where
       (λ l. place_none n (or_none_left (first_place p n) (some_if (p n) n) e) k l) (eq-or-lt_of_le (le_of_suc-le-suc h))
 
   -- what holds at one place below n only is found there
-  pub place_only : (n k : ℕ) → k < n → p k ≡ true → ((j : ℕ) → j < n → p j ≡ true → j ≡ k) → first_place p n ≡ some k
+  pub place_only : (n k : ℕ) → k < n → p k ≡ true → ((j : ℕ) → j < n → p j ≡ true → j ≡ k) → first_place p n ≡ Some k
   place_only n k l e h = go (first_place p n) refl
     where
-      go : (x : Option ℕ) → first_place p n ≡ x → first_place p n ≡ some k
-      go none q = absurd (true≢false (sym e ∙ place_none n q k l))
-      go (some j) q = let f = found_at p n j q in q ∙ ap some (h j f.0 f.1)
+      go : (x : Option ℕ) → first_place p n ≡ x → first_place p n ≡ Some k
+      go None q = absurd (true≢false (sym e ∙ place_none n q k l))
+      go (Some j) q = let f = found_at p n j q in q ∙ ap Some (h j f.0 f.1)
 
   pub any_less : (n k : ℕ) → any_below p n ≡ false → k ≤ n → any_below p k ≡ false
   unfolding any_below
@@ -103,17 +103,17 @@ module _ (p : ℕ → Bool) where
 -- ---- before the place that was found
 
 module _ (p : ℕ → Bool) where
-  found_on : (j m d : ℕ) → first_place p j ≡ some m → first_place p (j + d) ≡ some m
+  found_on : (j m d : ℕ) → first_place p j ≡ Some m → first_place p (j + d) ≡ Some m
   unfolding first_place
   found_on j m zero f = rw (add-zero j) f
   found_on j m (suc d) f = rw (add-suc j d, found_on j m d f)
 
-  pub none_before : (n j : ℕ) → first_place p n ≡ some j → (i : ℕ) → i < j → p i ≡ false
+  pub none_before : (n j : ℕ) → first_place p n ≡ Some j → (i : ℕ) → i < j → p i ≡ false
   none_before n j e i l = go (first_place p j) refl
     where
       go : (x : Option ℕ) → first_place p j ≡ x → p i ≡ false
-      go none f = place_none p j f i l
-      go (some m) f =
+      go None f = place_none p j f i l
+      go (Some m) f =
           let h = found_at p n j e in
           let g = found_at p j m f in
           let s : j + (n - j) ≡ n = omega (arith, h.0) in
@@ -121,12 +121,12 @@ module _ (p : ℕ → Bool) where
           absurd (omega (arith, g.0))
 
   -- as a place of a chain
-  pub first_at : {n j : ℕ} → some j ≡ first_place p n → First p 0 n j
+  pub first_at : {n j : ℕ} → Some j ≡ first_place p n → First p 0 n j
   first_at {n} {j} e =
       let f = found_at p n j (sym e) in
       record { low = omega arith; high = omega (arith, f.0); none = λ k a l. none_before n j (sym e) k l; here = λ l. f.1 }
 
-  pub first_end : {n : ℕ} → none ≡ first_place p n → First p 0 n n
+  pub first_end : {n : ℕ} → None ≡ first_place p n → First p 0 n n
   first_end {n} e = record { low = omega arith; high = omega arith; none = λ k a l. place_none p n (sym e) k l; here = λ l. absurd (omega arith) }
 
 -- ---- searches that agree

@@ -3,7 +3,7 @@
 use Prim.Native.Nat.{ℕ, zero, suc, ◌+◌, ◌<◌, ◌≤◌}
 use mathlib.Core.Path.{◌≡◌, refl, ap, sym, ◌∙◌}
 use mathlib.Core.Bool.{Bool, true, false, cond, or-true}
-use mathlib.Core.Option.{Option, none, some}
+use Rattle.std.specs.Prelude.{Option, None, Some}
 use mathlib.Core.Logic.{⊎_elim}
 use native.Mathlib.Omega.{arith}
 use native.Mathlib.Numerals.{add-one}
@@ -11,28 +11,28 @@ use native.Mathlib.Nat.{eq-or-lt_of_le, le_of_suc-le-suc, le_antisymm, not-suc-l
 use Rattle.loops.specs.Search.{or_else, some_if, first, first_place, any_below, count_below}
 
 module _ {A : Type 0} (f : ℕ → Option A) where
-  pub first_zero : first f 0 ≡ none
+  pub first_zero : first f 0 ≡ None
   unfolding first
   first_zero = refl
 
-  pub first_miss : (i : ℕ) → first f i ≡ none → f i ≡ none → first f (i + 1) ≡ none
+  pub first_miss : (i : ℕ) → first f i ≡ None → f i ≡ None → first f (i + 1) ≡ None
   unfolding first
   first_miss i e q = rw (add-one, e, q)
 
-  first_here : (i : ℕ) {x : A} → first f i ≡ none → f i ≡ some x → first f (suc i) ≡ some x
+  first_here : (i : ℕ) {x : A} → first f i ≡ None → f i ≡ Some x → first f (suc i) ≡ Some x
   unfolding first
   first_here i e q = rw (e, q)
 
-  first_kept : (m : ℕ) {x : A} → first f m ≡ some x → first f (suc m) ≡ some x
+  first_kept : (m : ℕ) {x : A} → first f m ≡ Some x → first f (suc m) ≡ Some x
   unfolding first
   first_kept m e = rw e
 
-  pub first_hit : (i n : ℕ) {x : A} → i < n → first f i ≡ none → f i ≡ some x → first f n ≡ some x
+  pub first_hit : (i n : ℕ) {x : A} → i < n → first f i ≡ None → f i ≡ Some x → first f n ≡ Some x
   first_hit i zero h e q = absurd (omega arith)
   first_hit i (suc m) h e q =
       ⊎_elim (λ p. rw (← p) (first_here i e q)) (λ l. first_kept m (first_hit i m l e q)) (eq-or-lt_of_le (le_of_suc-le-suc h))
 
-  pub first_done : (i n N : ℕ) → i ≤ n → n ≤ i → n ≡ N → first f i ≡ none → none ≡ first f N
+  pub first_done : (i n N : ℕ) → i ≤ n → n ≤ i → n ≡ N → first f i ≡ None → None ≡ first f N
   first_done i n N h k q e = sym (ap (first f) (sym (le_antisymm h k ∙ q)) ∙ e)
 
 module _ (p : ℕ → Bool) where
@@ -44,23 +44,23 @@ module _ (p : ℕ → Bool) where
   place_first zero = refl
   place_first (suc n) = ap (λ x. or_else x (some_if (p n) n)) (place_first n)
 
-  pub place_zero : first_place p 0 ≡ none
+  pub place_zero : first_place p 0 ≡ None
   unfolding first_place
   place_zero = refl
 
-  pub place_miss : (i : ℕ) → first_place p i ≡ none → p i ≡ false → first_place p (i + 1) ≡ none
+  pub place_miss : (i : ℕ) → first_place p i ≡ None → p i ≡ false → first_place p (i + 1) ≡ None
   unfolding first_place
   place_miss i e q = rw (add-one, e, q)
 
-  place_here : (i : ℕ) → first_place p i ≡ none → p i ≡ true → first_place p (suc i) ≡ some i
+  place_here : (i : ℕ) → first_place p i ≡ None → p i ≡ true → first_place p (suc i) ≡ Some i
   unfolding first_place
   place_here i e q = rw (e, q)
 
-  place_kept : (m : ℕ) {x : ℕ} → first_place p m ≡ some x → first_place p (suc m) ≡ some x
+  place_kept : (m : ℕ) {x : ℕ} → first_place p m ≡ Some x → first_place p (suc m) ≡ Some x
   unfolding first_place
   place_kept m e = rw e
 
-  pub place_hit : (i n : ℕ) → i < n → first_place p i ≡ none → p i ≡ true → first_place p n ≡ some i
+  pub place_hit : (i n : ℕ) → i < n → first_place p i ≡ None → p i ≡ true → first_place p n ≡ Some i
   place_hit i zero h e q = absurd (omega arith)
   place_hit i (suc m) h e q =
       ⊎_elim (λ z. rw (← z) (place_here i e q)) (λ l. place_kept m (place_hit i m l e q)) (eq-or-lt_of_le (le_of_suc-le-suc h))

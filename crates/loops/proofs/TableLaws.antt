@@ -3,7 +3,7 @@ use Prim.Native.Nat.{ℕ, zero, suc, ◌+◌, ◌-◌, ◌<◌, ◌≤◌}
 use mathlib.Core.Path.{◌≡◌, refl, sym, ap, ◌∙◌}
 use mathlib.Core.Bool.{Bool, true, false}
 use mathlib.Core.List.{List}
-use mathlib.Core.Option.{none, some}
+use Rattle.std.specs.Prelude.{None, Some}
 use native.Mathlib.Omega.{arith}
 use native.Mathlib.Numerals.{add-one}
 use native.Mathlib.Decide.{dec_lt, ℕ_discrete}
@@ -134,14 +134,14 @@ module _ (p q : ℕ → Bool) (n : ℕ) where
 -- ---- what the first place says
 
 -- there is one
-pub first_found : {p : ℕ → Bool} {n N j : ℕ} → First p 0 n j → j < N → N ≡ n → some j ≡ first_place p n
+pub first_found : {p : ℕ → Bool} {n N j : ℕ} → First p 0 n j → j < N → N ≡ n → Some j ≡ first_place p n
 first_found {p} {n} {N} {j} f l z =
-    sym (place_hit p j n (omega arith) (over (λ k. first_place p k ≡ none) p 0 n j (λ k e r. place_miss p k r e) f (place_zero p)) (f.here (omega arith)))
+    sym (place_hit p j n (omega arith) (over (λ k. first_place p k ≡ None) p 0 n j (λ k e r. place_miss p k r e) f (place_zero p)) (f.here (omega arith)))
 
-pub first_absent : {p : ℕ → Bool} {n N j : ℕ} → First p 0 n j → N ≤ j → N ≡ n → none ≡ first_place p n
+pub first_absent : {p : ℕ → Bool} {n N j : ℕ} → First p 0 n j → N ≤ j → N ≡ n → None ≡ first_place p n
 first_absent {p} {n} {N} {j} f l z =
     let e : j ≡ n = omega (arith, f.high) in
-    sym (rw e at (over (λ k. first_place p k ≡ none) p 0 n j (λ k e r. place_miss p k r e) f (place_zero p)))
+    sym (rw e at (over (λ k. first_place p k ≡ None) p 0 n j (λ k e r. place_miss p k r e) f (place_zero p)))
 
 -- there is one before place k
 pub first_below : {p : ℕ → Bool} {n j : ℕ} (k : ℕ) → k ≤ n → First p 0 n j → ltb j k ≡ any_below p k

@@ -4,7 +4,7 @@ use Prim.Native.Nat.{ℕ, zero, suc, ◌+◌, ◌-◌, ◌<◌, ◌≤◌}
 use mathlib.Core.Path.{◌≡◌, sym, ap, ◌∙◌}
 use mathlib.Core.Bool.{Bool, true, false}
 use mathlib.Core.List.{List, [], ◌++◌, append-nil}
-use mathlib.Core.Option.{Option, none, some}
+use Rattle.std.specs.Prelude.{Option, None, Some}
 use native.Mathlib.Omega.{arith}
 use native.Mathlib.Numerals.{add-one}
 use native.Mathlib.Nat.{add-zero}
@@ -66,16 +66,16 @@ pub itself : (p : ℕ → Bool) → Blind p p
 itself p = record { still = λ k e. e }
 
 module _ (q : ℕ → Bool) where
-  pub seek_first : {p : ℕ → Bool} {n i : ℕ} → First p 0 n i → Blind p q → first_place q i ≡ none
-  seek_first s h = over (λ k. first_place q k ≡ none) _ 0 _ _ (λ k z r. place_miss q k r (h.still k z)) s (place_zero q)
+  pub seek_first : {p : ℕ → Bool} {n i : ℕ} → First p 0 n i → Blind p q → first_place q i ≡ None
+  seek_first s h = over (λ k. first_place q k ≡ None) _ 0 _ _ (λ k z r. place_miss q k r (h.still k z)) s (place_zero q)
 
-  pub seek_next : {p : ℕ → Bool} {n j i : ℕ} → First p (suc i) n j → Blind p q → first_place q i ≡ none → q i ≡ false → first_place q j ≡ none
-  seek_next {p} {n} {j} {i} s h r t = over (λ k. first_place q k ≡ none) _ (suc i) _ _ (λ k z r. place_miss q k r (h.still k z)) s (rw add-one at (place_miss q i r t))
+  pub seek_next : {p : ℕ → Bool} {n j i : ℕ} → First p (suc i) n j → Blind p q → first_place q i ≡ None → q i ≡ false → first_place q j ≡ None
+  seek_next {p} {n} {j} {i} s h r t = over (λ k. first_place q k ≡ None) _ (suc i) _ _ (λ k z r. place_miss q k r (h.still k z)) s (rw add-one at (place_miss q i r t))
 
-  pub seek_end : {p : ℕ → Bool} (n N i : ℕ) → N ≤ i → N ≡ n → Stands p n i → first_place q i ≡ none → none ≡ first_place q n
+  pub seek_end : {p : ℕ → Bool} (n N i : ℕ) → N ≤ i → N ≡ n → Stands p n i → first_place q i ≡ None → None ≡ first_place q n
   seek_end n N i l z a r = sym (ap (first_place q) (sym (stands_end a l z)) ∙ r)
 
-  pub seek_hit : (n N i : ℕ) → i < N → N ≡ n → first_place q i ≡ none → q i ≡ true → some i ≡ first_place q n
+  pub seek_hit : (n N i : ℕ) → i < N → N ≡ n → first_place q i ≡ None → q i ≡ true → Some i ≡ first_place q n
   seek_hit n N i l z r t = sym (place_hit q i n (omega arith) r t)
 
   pub any_first : {p : ℕ → Bool} {n i : ℕ} → First p 0 n i → Blind p q → any_below q i ≡ false
@@ -89,7 +89,7 @@ module _ (q : ℕ → Bool) where
 
 module _ {A : Type 0} (f : ℕ → Option A) where
   -- what a search for more than a place knows: f gives nothing where p fails
-  pub first_end : {p : ℕ → Bool} (n N i : ℕ) → N ≤ i → N ≡ n → Stands p n i → first f i ≡ none → none ≡ first f n
+  pub first_end : {p : ℕ → Bool} (n N i : ℕ) → N ≤ i → N ≡ n → Stands p n i → first f i ≡ None → None ≡ first f n
   first_end n N i l z a r = sym (ap (first f) (sym (stands_end a l z)) ∙ r)
 
 -- ---- steps under their test

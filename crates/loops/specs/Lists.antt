@@ -1,6 +1,6 @@
 -- Lists, with tests that compute. Assumes nothing.
 use Rattle.std.specs.Prelude.{ℕ, ◌+◌, Bool, true, false, cond, ◌&&◌, ◌||◌, List, [], ◌∷◌, ◌++◌, eqb}
-use Rattle.std.proofs.Math.Option.{Option, none, some}
+use Rattle.std.specs.Prelude.{Option, None, Some}
 
 module _ {A : Type 0} where
   -- x where the test holds, else nothing
@@ -30,17 +30,17 @@ module _ {A : Type 0} where
 
   -- the first element
   abbrev pub head : List A → Option A
-  head [] = none
-  head (x ∷ l) = some x
+  head [] = None
+  head (x ∷ l) = Some x
 
   unfoldable pub last : List A → Option A
-  last [] = none
-  last (x ∷ []) = some x
+  last [] = None
+  last (x ∷ []) = Some x
   last (x ∷ y ∷ l) = last (y ∷ l)
 
   abbrev pub is_some : Option A → Bool
-  is_some none = false
-  is_some (some x) = true
+  is_some None = false
+  is_some (Some x) = true
 
   unfoldable pub insert_by : (A → A → Bool) → A → List A → List A
   insert_by lt x [] = x ∷ []
@@ -59,8 +59,8 @@ module _ {A B : Type 0} where
 
   -- b where there is none, else f of what there is
   abbrev pub option : Option A → B → (A → B) → B
-  option none b f = b
-  option (some a) b f = f a
+  option None b f = b
+  option (Some a) b f = f a
 
 -- x is one of the numbers
 abbrev pub among : ℕ → List ℕ → Bool

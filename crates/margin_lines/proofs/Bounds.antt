@@ -3,7 +3,7 @@ use Prim.Native.Nat.{ℕ, zero, suc, ◌^◌, ◌<◌, ◌≤◌}
 use mathlib.Core.Path.{◌≡◌, refl, ap, sym, ◌∙◌}
 use mathlib.Core.Bool.{Bool, true, false, cond}
 use mathlib.Core.List.{List}
-use mathlib.Core.Option.{Option, none, some}
+use Rattle.std.specs.Prelude.{Option, None, Some}
 use native.Mathlib.Omega.{arith}
 use lib.Dec.{leb}
 use lib.IntN.{ℤ, pos, negsuc, nat_abs, ◌-ℤ◌}
@@ -39,14 +39,14 @@ timed (negsuc n) = false
 unfoldable pub early : Option ℤ → Bool
 early o = option o true timed
 
-early_is : {o : Option ℤ} {c : ℕ} → early o ≡ true → o ≡ some (pos c) → c ≤ 4000000000000
+early_is : {o : Option ℤ} {c : ℕ} → early o ≡ true → o ≡ Some (pos c) → c ≤ 4000000000000
 unfolding early
 early_is {c = c} h e = leb-true c 4000000000000 (rw e at h)
 
 later_early : (o : Option ℤ) (n : ℕ) → n ≤ 4000000000000 → early o ≡ true → early (later_of clock o (pos n)) ≡ true
 unfolding early
-later_early none n l h = le-leb n 4000000000000 l
-later_early (some a) n l h = go (lt_z a (pos n))
+later_early None n l h = le-leb n 4000000000000 l
+later_early (Some a) n l h = go (lt_z a (pos n))
   where
     go : (b : Bool) → timed (cond b (pos n) a) ≡ true
     go true = le-leb n 4000000000000 l
@@ -94,7 +94,7 @@ module _ (rows : List ℤ) (acc : Accepted rows) where
   completion_early task =
       rw (← completion rows task refl refl)
       (ends_early_lem 24 4 task (λ k h. at_most rows acc k 24 4 h) _
-      (ends_early_lem 23 5 task (λ k h. at_most rows acc k 23 5 h) none (unfold early in refl) (row_count rows)) (row_count rows))
+      (ends_early_lem 23 5 task (λ k h. at_most rows acc k 23 5 h) None (unfold early in refl) (row_count rows)) (row_count rows))
 
   pub completion_most : (task : ℕ) {e : Instant} {c : ℕ} → meant e ≡ task_completion_time clock (sheet rows) task → e ≡ At c → c ≤ 4000000000000
   completion_most task m q = early_is (completion_early task) (sym m ∙ ap meant q)

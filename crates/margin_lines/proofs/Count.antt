@@ -3,7 +3,7 @@ use Prim.Native.Nat.{ℕ, ◌+◌, ◌≤◌}
 use mathlib.Core.Path.{◌≡◌, refl}
 use mathlib.Core.Bool.{Bool, true, false}
 use mathlib.Core.List.{List, [], ◌∷◌, append-nil}
-use mathlib.Core.Option.{Option, none, some}
+use Rattle.std.specs.Prelude.{Option, None, Some}
 use native.Mathlib.Omega.{arith}
 use borrow.Author.Tests.{eqb-true}
 use lib.IntN.{ℤ, ◌-ℤ◌}
@@ -30,9 +30,9 @@ unfolding task_margin
 task_one rows t = go t.deadline (task_completion_time clock (sheet rows) t.id)
   where
     go : (deadline completion : Option ℤ) → length (option deadline [] λ d. option completion [] λ c. margin_of TASK t.id (d -ℤ c) ∷ []) ≤ 1
-    go none completion = omega arith
-    go (some d) none = omega arith
-    go (some d) (some c) = omega arith
+    go None completion = omega arith
+    go (Some d) None = omega arith
+    go (Some d) (Some c) = omega arith
 
 not_both : (rows : List ℤ) (k : ℕ) → is rows k 0 1 ≡ true → is_first rows k ≡ true → ⊥
 unfolding is is_first

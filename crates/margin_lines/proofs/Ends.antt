@@ -2,7 +2,7 @@
 use Prim.Native.Nat.{ℕ, ◌*◌, ◌/◌, ◌≤◌}
 use mathlib.Core.Path.{◌≡◌, refl}
 use mathlib.Core.List.{List}
-use mathlib.Core.Option.{Option, none, some}
+use Rattle.std.specs.Prelude.{Option, None, Some}
 use native.Mathlib.Omega.{arith}
 use borrow.Author.Tests.{le-ltb}
 use lib.Dec.{ltb}
@@ -39,7 +39,7 @@ abbrev Ends : List ℤ → List ℤ → Answer → List ℤ → Type 0
 Ends rows o answer o' = (answer ≡ margins_answer rows (length o / 3)) × (o' ≡ margins_after rows o)
 
 -- each line is of a row, and a sheet has 800 rows at most
-few_margins : (rows : List ℤ) → sheet_refusal rows ≡ none → length (margins rows) ≤ 800
+few_margins : (rows : List ℤ) → sheet_refusal rows ≡ None → length (margins rows) ≤ 800
 few_margins rows passed = let most : length rows ≤ 8000 = (sheet_accepted rows passed).short in omega (arith, margins_short rows)
 
 pub room_for_all : RoomForAll
@@ -47,8 +47,8 @@ unfolding margins_refusal call_refusal
 room_for_all rows room l = go (sheet_refusal rows) refl
   where
     go : (o : Option Refusal) → sheet_refusal rows ≡ o → or_else o (refuse (ltb room (length (margins rows))) FULL 0) ≡ o
-    go none e = let h : length (margins rows) ≤ room = omega (arith, few_margins rows e) in rw (le-ltb room (length (margins rows)) h)
-    go (some x) e = refl
+    go None e = let h : length (margins rows) ≤ room = omega (arith, few_margins rows e) in rw (le-ltb room (length (margins rows)) h)
+    go (Some x) e = refl
 
 -- ---- refused by 1 to 6
 
@@ -65,7 +65,7 @@ module _ (rows o : List ℤ) {v : Verdict} {number place : ℕ} {k₀ l₀ p₀ 
 
 -- ---- the tasks, then the resources, found in a buffer for 800 lines, and handed over
 
-module _ (rows o o₀ : List ℤ) {x y : List ℤ} {n k : ℕ} {r : Handed} (passed : sheet_refusal rows ≡ none)
+module _ (rows o o₀ : List ℤ) {x y : List ℤ} {n k : ℕ} {r : Handed} (passed : sheet_refusal rows ≡ None)
     (of-tasks : sink x n ≡ emit_margins (sink o₀ 0) (each (task_margin clock (sheet rows)) (tasks (sheet rows))))
     (of-resources : sink y k ≡ emit_margins (sink x n) (each (resource_margin clock (sheet rows)) (booked_resources (sheet rows))))
     (told : r ≡ handed (length o / 3) (length y / 3) k) (room : length o₀ ≡ 2400) where

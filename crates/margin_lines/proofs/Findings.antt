@@ -3,7 +3,7 @@ use Prim.Native.Nat.{ℕ, zero, suc}
 use mathlib.Core.Path.{◌≡◌, refl, sym, ◌∙◌, ap, ap₂}
 use mathlib.Core.Bool.{Bool, true}
 use mathlib.Core.List.{List, [], ◌∷◌, ◌++◌, append-nil}
-use mathlib.Core.Option.{Option, none, some}
+use Rattle.std.specs.Prelude.{Option, None, Some}
 use native.Mathlib.Omega.{arith}
 use native.Mathlib.Nat.{add-zero}
 use borrow.Author.Tests.{eqb-true, lt-ltb, le-ltb}
@@ -43,7 +43,7 @@ negated_difference : (x y : ℤ) → neg_ℤ (x -ℤ y) ≡ y -ℤ x
 negated_difference x y = neg_ℤ-+ℤ x (neg_ℤ y) ∙ ap (λ z. neg_ℤ x +ℤ z) (neg_ℤ-neg_ℤ y) ∙ +ℤ_comm (neg_ℤ x) y
 
 -- the deadline minus the completion is below zero where the completion is late
-late_below : (deadline completion : ℤ) → lt_z (deadline -ℤ completion) (pos 0) ≡ ltb 0 (tardiness_ms clock completion (some deadline))
+late_below : (deadline completion : ℤ) → lt_z (deadline -ℤ completion) (pos 0) ≡ ltb 0 (tardiness_ms clock completion (Some deadline))
 late_below d c = below_negated (d -ℤ c) ∙ ap (λ z. ltb 0 (to_nat z)) (negated_difference d c)
 
 -- the limit minus the peak is below zero where the peak is over the limit
@@ -62,10 +62,10 @@ module _ (s : Sheet ℤ) where
       go : (deadline completion : Option ℤ)
           → each finding_of (option deadline [] λ d. option completion [] λ c. margin_of TASK t.id (d -ℤ c) ∷ [])
           ≡ option completion [] λ c. given (ltb 0 (tardiness_ms clock c deadline)) (deadline_miss 8 t.id)
-      go none none = refl
-      go none (some c) = refl
-      go (some d) none = refl
-      go (some d) (some c) = append-nil _ ∙ ap (λ b. given b (deadline_miss 8 t.id)) (late_below d c)
+      go None None = refl
+      go None (Some c) = refl
+      go (Some d) None = refl
+      go (Some d) (Some c) = append-nil _ ∙ ap (λ b. given b (deadline_miss 8 t.id)) (late_below d c)
 
   resource_exactly : (x : ℕ) → each finding_of (resource_margin clock s x) ≡ check_resource clock s x
   unfolding each resource_margin check_resource
@@ -87,9 +87,9 @@ module _ (s : Sheet ℤ) where
   task_lines = all_each (is_for TASK) (task_margin clock s) (λ t. go t.id t.deadline (task_completion_time clock s t.id)) (tasks s)
     where
       go : (id : ℕ) (deadline completion : Option ℤ) → all_of (is_for TASK) (option deadline [] λ d. option completion [] λ c. margin_of TASK id (d -ℤ c) ∷ []) ≡ true
-      go id none completion = refl
-      go id (some d) none = refl
-      go id (some d) (some c) = refl
+      go id None completion = refl
+      go id (Some d) None = refl
+      go id (Some d) (Some c) = refl
 
   resource_lines : all_of (is_for RESOURCE) (each (resource_margin clock s) (booked_resources s)) ≡ true
   unfolding all_of resource_margin

@@ -3,7 +3,7 @@ use Prim.Native.Nat.{ℕ, zero, suc, ◌≤◌}
 use mathlib.Core.Path.{◌≡◌, refl, ◌∙◌}
 use mathlib.Core.Bool.{Bool, true, false, cond, ◌&&◌}
 use mathlib.Core.List.{List, [], ◌∷◌, ◌++◌}
-use mathlib.Core.Option.{Option, none, some}
+use Rattle.std.specs.Prelude.{Option, None, Some}
 use native.Mathlib.Omega.{arith}
 use lib.Dec.{leb, eqb}
 use lib.IntN.{ℤ, pos, negsuc, nat_abs}
@@ -62,9 +62,9 @@ module _ (rows : List ℤ) (acc : Accepted rows) (x : ℕ) where
   base_small = rw (find_resource_lem rows x) (go (place_of rows 11 x) refl)
     where
       go : (o : Option ℕ) → place_of rows 11 x ≡ o
-          → small (option (option o none (λ k. some (resource_of rows k))) (pos 1) (λ r. max_z r.capacity (pos 1))) ≡ true
-      go none e = unfold small in refl
-      go (some k) e =
+          → small (option (option o None (λ k. Some (resource_of rows k))) (pos 1) (λ r. max_z r.capacity (pos 1))) ≡ true
+      go None e = unfold small in refl
+      go (Some k) e =
           of_two (lt_z (cell rows k 3) (pos 1)) (pos 1) (cell rows k 3) (unfold small in refl)
           (number_small (cell rows k 3) (in_class_lem rows acc k 11 3 (place_kind rows 11 x e)))
 
@@ -89,8 +89,8 @@ module _ (rows : List ℤ) (acc : Accepted rows) (x : ℕ) where
       (go (last (collect (λ k. given (is rows k 0 18 && is rows k 1 x) (cell rows k 2)) (row_count rows))) (override_small (row_count rows)))
     where
       go : (o : Option ℤ) → option o true small ≡ true → small (option o (base_of (sheet rows) x) (λ c. min_z (base_of (sheet rows) x) c)) ≡ true
-      go none e = base_small
-      go (some c) e = of_two (lt_z c (base_of (sheet rows) x)) c (base_of (sheet rows) x) e base_small
+      go None e = base_small
+      go (Some c) e = of_two (lt_z c (base_of (sheet rows) x)) c (base_of (sheet rows) x) e base_small
 
   pub cap_most : {c : ℤ} → c ≡ cap_of (sheet rows) x → nat_abs c ≤ 1000000
   unfolding small
@@ -128,9 +128,9 @@ module _ (rows : List ℤ) (acc : Accepted rows) where
   usage_few b = go (find_activity (sheet rows) b.activity) (find_resource (sheet rows) b.resource)
     where
       go : (a : Option (Activity ℤ)) (r : Option Resource) → option a 1 (λ activity. option r 1 λ r. usage_on (sheet rows) activity r) ≤ 1000000
-      go none r = omega arith
-      go (some a) none = omega arith
-      go (some a) (some r) =
+      go None r = omega arith
+      go (Some a) None = omega arith
+      go (Some a) (Some r) =
           first_few (λ q. is_candidate (sheet rows) q r) (requirements (sheet rows) a.id)
           (all_collect few (requirement_at (sheet rows) a.id) (few_at a.id) (row_count rows))
 

@@ -3,7 +3,7 @@ use Prim.Native.Nat.{ℕ}
 use mathlib.Core.Path.{◌≡◌, refl}
 use mathlib.Core.Bool.{Bool, true, false, false≢true}
 use mathlib.Core.List.{List, [], ◌∷◌, append-nil}
-use mathlib.Core.Option.{Option, none, some}
+use Rattle.std.specs.Prelude.{Option, None, Some}
 use native.Mathlib.Omega.{arith}
 use borrow.Author.Tests.{leb-true, le-leb}
 use lib.IntN.{ℤ, pos, negsuc, ◌-ℤ◌, nat_abs}
@@ -34,12 +34,12 @@ module _ (rows : List ℤ) (acc : Accepted rows) where
     where
       one : (deadline completion : Option ℤ) → early deadline ≡ true → early completion ≡ true
           → all_of (within 4000000000000) (option deadline [] λ d. option completion [] λ c. margin_of TASK (num rows k 1) (d -ℤ c) ∷ []) ≡ true
-      one none completion e f = refl
-      one (some d) none e f = refl
-      one (some (pos d)) (some (pos c)) e f =
+      one None completion e f = refl
+      one (Some d) None e f = refl
+      one (Some (pos d)) (Some (pos c)) e f =
           rw (le-leb (nat_abs (pos d -ℤ pos c)) 4000000000000 (apart d c 4000000000000 (leb-true d 4000000000000 e) (leb-true c 4000000000000 f)))
-      one (some (pos d)) (some (negsuc c)) e f = absurd (false≢true f)
-      one (some (negsuc d)) (some c) e f = absurd (false≢true e)
+      one (Some (pos d)) (Some (negsuc c)) e f = absurd (false≢true f)
+      one (Some (negsuc d)) (Some c) e f = absurd (false≢true e)
 
       go : (b : Bool) → is rows k 0 1 ≡ b → all_of (within 4000000000000) (each (task_margin clock (sheet rows)) (task_at (sheet rows) k)) ≡ true
       go true h =

@@ -3,7 +3,7 @@ use Prim.Native.Nat.{ℕ, ◌*◌, ◌/◌}
 use mathlib.Core.Path.{◌≡◌, refl, sym, ◌∙◌, ap, ap₂}
 use mathlib.Core.Bool.{Bool, true, false}
 use mathlib.Core.List.{List, [], ◌++◌}
-use mathlib.Core.Option.{Option, none, some}
+use Rattle.std.specs.Prelude.{Option, None, Some}
 use native.Mathlib.Omega.{arith}
 use lib.IntN.{ℤ}
 use lib.ListN.{length, take}
@@ -39,8 +39,8 @@ module _ {T : Type 0} (K : Clock T) (s : Sheet T) (nothing-planned : Bare s) whe
   no_task_margin t = rw (no_completion K s nothing-planned t.id) (go t.deadline)
     where
       go : (deadline : Option T) → option {B = List Margin} deadline [] (λ d. []) ≡ []
-      go none = refl
-      go (some d) = refl
+      go None = refl
+      go (Some d) = refl
 
   none_booked : booked_resources s ≡ []
   unfolding booked_resources booked_at each
@@ -61,7 +61,7 @@ same_margins d a b okA okB h = go (far d) refl
 
 -- ---- as calls write them
 
-same_answer : (a b : List ℤ) (room : ℕ) → sheet_refusal a ≡ none → sheet_refusal b ≡ none → margins a ≡ margins b → margins_answer a room ≡ margins_answer b room
+same_answer : (a b : List ℤ) (room : ℕ) → sheet_refusal a ≡ None → sheet_refusal b ≡ None → margins a ≡ margins b → margins_answer a room ≡ margins_answer b room
 unfolding margins_answer margins_refusal
 same_answer a b room p q same = ap₂ answered (same_refusal a b room p q (ap length same)) (ap length same)
 
@@ -84,7 +84,7 @@ same_calls a b same before before' n m p q =
 
 pub margins_slide : MarginsSlide
 margins_slide d a b okA okB h =
-    let in_class_lem : (rows : List ℤ) → sheet_refusal rows ≡ none → InClass rows = λ rows ok. record { columns = (sheet_accepted rows ok).columns } in
+    let in_class_lem : (rows : List ℤ) → sheet_refusal rows ≡ None → InClass rows = λ rows ok. record { columns = (sheet_accepted rows ok).columns } in
     let same : margins a ≡ margins b = same_margins d a b (in_class_lem a okA) (in_class_lem b okB) h in
     record {
       defined = same;

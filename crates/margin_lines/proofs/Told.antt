@@ -3,7 +3,7 @@ use Prim.Native.Nat.{ℕ, ◌^◌, ◌<◌, ◌≤◌}
 use mathlib.Core.Path.{◌≡◌, ap, sym, ◌∙◌}
 use mathlib.Core.Bool.{true}
 use mathlib.Core.List.{List, [], ◌∷◌}
-use mathlib.Core.Option.{none}
+use Rattle.std.specs.Prelude.{None}
 use native.Mathlib.Omega.{arith}
 use lib.IntN.{ℤ, pos, nat_abs, ◌-ℤ◌}
 use lib.Signed.{lt_z}
@@ -79,10 +79,10 @@ module _ (rows : List ℤ) where
   -- ---- of a resource
 
   module _ (x : ℕ) where
-    pub peak_within : {p m : ℕ} {b b' : List ℕ} → Gathered rows x b b' m → p ≡ peak_of lt_z (lent b' m) → refusal_of rows ≡ none → p ≤ 4000000000000
+    pub peak_within : {p m : ℕ} {b b' : List ℕ} → Gathered rows x b b' m → p ≡ peak_of lt_z (lent b' m) → refusal_of rows ≡ None → p ≤ 4000000000000
     peak_within g e a = omega (arith, peak_is rows x g e, peak_most rows (accepted rows a) x)
 
-    pub cap_within : {c : ℤ} → c ≡ cap_of (sheet rows) x → refusal_of rows ≡ none → SFits w64 c → nat_abs (to_z w64 (of_z w64 c)) ≤ 4000000000000
+    pub cap_within : {c : ℤ} → c ≡ cap_of (sheet rows) x → refusal_of rows ≡ None → SFits w64 c → nat_abs (to_z w64 (of_z w64 c)) ≤ 4000000000000
     cap_within e a f = rw (to_z-of_z f) (omega (arith, cap_most rows (accepted rows a) x e))
 
     pub resource_told_lem : (s : Sink) {s' : Sink} {c z : ℤ} {p m : ℕ} {b b' : List ℕ} → s' ≡ emit_margins s (margin_of RESOURCE x (to_z w64 (of_z w64 z)) ∷ [])

@@ -1,6 +1,6 @@
 -- The call `margins`: what it answers for any rows and any lent buffer, and what it leaves in the buffer. Assumes nothing.
 use Rattle.std.specs.Prelude.{ℕ, ◌/◌, ◌≤◌, ◌≡◌, List, ℤ, length}
-use Rattle.std.proofs.Math.Option.{Option}
+use Rattle.std.specs.Prelude.{Option}
 use Rattle.refusals.specs.declared.Answer.{Answer}
 use Rattle.refusals.specs.Refusals.{Refusal}
 use Rattle.refusals.specs.Lending.{answered, lent_after}

@@ -1,7 +1,7 @@
 -- How far margins reach in an accepted sheet: a task's 4,000,000,000,000 on both sides of zero, and Examples shows that it gets there; a resource's never
 -- comes near that. Assumes nothing.
 use Rattle.std.specs.Prelude.{ℕ, ◌≡◌, Bool, true, List, leb, ℤ, nat_abs}
-use Rattle.std.proofs.Math.Option.{none}
+use Rattle.std.specs.Prelude.{None}
 use Rattle.loops.specs.Lists.{all_of, each}
 use Rattle.calendar.specs.Clock.{clock}
 use Rattle.model.specs.Sheet.{sheet}
@@ -21,4 +21,4 @@ pub record Reach (rows : List ℤ) : Type 0 where
   pub resources : all_of (within 801_000_000) (each (resource_margin clock (sheet rows)) (booked_resources (sheet rows))) ≡ true
 
 abbrev pub ReachOfAccepted : Type 0
-ReachOfAccepted = (rows : List ℤ) → sheet_refusal rows ≡ none → Reach rows
+ReachOfAccepted = (rows : List ℤ) → sheet_refusal rows ≡ None → Reach rows

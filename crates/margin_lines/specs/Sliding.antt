@@ -1,7 +1,7 @@
 -- Two accepted sheets, the second being the first with one whole number of milliseconds added to every instant and nothing else changed, have the same
 -- margins: by the definition, and as any two calls write them. Assumes nothing.
 use Rattle.std.specs.Prelude.{ℕ, ◌*◌, ◌/◌, ◌≡◌, List, ℤ, length, take}
-use Rattle.std.proofs.Math.Option.{none}
+use Rattle.std.specs.Prelude.{None}
 use Rattle.shift.specs.Shift.{Shifted}
 use Rattle.refusals.specs.declared.Answer.TheVariants.{Accepted}
 use Rattle.acceptance.specs.Refusals.{sheet_refusal}
@@ -17,4 +17,4 @@ pub record SameMargins (a b : List ℤ) : Type 0 where
       → (n ≡ m) × (take (3 * n) (margins_after a before) ≡ take (3 * m) (margins_after b before'))
 
 abbrev pub MarginsSlide : Type 0
-MarginsSlide = (d : ℤ) (a b : List ℤ) → sheet_refusal a ≡ none → sheet_refusal b ≡ none → Shifted d a b → SameMargins a b
+MarginsSlide = (d : ℤ) (a b : List ℤ) → sheet_refusal a ≡ None → sheet_refusal b ≡ None → Shifted d a b → SameMargins a b

@@ -2,7 +2,7 @@
 #![tactic(auto)]
 
 ghost use Rattle.std.specs.Prelude.{◌≡◌, true, [], ◌∷◌, ◌/◌, ◌<◌, ◌≤◌, pos, ◌-ℤ◌, nat_abs, length};
-ghost use Rattle.std.proofs.Math.Option.{none};
+ghost use Rattle.std.specs.Prelude.{None};
 ghost use Rattle.loops.specs.Lists.{each};
 ghost use Rattle.calendar.specs.Clock.{clock};
 ghost use Rattle.rows.specs.Cells.{is};
@@ -154,7 +154,7 @@ fn write_margins(
     owned: &[u16; 8810],
     out: &mut [i64],
 ) -> Answer
-    requires { Indexed rows.now kinds.now links.now owned.now × (sheet_refusal rows.now ≡ none) }
+    requires { Indexed rows.now kinds.now links.now owned.now × (sheet_refusal rows.now ≡ None) }
     ensures value { result ≡ margins_answer rows.now (length out.old / 3) }
     ensures out_after { out.new ≡ margins_after rows.now out.old }
 {

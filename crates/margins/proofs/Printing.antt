@@ -2,7 +2,7 @@
 use Prim.Native.Nat.{ℕ, ◌/◌, ◌^◌, ◌<◌, ◌≤◌}
 use mathlib.Core.Path.{◌≡◌, refl, sym, ap₂, ◌∙◌}
 use mathlib.Core.List.{List, ◌++◌}
-use mathlib.Core.Option.{Option, none, some}
+use Rattle.std.specs.Prelude.{Option, None, Some}
 use native.Mathlib.Omega.{arith}
 use lib.IntN.{ℤ}
 use lib.ListN.{length, take, drop}
@@ -38,10 +38,10 @@ module _ (rows before : List ℤ) (room : 2400 ≡ length before) {a : Answer} (
   found_by : (o : Option Refusal) {n : ℕ} → margins_refusal rows 800 ≡ o → answered o (length (margins rows)) ≡ Accepted n
       → Found (lent_after o (flat_margins (margins rows)) before) n
   unfolding margins_refusal
-  found_by none {n = n} e q =
+  found_by None {n = n} e q =
       let all : n ≡ length (margins rows) = sym (same_count q) in
       record { all = all; few = omega (arith, had_room rows (length (margins rows)) 800 e); first = refl }
-  found_by (some x) e q = absurd (no_accept q)
+  found_by (Some x) e q = absurd (no_accept q)
 
   found_is : {n : ℕ} → a ≡ Accepted n → Found (lent_after (margins_refusal rows 800) (flat_margins (margins rows)) before) n
   unfolding margins_answer

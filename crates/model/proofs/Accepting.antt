@@ -3,7 +3,7 @@ use Prim.Native.Nat.{ℕ, zero, suc, ◌+◌, ◌*◌, ◌%◌, ◌<◌, ◌≤�
 use mathlib.Core.Path.{◌≡◌, refl, ap, sym, ◌∙◌}
 use mathlib.Core.Bool.{Bool, true, false, not, true≢false}
 use mathlib.Core.List.{List}
-use mathlib.Core.Option.{Option, none, some}
+use Rattle.std.specs.Prelude.{Option, None, Some}
 use native.Mathlib.Omega.{arith}
 use native.Mathlib.Decide.{dec_lt}
 use borrow.Author.Tests.{ltb-false, not-false, eqb-true, eq-eqb, leb-true}
@@ -32,19 +32,19 @@ use Rattle.sheet.proofs.Lookups.{is_num}
 
 record Passed (rows : List ℤ) : Type 0 where
   shape : misshapen (length rows) ≡ false
-  columns : (k : ℕ) → k < row_count rows → column_fault rows k ≡ none
-  owners : (k : ℕ) → k < row_count rows → owner_fault rows k ≡ none
-  repeats : (k : ℕ) → k < row_count rows → repeat_fault rows k ≡ none
+  columns : (k : ℕ) → k < row_count rows → column_fault rows k ≡ None
+  owners : (k : ℕ) → k < row_count rows → owner_fault rows k ≡ None
+  repeats : (k : ℕ) → k < row_count rows → repeat_fault rows k ≡ None
 
-passed : (rows : List ℤ) → refusal_of rows ≡ none → Passed rows
+passed : (rows : List ℤ) → refusal_of rows ≡ None → Passed rows
 unfolding refusal_of
 passed rows h =
     let a : Option Refusal = refuse (misshapen (length rows)) 1 0 in
     let b : Option Refusal = first (column_fault rows) (row_count rows) in
     let d : Option Refusal = first (owner_fault rows) (row_count rows) in
     let e : Option Refusal = first (repeat_fault rows) (row_count rows) in
-    let h₁ : or_else b (or_else d e) ≡ none = or_none_right a (or_else b (or_else d e)) h in
-    let h₂ : or_else d e ≡ none = or_none_right b (or_else d e) h₁ in
+    let h₁ : or_else b (or_else d e) ≡ None = or_none_right a (or_else b (or_else d e)) h in
+    let h₂ : or_else d e ≡ None = or_none_right b (or_else d e) h₁ in
     record {
       shape = if_none (misshapen (length rows)) _ (or_none_left a (or_else b (or_else d e)) h);
       columns = first_none (column_fault rows) (row_count rows) (or_none_left b (or_else d e) h₁);
@@ -115,7 +115,7 @@ module _ (rows : List ℤ) (p : Passed rows) where
   unfolding repeat_fault repeated
   never_again k j h l = any_none (repeats rows k) k j (if_none (repeated rows k) _ (p.repeats k h)) l
 
-pub accepted : (rows : List ℤ) → refusal_of rows ≡ none → Accepted rows
+pub accepted : (rows : List ℤ) → refusal_of rows ≡ None → Accepted rows
 accepted rows e =
     let p = passed rows e in
     record {
@@ -128,7 +128,7 @@ accepted rows e =
     }
 
 -- a row past the last is of no kind
-pub past_kind : (rows : List ℤ) → refusal_of rows ≡ none → (k x : ℕ) → is rows k 0 x ≡ true → 0 < x → k < row_count rows
+pub past_kind : (rows : List ℤ) → refusal_of rows ≡ None → (k x : ℕ) → is rows k 0 x ≡ true → 0 < x → k < row_count rows
 past_kind rows e k x h l = go (dec_lt k (row_count rows))
   where
     go : Dec (k < row_count rows) → k < row_count rows
@@ -187,7 +187,7 @@ module _ (rows : List ℤ) (a : Accepted rows) where
       go (no m) (no n) = omega arith
 
   -- so the lookup of a row's id finds the row
-  pub found_again : (k kind : ℕ) → k < row_count rows → once kind ≡ true → is rows k 0 kind ≡ true → place_of rows kind (num rows k 1) ≡ some k
+  pub found_again : (k kind : ℕ) → k < row_count rows → once kind ≡ true → is rows k 0 kind ≡ true → place_of rows kind (num rows k 1) ≡ Some k
   unfolding place_of named is
   found_again k kind h o e =
       place_only (named rows kind (num rows k 1)) (row_count rows) k h (rw (e, eq-eqb (num rows k 1) (num rows k 1) refl))
@@ -195,8 +195,8 @@ module _ (rows : List ℤ) (a : Accepted rows) where
       (one_row k j kind h l o e (and_left (is rows j 0 kind) (is rows j 1 (num rows k 1)) m)
       (sym (eqb-true (num rows j 1) (num rows k 1) (and_right (is rows j 0 kind) (is rows j 1 (num rows k 1)) m)))))
 
-  pub task_at_lem : (o : ℕ) → o < row_count rows → is rows o 0 1 ≡ true → place_of rows 1 (num rows o 1) ≡ some o
+  pub task_at_lem : (o : ℕ) → o < row_count rows → is rows o 0 1 ≡ true → place_of rows 1 (num rows o 1) ≡ Some o
   task_at_lem o l h = found_again o 1 l refl h
 
-  pub activity_at_lem : (o : ℕ) → o < row_count rows → is rows o 0 2 ≡ true → place_of rows 2 (num rows o 1) ≡ some o
+  pub activity_at_lem : (o : ℕ) → o < row_count rows → is rows o 0 2 ≡ true → place_of rows 2 (num rows o 1) ≡ Some o
   activity_at_lem o l h = found_again o 2 l refl h

@@ -3,7 +3,7 @@ use Prim.Native.Nat.{ℕ, zero, suc}
 use mathlib.Core.Path.{◌≡◌, refl, ap, ap₂, ◌∙◌}
 use mathlib.Core.Bool.{Bool, true, false, ◌&&◌}
 use mathlib.Core.List.{List, [], ◌∷◌, ◌++◌}
-use mathlib.Core.Option.{Option, none, some}
+use Rattle.std.specs.Prelude.{Option, None, Some}
 use lib.Dec.{eqb}
 use lib.IntN.{ℤ}
 use Rattle.loops.specs.Lists.{given, keep, head, option}
@@ -28,16 +28,16 @@ module _ {A : Type 0} where
 
   -- what the first place gives that passes a test
   pub first_placed : (q : ℕ → Bool) (g : ℕ → A) (n : ℕ)
-      → first (λ k. some_if (q k) (g k)) n ≡ option (first_place q n) none (λ k. some (g k))
+      → first (λ k. some_if (q k) (g k)) n ≡ option (first_place q n) None (λ k. Some (g k))
   unfolding first first_place
   first_placed q g zero = refl
   first_placed q g (suc n) = ap (λ x. or_else x (some_if (q n) (g n))) (first_placed q g n) ∙ go (first_place q n) (q n)
     where
       go : (x : Option ℕ) (b : Bool)
-          → or_else (option x none (λ k. some (g k))) (some_if b (g n)) ≡ option (or_else x (some_if b n)) none (λ k. some (g k))
-      go none true = refl
-      go none false = refl
-      go (some k) b = refl
+          → or_else (option x None (λ k. Some (g k))) (some_if b (g n)) ≡ option (or_else x (some_if b n)) None (λ k. Some (g k))
+      go None true = refl
+      go None false = refl
+      go (Some k) b = refl
 
   pub given_head : (b : Bool) (y : A) → head (given b y ++ []) ≡ some_if b y
   given_head true y = refl
@@ -57,7 +57,7 @@ module _ (rows : List ℤ) (x : ℕ) {A : Type 0} (at : ℕ → List A) (g : ℕ
       go true h = rw (h, here k h, keyed k) (given_head (eqb (num rows k 1) id) (g k))
       go false h = rw (h, other k h)
 
-  found : (id n : ℕ) → head (keep (λ a. eqb (key a) id) (collect at n)) ≡ option (first_place (named rows x id) n) none (λ k. some (g k))
+  found : (id n : ℕ) → head (keep (λ a. eqb (key a) id) (collect at n)) ≡ option (first_place (named rows x id) n) None (λ k. Some (g k))
   found id n =
       ap head (keep_collect (λ a. eqb (key a) id) at n)
       ∙ head_collect (λ k. keep (λ a. eqb (key a) id) (at k)) n
@@ -65,20 +65,20 @@ module _ (rows : List ℤ) (x : ℕ) {A : Type 0} (at : ℕ → List A) (g : ℕ
       ∙ first_placed (named rows x id) g n
 
 module _ (rows : List ℤ) (id : ℕ) where
-  pub find_task_lem : find_task (sheet rows) id ≡ option (place_of rows 1 id) none (λ k. some (task_of rows k))
+  pub find_task_lem : find_task (sheet rows) id ≡ option (place_of rows 1 id) None (λ k. Some (task_of rows k))
   unfolding find_task tasks place_of
   find_task_lem = found rows 1 (task_at (sheet rows)) (task_of rows) (λ a. a.id) (task_row rows) (task_none rows) (λ k. refl) id (row_count rows)
 
-  pub find_activity_lem : find_activity (sheet rows) id ≡ option (place_of rows 2 id) none (λ k. some (activity_of rows k))
+  pub find_activity_lem : find_activity (sheet rows) id ≡ option (place_of rows 2 id) None (λ k. Some (activity_of rows k))
   unfolding find_activity activities place_of
   find_activity_lem =
       found rows 2 (activity_at (sheet rows)) (activity_of rows) (λ a. a.id) (activity_row rows) (activity_none rows) (λ k. refl) id (row_count rows)
 
-  pub find_resource_lem : find_resource (sheet rows) id ≡ option (place_of rows 11 id) none (λ k. some (resource_of rows k))
+  pub find_resource_lem : find_resource (sheet rows) id ≡ option (place_of rows 11 id) None (λ k. Some (resource_of rows k))
   unfolding find_resource resources place_of
   find_resource_lem =
       found rows 11 (resource_at (sheet rows)) (resource_of rows) (λ a. a.id) (resource_row rows) (resource_none rows) (λ k. refl) id (row_count rows)
 
 -- a row that was found is found by its own id
-pub found_self : (rows : List ℤ) (x id a : ℕ) → place_of rows x id ≡ some a → place_of rows x (num rows a 1) ≡ some a
+pub found_self : (rows : List ℤ) (x id a : ℕ) → place_of rows x id ≡ Some a → place_of rows x (num rows a 1) ≡ Some a
 found_self rows x id a q = ap (place_of rows x) (placed rows x id a q).id_is ∙ q

@@ -3,7 +3,7 @@ use Prim.Native.Nat.{ℕ}
 use mathlib.Core.Path.{◌≡◌, refl, ap, sym, ◌∙◌}
 use mathlib.Core.Bool.{Bool, true, false, ◌&&◌}
 use mathlib.Core.List.{List}
-use mathlib.Core.Option.{Option, none, some}
+use Rattle.std.specs.Prelude.{Option, None, Some}
 use native.Mathlib.Omega.{arith}
 use native.Mathlib.Decide.{ℕ_discrete}
 use borrow.Author.Tests.{eq-eqb, ne_eqb}
@@ -19,15 +19,15 @@ use Rattle.owners.proofs.Tables.{own_at}
 
 module _ (rows : List ℤ) where
   -- the place that a number stands for is that of the id's row
-  same_place : (y id v a : ℕ) → place_of rows y id ≡ some a → eqb (or_end rows (place_of rows y v)) a ≡ eqb v id
+  same_place : (y id v a : ℕ) → place_of rows y id ≡ Some a → eqb (or_end rows (place_of rows y v)) a ≡ eqb v id
   same_place y id v a q = go (ℕ_discrete v id)
     where
       n : Named rows y id a
       n = placed rows y id a q
 
       apart : (x : Option ℕ) → place_of rows y v ≡ x → (v ≡ id → ⊥) → eqb (or_end rows x) a ≡ false
-      apart none e d = unfold or_end in ne_eqb (row_count rows) a (λ z. omega (arith, n.within))
-      apart (some j) e d =
+      apart None e d = unfold or_end in ne_eqb (row_count rows) a (λ z. omega (arith, n.within))
+      apart (Some j) e d =
           unfold or_end in ne_eqb j a (λ z. d (sym (placed rows y v j e).id_is ∙ ap (λ i. num rows i 1) z ∙ n.id_is))
 
       go : Dec (v ≡ id) → eqb (or_end rows (place_of rows y v)) a ≡ eqb v id
@@ -36,7 +36,7 @@ module _ (rows : List ℤ) where
 
   -- rows of kind x belong to the row of kind y that their column c names
   module _ (x y c : ℕ) (owns : (k : ℕ) → is rows k 0 x ≡ true → own_place rows k ≡ or_end rows (place_of rows y (num rows k c))) where
-    owned_by_lem : (a id : ℕ) → place_of rows y id ≡ some a → (k : ℕ) → owned_by rows a x k ≡ (is rows k 0 x && is rows k c id)
+    owned_by_lem : (a id : ℕ) → place_of rows y id ≡ Some a → (k : ℕ) → owned_by rows a x k ≡ (is rows k 0 x && is rows k c id)
     unfolding owned_by
     owned_by_lem a id q k = go (is rows k 0 x) refl
       where
@@ -48,17 +48,17 @@ module _ (rows : List ℤ) where
   owns_at x y k o e = sym (own_at rows k {kind = x} (sym (is_num rows k 0 x e)) refl y o)
 
   -- rows of an activity: overlap 3, split 4, requirement 5, predecessor 8, speed 9, fixed timing 10, window 16, booking 23, span 24
-  pub of_activity : (x a id : ℕ) → owner_kind x ≡ 2 → place_of rows 2 id ≡ some a → (k : ℕ) → owned_by rows a x k ≡ (is rows k 0 x && is rows k 1 id)
+  pub of_activity : (x a id : ℕ) → owner_kind x ≡ 2 → place_of rows 2 id ≡ Some a → (k : ℕ) → owned_by rows a x k ≡ (is rows k 0 x && is rows k 1 id)
   unfolding owner_of
   of_activity x a id o q k = owned_by_lem x 2 1 (λ j e. owns_at x 2 j o e) a id q k
 
   -- rows of a resource: skill 12, companion 13, transport 14, window 15
-  pub of_resource : (x a id : ℕ) → owner_kind x ≡ 11 → place_of rows 11 id ≡ some a → (k : ℕ) → owned_by rows a x k ≡ (is rows k 0 x && is rows k 1 id)
+  pub of_resource : (x a id : ℕ) → owner_kind x ≡ 11 → place_of rows 11 id ≡ Some a → (k : ℕ) → owned_by rows a x k ≡ (is rows k 0 x && is rows k 1 id)
   unfolding owner_of
   of_resource x a id o q k = owned_by_lem x 11 1 (λ j e. owns_at x 11 j o e) a id q k
 
   -- activities of a task
-  pub of_task : (x a id : ℕ) → owner_kind x ≡ 1 → place_of rows 1 id ≡ some a → (k : ℕ) → owned_by rows a x k ≡ (is rows k 0 x && is rows k 2 id)
+  pub of_task : (x a id : ℕ) → owner_kind x ≡ 1 → place_of rows 1 id ≡ Some a → (k : ℕ) → owned_by rows a x k ≡ (is rows k 0 x && is rows k 2 id)
   unfolding owner_of
   of_task x a id o q k = owned_by_lem x 1 2 (λ j e. owns_at x 1 j o e) a id q k
 
@@ -71,7 +71,7 @@ module _ (rows : List ℤ) where
   unfolding owner_of
   own_resource x k o e = owns_at x 11 k o e
 
-  pub booking_owner : (k o : ℕ) → is rows k 0 23 ≡ true → place_of rows 2 (num rows k 1) ≡ some o → o ≡ own_place rows k
+  pub booking_owner : (k o : ℕ) → is rows k 0 23 ≡ true → place_of rows 2 (num rows k 1) ≡ Some o → o ≡ own_place rows k
   booking_owner k o h e = sym (own_activity 23 k (unfold owner_kind in refl) h ∙ ap (or_end rows) e ∙ (unfold or_end in refl))
 
   pub owned_at : (o x k : ℕ) → is rows k 0 x ≡ true → own_place rows k ≡ o → owned_by rows o x k ≡ true

@@ -3,7 +3,7 @@ use Prim.Native.Nat.{ℕ, zero, suc, ◌+◌, ◌<◌}
 use mathlib.Core.Path.{◌≡◌, refl, ap, ap₂, sym, ◌∙◌}
 use mathlib.Core.Bool.{Bool, true, false, cond, not, ◌&&◌, ◌||◌, true≢false, or-false}
 use mathlib.Core.List.{List, [], ◌∷◌, ◌++◌}
-use mathlib.Core.Option.{Option, none, some}
+use Rattle.std.specs.Prelude.{Option, None, Some}
 use mathlib.Core.Logic.{⊎_elim}
 use native.Mathlib.Omega.{arith}
 use native.Mathlib.Decide.{ℕ_discrete, dec_lt}
@@ -51,7 +51,7 @@ module _ (p : ℕ → Bool) where
       go (no l) (yes m) = let h = count_less k j m b in absurd (omega arith)
       go (no l) (no m) = omega arith
 
-  pub nth_is : (n k m : ℕ) → k < n → p k ≡ true → count_below p k ≡ m → nth_place p m n ≡ some k
+  pub nth_is : (n k m : ℕ) → k < n → p k ≡ true → count_below p k ≡ m → nth_place p m n ≡ Some k
   unfolding nth_place is_nth
   nth_is n k m l e c =
       place_only (is_nth p m) n k l (rw (e, c) (eq-eqb m m refl))
@@ -108,7 +108,7 @@ module _ (rows : List ℤ) where
   requirement_none a k h = rw h
 
   -- the requirements of the activity of row a
-  pub requirement_by : (a : ℕ) → place_of rows 2 (num rows a 1) ≡ some a → (k : ℕ)
+  pub requirement_by : (a : ℕ) → place_of rows 2 (num rows a 1) ≡ Some a → (k : ℕ)
       → requirement_at (sheet rows) (num rows a 1) k ≡ given (owned_by rows a 5 k) (requirement_of rows k)
   requirement_by a q k = rw (of_activity rows 5 a (num rows a 1) (unfold owner_kind in refl) q k) (go (is rows k 0 5) refl)
     where
@@ -128,8 +128,8 @@ module _ (rows : List ℤ) where
 
       -- a place that is found has the number
       apart : (x : Option ℕ) → requirement_place rows i m ≡ x → ((i ≡ num rows q 1) × (m ≡ (requirement_of rows q).place) → ⊥) → eqb (or_end rows x) q ≡ false
-      apart none e d = unfold or_end in ne_eqb (row_count rows) q (λ z. omega arith)
-      apart (some j) e d =
+      apart None e d = unfold or_end in ne_eqb (row_count rows) q (λ z. omega arith)
+      apart (Some j) e d =
           unfold or_end named in
           ne_eqb j q
           (λ z.

@@ -1,6 +1,6 @@
 -- models/activity.rs. What is said of an activity in rows of their own (overlap, split, requirements, timings, predecessors, windows) is found by its id.
 use Rattle.std.specs.Prelude.{ℕ, ◌+◌, Bool, cond, ◌&&◌, List, [], ◌∷◌, ◌++◌, map, eqb, ℤ}
-use Rattle.std.proofs.Math.Option.{Option, none, some}
+use Rattle.std.specs.Prelude.{Option, None, Some}
 use Rattle.std.specs.Float.{binary64}
 use Rattle.std.specs.Float.Ieee.{of_bits}
 use Rattle.loops.specs.Lists.{given, keep, head, count_of, each, option, among, is_empty}
@@ -126,8 +126,8 @@ module _ {T : Type 0} (s : Sheet T) where
 
   -- `piece_of`: the activity whole, or the part where it is split
   unfoldable pub piece_of : Activity T → Option Part → Piece
-  piece_of a none = Whole
-  piece_of a (some p) =
+  piece_of a None = Whole
+  piece_of a (Some p) =
       option (split a.id) Whole (λ x. InPart (part_of p.index p.work a.duration.process_ms x.overhead))
 
   -- `duration_on` of the piece; none where the time is not finite, which an accepted sheet has nowhere

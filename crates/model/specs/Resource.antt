@@ -1,7 +1,7 @@
 -- models/resource.rs. A resource's calendar is the list of its windows: none where it has no calendar, which comes to the same.
 use Rattle.std.specs.Prelude.{ℕ, max, cond, ◌&&◌, eqb, ℤ}
 use mathlib.Core.List.{List, [], ◌∷◌, map, foldl}
-use Rattle.std.proofs.Math.Option.{Option}
+use Rattle.std.specs.Prelude.{Option}
 use Rattle.loops.specs.Lists.{given, head, keep, each, option}
 use Rattle.loops.specs.Range.{collect}
 use Rattle.calendar.specs.Calendar.{Calendar}

@@ -1,7 +1,7 @@
 -- models/schedule.rs: bookings, time-only spans, and the violations that the checks report.
 use Rattle.std.specs.Prelude.{ℕ, cond, eqb, ℤ}
 use mathlib.Core.List.{List, ◌++◌, foldl}
-use Rattle.std.proofs.Math.Option.{Option, none, some}
+use Rattle.std.specs.Prelude.{Option, None, Some}
 use Rattle.loops.specs.Numbers.{to_nat}
 use Rattle.loops.specs.Lists.{given, head, keep, each}
 use Rattle.loops.specs.Range.{collect}
@@ -32,11 +32,11 @@ pub record TimeOnlySpan (T : Type 0) : Type 0 where
 
 -- part index and part work: both or neither in an accepted sheet
 abbrev pub as_part : {T : Type 0} → Cell T → Cell T → Option Part
-as_part (number i) (number w) = some (record { index = i; work = to_nat w })
-as_part (number i) (instant w) = none
-as_part (number i) nothing = none
-as_part (instant i) w = none
-as_part nothing w = none
+as_part (number i) (number w) = Some (record { index = i; work = to_nat w })
+as_part (number i) (instant w) = None
+as_part (number i) nothing = None
+as_part (instant i) w = None
+as_part nothing w = None
 
 module _ {T : Type 0} (s : Sheet T) where
   unfoldable pub assignment_at : ℕ → List (Assignment T)
@@ -77,19 +77,19 @@ module _ {T : Type 0} (s : Sheet T) where
 
 module _ {T : Type 0} (K : Clock T) where
   abbrev pub later_of : Option T → T → Option T
-  later_of none x = some x
-  later_of (some a) x = some (cond (K.before a x) x a)
+  later_of None x = Some x
+  later_of (Some a) x = Some (cond (K.before a x) x a)
 
   abbrev pub earlier_of : Option T → T → Option T
-  earlier_of none x = some x
-  earlier_of (some a) x = some (cond (K.before x a) x a)
+  earlier_of None x = Some x
+  earlier_of (Some a) x = Some (cond (K.before x a) x a)
 
   -- `max` and `min` of some instants
   unfoldable pub latest : List T → Option T
-  latest l = foldl later_of none l
+  latest l = foldl later_of None l
 
   unfoldable pub earliest : List T → Option T
-  earliest l = foldl earlier_of none l
+  earliest l = foldl earlier_of None l
 
 module _ {T : Type 0} (K : Clock T) (s : Sheet T) where
   unfoldable pub task_completion_time : ℕ → Option T

@@ -1,7 +1,7 @@
 -- The typed sheet: each cell read by the class of its column, as an instant, a number, or nothing. All that the checks are defined by is read from it.
 -- T is the type of instants: nothing is known of it but its clock, so that no definition can look at an instant by itself. Assumes nothing.
 use Rattle.std.specs.Prelude.{ℕ, Bool, cond, List, [], ◌∷◌, eqb, ℤ, pos, negsuc}
-use Rattle.std.proofs.Math.Option.{Option, none, some}
+use Rattle.std.specs.Prelude.{Option, None, Some}
 use Rattle.loops.specs.Numbers.{to_nat}
 use Rattle.loops.specs.Range.{collect}
 use Rattle.rows.specs.Class.{Class, blank_c, kind_c, id_c, n_c, u_c, t_c, m_c, g_c, f_c, share_c, speed_c, n?_c, t?_c, m?_c, task_c, activity_c, resource_c, requirement_c, constraint_c}
@@ -65,15 +65,15 @@ module _ {T : Type 0} where
   as_flag x = eqb (as_num x) 1
 
   abbrev pub as_instant : Cell T → Option T
-  as_instant (number x) = none
-  as_instant (instant x) = some x
-  as_instant nothing = none
+  as_instant (number x) = None
+  as_instant (instant x) = Some x
+  as_instant nothing = None
 
   -- what f makes of two instants, where both are there
   abbrev pub with2 : {A : Type 0} → Option T → Option T → (T → T → A) → List A
-  with2 none b f = []
-  with2 (some a) none f = []
-  with2 (some a) (some b) f = f a b ∷ []
+  with2 None b f = []
+  with2 (Some a) None f = []
+  with2 (Some a) (Some b) f = f a b ∷ []
 
 -- ---- rows
 

@@ -1,6 +1,6 @@
 -- models/task.rs.
 use Rattle.std.specs.Prelude.{ℕ, List, [], ◌∷◌, eqb}
-use Rattle.std.proofs.Math.Option.{Option, none, some}
+use Rattle.std.specs.Prelude.{Option, None, Some}
 use Rattle.loops.specs.Lists.{head, keep}
 use Rattle.loops.specs.Numbers.{to_nat}
 use Rattle.loops.specs.Range.{collect}
@@ -26,5 +26,5 @@ module _ {T : Type 0} (s : Sheet T) where
 module _ {T : Type 0} (K : Clock T) where
   -- `tardiness_ms`: how late the completion is, never below 0; 0 without a deadline
   abbrev pub tardiness_ms : T → Option T → ℕ
-  tardiness_ms completion none = 0
-  tardiness_ms completion (some deadline) = to_nat (K.minus completion deadline)
+  tardiness_ms completion None = 0
+  tardiness_ms completion (Some deadline) = to_nat (K.minus completion deadline)

@@ -2,7 +2,7 @@
 use Rattle.loops.specs.Numbers.{to_nat}
 use Rattle.refusals.specs.declared.Answer.{Answer}
 use Rattle.refusals.specs.declared.Answer.TheVariants.{Accepted, Refused}
-use Rattle.std.proofs.Math.Option.{Option, none, some}
+use Rattle.std.specs.Prelude.{Option, None, Some}
 use Rattle.calendar.specs.WorkEnd.{ends_at, pauses, never}
 use Rattle.refusals.specs.Refusals.{Refusal}
 use Rattle.work_end_inquiry.specs.Inquiry as inquiry
@@ -14,8 +14,8 @@ of_answer (Accepted n) = record { number = 0; place = n }
 of_answer (Refused number place) = record { number = number; place = place }
 
 abbrev pub of_refusal : Option Refusal → Outcome
-of_refusal none = record { number = 0; place = 0 }
-of_refusal (some x) = record { number = x.number; place = x.place }
+of_refusal None = record { number = 0; place = 0 }
+of_refusal (Some x) = record { number = x.number; place = x.place }
 
 -- the inquiry's answer as four numbers: a refusal's number and place; or 0, 0, the outcome (0 an end, 1 pause, 2 never) and the instant of an end
 abbrev pub of_inquiry : inquiry.InquiryOutcome → WorkEndOutcome

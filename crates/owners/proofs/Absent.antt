@@ -4,7 +4,7 @@ use Prim.Native.Nat.{ℕ, suc, ◌+◌, ◌<◌, ◌≤◌}
 use mathlib.Core.Path.{◌≡◌, refl, ap, sym, ◌∙◌}
 use mathlib.Core.Bool.{Bool, true, false, not, cond, ◌&&◌, ◌||◌, or-false, or-true, false≢true}
 use mathlib.Core.List.{List, []}
-use mathlib.Core.Option.{Option, none, some}
+use Rattle.std.specs.Prelude.{Option, None, Some}
 use native.Mathlib.Omega.{arith}
 use native.Mathlib.Decide.{ℕ_discrete, dec_lt}
 use lib.Dec.{eqb, ltb, leb}
@@ -98,20 +98,20 @@ agree_at kind l = not-false (agrees kind) (any_none (λ kind. not (agrees kind))
 
 -- ---- a place and the number it stands for
 
-pub end_absent : (rows : List ℤ) (y : Option ℕ) → ((j : ℕ) → y ≡ some j → j < row_count rows) → leb (row_count rows) (or_end rows y) ≡ is_absent y
+pub end_absent : (rows : List ℤ) (y : Option ℕ) → ((j : ℕ) → y ≡ Some j → j < row_count rows) → leb (row_count rows) (or_end rows y) ≡ is_absent y
 unfolding or_end
-end_absent rows none h = le-leb (row_count rows) (row_count rows) (omega arith)
-end_absent rows (some j) h = lt-leb (row_count rows) j (h j refl)
+end_absent rows None h = le-leb (row_count rows) (row_count rows) (omega arith)
+end_absent rows (Some j) h = lt-leb (row_count rows) j (h j refl)
 
-pub end_none : (rows : List ℤ) (y : Option ℕ) → ((j : ℕ) → y ≡ some j → j < row_count rows) → row_count rows ≤ or_end rows y → y ≡ none
+pub end_none : (rows : List ℤ) (y : Option ℕ) → ((j : ℕ) → y ≡ Some j → j < row_count rows) → row_count rows ≤ or_end rows y → y ≡ None
 unfolding or_end
-end_none rows none h l = refl
-end_none rows (some j) h l = absurd (omega (arith, h j refl))
+end_none rows None h l = refl
+end_none rows (Some j) h l = absurd (omega (arith, h j refl))
 
-pub end_some : (rows : List ℤ) (y : Option ℕ) (o : ℕ) → o ≡ or_end rows y → o < row_count rows → y ≡ some o
+pub end_some : (rows : List ℤ) (y : Option ℕ) (o : ℕ) → o ≡ or_end rows y → o < row_count rows → y ≡ Some o
 unfolding or_end
-end_some rows none o e l = absurd (omega arith)
-end_some rows (some j) o e l = ap some (sym e)
+end_some rows None o e l = absurd (omega arith)
+end_some rows (Some j) o e l = ap Some (sym e)
 
 module _ (rows : List ℤ) (k : ℕ) where
   -- only columns 1 and 2 name owners
@@ -203,10 +203,10 @@ module _ (rows : List ℤ) (k : ℕ) where
         place_is : (v : ℕ) → x ≡ v → o ≡ or_end rows (owner_of rows v k)
         place_is v w = p ∙ sym (own_at rows k e q v w)
 
-        gone_is : (v : ℕ) → x ≡ v → n ≤ o → owner_of rows v k ≡ none
+        gone_is : (v : ℕ) → x ≡ v → n ≤ o → owner_of rows v k ≡ None
         gone_is v w m = end_none rows (owner_of rows v k) (owner_within rows v k) (omega (arith, place_is v w))
 
-        there_is : (v : ℕ) → x ≡ v → o < n → owner_of rows v k ≡ some o
+        there_is : (v : ℕ) → x ≡ v → o < n → owner_of rows v k ≡ Some o
         there_is v w m = end_some rows (owner_of rows v k) o (place_is v w) (omega arith)
 
         -- it has none
@@ -224,7 +224,7 @@ module _ (rows : List ℤ) (k : ℕ) where
         pub of_requirement : (r : ℕ) → x ≡ 5 → o < n → r ≡ own_place rows o → leb n r ≡ unowned rows k
         unfolding owner_of named
         of_requirement r w m s =
-            let t : nth_place (named rows 5 (num rows k 1)) (num rows k 2) (row_count rows) ≡ some o = there_is 5 w m in
+            let t : nth_place (named rows 5 (num rows k 1)) (num rows k 2) (row_count rows) ≡ Some o = there_is 5 w m in
             let f = nth_at (named rows 5 (num rows k 1)) (num rows k 2) (row_count rows) o t in
             let a : num rows o 0 ≡ 5 = is_num rows o 0 5 (and_left (is rows o 0 5) (is rows o 1 (num rows k 1)) f.1) in
             let b : num rows o 1 ≡ num rows k 1 = is_num rows o 1 (num rows k 1) (and_right (is rows o 0 5) (is rows o 1 (num rows k 1)) f.1) in
@@ -232,7 +232,7 @@ module _ (rows : List ℤ) (k : ℕ) where
             rw (z, c, end_absent rows (activity_place rows (num rows k 1)) (owner_within rows 2 k))
             (sym (by_requirement w ∙ ap (λ y. is_absent (activity_place rows (num rows k 1)) || is_absent y) (there_is 5 w m) ∙ or-false (is_absent (activity_place rows (num rows k 1)))))
 
-        pub of_constraint : {r : Bool} → x ≡ 17 → o < n → r ≡ has_members rows (some o) → not r ≡ unowned rows k
+        pub of_constraint : {r : Bool} → x ≡ 17 → o < n → r ≡ has_members rows (Some o) → not r ≡ unowned rows k
         of_constraint w m s = ap not s ∙ sym (by_constraint w ∙ ap (λ y. not (has_members rows y)) (there_is 17 w m))
 
         pub found : (x ≡ 5 → ⊥) → (x ≡ 17 → ⊥) → o < n → false ≡ unowned rows k

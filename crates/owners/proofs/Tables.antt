@@ -3,7 +3,7 @@ use Prim.Native.Nat.{ℕ, suc, ◌+◌, ◌*◌, ◌%◌, ◌<◌, ◌≤◌}
 use mathlib.Core.Path.{◌≡◌, refl, sym, ap, ◌∙◌}
 use mathlib.Core.Bool.{Bool, true, false, cond}
 use mathlib.Core.List.{List}
-use mathlib.Core.Option.{Option, none, some}
+use Rattle.std.specs.Prelude.{Option, None, Some}
 use native.Mathlib.Omega.{arith}
 use native.Mathlib.Numerals.{add-one}
 use native.Mathlib.Nat.{le_antisymm}
@@ -30,13 +30,13 @@ use Rattle.owners.specs.inner.Owners.{owner_kind, owner_of, owner_place, own_pla
 -- ---- how large the entries are
 
 -- an owner that is found is a row
-pub owner_within : (rows : List ℤ) (x k j : ℕ) → owner_of rows x k ≡ some j → j < row_count rows
+pub owner_within : (rows : List ℤ) (x k j : ℕ) → owner_of rows x k ≡ Some j → j < row_count rows
 unfolding owner_of
 owner_within rows x k j = go (eqb x 1) (eqb x 2) (eqb x 5) (eqb x 11) (eqb x 17)
   where
     go : (b₁ b₂ b₃ b₄ b₅ : Bool) → cond b₁ (place_of rows 1 (num rows k 2)) (cond b₂ (place_of rows 2 (num rows k 1))
         (cond b₃ (nth_place (named rows 5 (num rows k 1)) (num rows k 2) (row_count rows)) (cond b₄ (place_of rows 11 (num rows k 1))
-        (cond b₅ (nth_place (is_constraint rows) (num rows k 1) (row_count rows)) none)))) ≡ some j → j < row_count rows
+        (cond b₅ (nth_place (is_constraint rows) (num rows k 1) (row_count rows)) None)))) ≡ Some j → j < row_count rows
     go true b₂ b₃ b₄ b₅ e = (placed rows 1 (num rows k 2) j e).within
     go false true b₃ b₄ b₅ e = (placed rows 2 (num rows k 1) j e).within
     go false false true b₄ b₅ e = (nth_at (named rows 5 (num rows k 1)) (num rows k 2) (row_count rows) j e).0
@@ -251,12 +251,12 @@ module _ {q : ℕ → Bool} {n N i seen : ℕ} (l : i < N) (z : N ≡ n) (s : St
   pub nth_fits : n ≤ 800 → Fits w64 (seen + 1)
   nth_fits u = record { fits = omega (arith, counted_le q i e) }
 
-  pub nth_found : {m : ℕ} → first_place (is_nth q m) i ≡ none → seen ≡ m → some i ≡ nth_place q m n
+  pub nth_found : {m : ℕ} → first_place (is_nth q m) i ≡ None → seen ≡ m → Some i ≡ nth_place q m n
   unfolding nth_place
   nth_found f r = seek_hit _ n N i l z f (nth_here _ _ _ e (s.here (omega arith)) r)
 
   pub nth_counted : {j : ℕ} → First q (suc i) n j → seen + 1 ≡ count_below q j
   nth_counted f = count_next _ f (itself _) e (rw (s.here (omega arith)))
 
-  pub nth_passed : {m j : ℕ} → First q (suc i) n j → first_place (is_nth q m) i ≡ none → (seen ≡ m → ⊥) → first_place (is_nth q m) j ≡ none
+  pub nth_passed : {m j : ℕ} → First q (suc i) n j → first_place (is_nth q m) i ≡ None → (seen ≡ m → ⊥) → first_place (is_nth q m) j ≡ None
   nth_passed f g r = seek_next _ f (nth_blind _ (itself _)) g (nth_other _ _ _ e (s.here (omega arith)) r)

@@ -5,7 +5,7 @@ use native.Mathlib.Nat.{mul_comm, mul_assoc, mul_left_comm, mul-add, mul-le-mul,
 use native.Mathlib.Omega.{arith}
 use borrow.Author.Tests.{eq-eqb, ne_eqb, le-leb, lt-leb}
 use mathlib.Core.Bool.{Bool, true, false, cond, ◌&&◌, and-false}
-use mathlib.Core.Option.{none, some}
+use Rattle.std.specs.Prelude.{None, Some}
 use lib.Dec.{leb}
 use Rattle.rounding.specs.declared.Time.{Time}
 use Rattle.rounding.specs.declared.Time.TheVariants.{Ms, TooLarge}
@@ -89,8 +89,8 @@ parts ms work d M W D =
 
 -- ---- what the code works out: no step of it passes 64 bits
 
-pub share_none : (ms work d : ℕ) → d ≡ 0 → ms ≤ 4000000000000 → Ms ms ≡ limited (some (share_of ms work d))
-share_none ms work d e M = limit_within ms (omega arith) ∙ ap (λ (n : ℕ). limited (some n)) (sym (of_none ms work d e))
+pub share_none : (ms work d : ℕ) → d ≡ 0 → ms ≤ 4000000000000 → Ms ms ≡ limited (Some (share_of ms work d))
+share_none ms work d e M = limit_within ms (omega arith) ∙ ap (λ (n : ℕ). limited (Some n)) (sym (of_none ms work d e))
 
 module _ (ms work : ℕ) (M : ms ≤ 4000000000000) (W : work ≤ 4000000000000) where
   pub high_fits : Fits w64 (high_of ms work)
@@ -103,11 +103,11 @@ module _ (ms work d : ℕ) (M : ms ≤ 4000000000000) (W : work ≤ 400000000000
   known : Parts ms work d
   known = parts ms work d M W (omega arith)
 
-  pub share_beyond : 4294967296 ≤ high_of ms work / d → TooLarge ≡ limited (some (share_of ms work d))
+  pub share_beyond : 4294967296 ≤ high_of ms work / d → TooLarge ≡ limited (Some (share_of ms work d))
   share_beyond l = let k = known in limit_beyond (share_of ms work d) (omega arith)
 
-  pub share_is : {r : Time} → r ≡ limited (some (high_of ms work / d * 2097152 + low_of ms work d / d + low_of ms work d % d * 2 / d)) → r ≡ limited (some (share_of ms work d))
-  share_is e = e ∙ ap (λ (n : ℕ). limited (some n)) (sym known.sum)
+  pub share_is : {r : Time} → r ≡ limited (Some (high_of ms work / d * 2097152 + low_of ms work d / d + low_of ms work d % d * 2 / d)) → r ≡ limited (Some (share_of ms work d))
+  share_is e = e ∙ ap (λ (n : ℕ). limited (Some n)) (sym known.sum)
 
   module _ (D : d ≤ 4000000000000) where
     pub rest_fits : Fits w64 (high_of ms work % d * 2097152)
@@ -132,7 +132,7 @@ module _ (ms work d : ℕ) (M : ms ≤ 4000000000000) (W : work ≤ 400000000000
 -- ---- any times
 
 -- none is worked out where a test fails
-refused : (a b c : Bool) (n : ℕ) → (a && (b && c)) ≡ false → TooLarge ≡ limited (cond (a && (b && c)) (some n) none)
+refused : (a b c : Bool) (n : ℕ) → (a && (b && c)) ≡ false → TooLarge ≡ limited (cond (a && (b && c)) (Some n) None)
 unfolding limited
 refused a b c n e = rw e
 
@@ -154,6 +154,6 @@ module _ (ms work whole : ℕ) where
   unfolding share_within
   beyond_whole l = refused (leb ms 4000000000000) (leb work 4000000000000) (leb whole 4000000000000) (share_of ms work whole) (rw (lt-leb whole 4000000000000 l) (last_false (leb ms 4000000000000) (leb work 4000000000000)))
 
-  pub shared : ms ≤ 4000000000000 → work ≤ 4000000000000 → whole ≤ 4000000000000 → some (share_of ms work whole) ≡ share_within ms work whole
+  pub shared : ms ≤ 4000000000000 → work ≤ 4000000000000 → whole ≤ 4000000000000 → Some (share_of ms work whole) ≡ share_within ms work whole
   unfolding share_within
   shared a b c = rw (le-leb ms 4000000000000 a, le-leb work 4000000000000 b, le-leb whole 4000000000000 c)

@@ -2,7 +2,7 @@
 #![tactic(auto)]
 
 ghost use Rattle.std.specs.Prelude.{◌≡◌, ◌≤◌};
-ghost use Rattle.std.proofs.Math.Option.{some};
+ghost use Rattle.std.specs.Prelude.{Some};
 ghost use Rattle.rounding.specs.inner.Limited.{limited};
 ghost use Rattle.part_share.specs.Share.{share_of};
 ghost use Rattle.part_share.specs.inner.Within.{share_within};
@@ -13,7 +13,7 @@ use rounding::Time;
 // what is left at the end, doubled, rounds.
 fn divide(ms: u64, work: u64, whole: u64) -> Time
     requires { (ms ≤ 4000000000000) × (work ≤ 4000000000000) × (whole ≤ 4000000000000) }
-    ensures { result ≡ limited (some (share_of ms work whole)) }
+    ensures { result ≡ limited (Some (share_of ms work whole)) }
 {
     if whole == 0 {
         return Time::Ms(ms);

@@ -3,7 +3,7 @@ use Prim.Native.Nat.{ℕ}
 use mathlib.Core.Path.{◌≡◌, refl, ◌∙◌}
 use mathlib.Core.Bool.{Bool, true, false, cond, ◌&&◌}
 use mathlib.Core.List.{List, [], ◌∷◌, ◌++◌}
-use mathlib.Core.Option.{some}
+use Rattle.std.specs.Prelude.{Some}
 use lib.Dec.{eqb}
 use lib.IntN.{ℤ}
 use Rattle.loops.specs.Lists.{given, keep}
@@ -21,7 +21,7 @@ use Rattle.model.proofs.OwnedLaws.{of_activity}
 use Rattle.pieces.proofs.Companions.{booking}
 
 module _ (rows : List ℤ) where
-  module _ (o : ℕ) (q : place_of rows 2 (num rows o 1) ≡ some o) where
+  module _ (o : ℕ) (q : place_of rows 2 (num rows o 1) ≡ Some o) where
     booked_at_lem : (k : ℕ) → keep (λ a. eqb a.activity (num rows o 1)) (assignment_at (sheet rows) k) ≡ only (owned_by rows o 23) (λ k. booking rows k ∷ []) k
     unfolding only
     booked_at_lem k = rw (of_activity rows 23 o (num rows o 1) (unfold owner_kind in refl) q k) (go (is rows k 0 23) refl)

@@ -2,7 +2,7 @@
 use Prim.Native.Nat.{ℕ, ◌<◌, ◌≤◌}
 use mathlib.Core.Path.{◌≡◌, refl, sym, ap, ap₂, ◌∙◌}
 use mathlib.Core.Bool.{Bool, true, false, not, ◌&&◌, true≢false, and-false, and-true}
-use mathlib.Core.Option.{Option, none, some}
+use Rattle.std.specs.Prelude.{Option, None, Some}
 use mathlib.Core.List.{List}
 use native.Mathlib.Omega.{arith}
 use lib.Dec.{eqb}
@@ -49,7 +49,7 @@ module _ (rows : List ℤ) where
     names_first = is_num rows i 1 a (and_left (is rows i 1 a) (is rows i 2 b) names_rest)
 
   -- the rows of kind x that name a thing of kind y in column 1 belong to its row
-  pub names_blind : (x y o a b : ℕ) → ((i : ℕ) → is rows i 0 x ≡ true → own_place rows i ≡ or_end rows (place_of rows y (num rows i 1))) → some o ≡ place_of rows y a → Blind (owned_by rows o x) (names rows x a b)
+  pub names_blind : (x y o a b : ℕ) → ((i : ℕ) → is rows i 0 x ≡ true → own_place rows i ≡ or_end rows (place_of rows y (num rows i 1))) → Some o ≡ place_of rows y a → Blind (owned_by rows o x) (names rows x a b)
   names_blind x y o a b w p = blind_if _ _ λ i f.
       owned_at rows o x i (names_kind x a b i f)
       (w i (names_kind x a b i f) ∙ ap (λ z. or_end rows (place_of rows y z)) (names_first x a b i f) ∙ ap (or_end rows) (sym p) ∙ (unfold or_end in refl))
@@ -69,7 +69,7 @@ module _ (rows : List ℤ) where
   pub read_is : (j c : ℕ) {v w : ℕ} {r b : Bool} → v ≡ w → r ≡ is rows j c v → r ≡ b → is rows j c w ≡ b
   read_is j c e q h = rw (← e) (sym q ∙ h)
 
-  pub timings_blind : (x o b : ℕ) {a a' : ℕ} → owner_kind x ≡ 2 → a ≡ a' → some o ≡ place_of rows 2 a' → Blind (owned_by rows o x) (names rows x a b)
+  pub timings_blind : (x o b : ℕ) {a a' : ℕ} → owner_kind x ≡ 2 → a ≡ a' → Some o ≡ place_of rows 2 a' → Blind (owned_by rows o x) (names rows x a b)
   timings_blind x o b k e p = rw e (names_blind x 2 o _ b (λ i h. own_activity rows x i k h) p)
 
   -- ---- the bookings of a piece
@@ -106,27 +106,27 @@ module _ (rows : List ℤ) where
 -- ---- a search along a chain
 
 module _ (q : ℕ → Bool) where
-  place_below : (n : ℕ) → any_below q n ≡ false → first_place q n ≡ none
+  place_below : (n : ℕ) → any_below q n ≡ false → first_place q n ≡ None
   place_below n e = go (first_place q n) refl
     where
-      go : (x : Option ℕ) → first_place q n ≡ x → first_place q n ≡ none
-      go none f = f
-      go (some i) f = let g = found_at q n i f in absurd (true≢false (sym g.1 ∙ any_none q n i e g.0))
+      go : (x : Option ℕ) → first_place q n ≡ x → first_place q n ≡ None
+      go None f = f
+      go (Some i) f = let g = found_at q n i f in absurd (true≢false (sym g.1 ∙ any_none q n i e g.0))
 
-  pub found_here : (n i N : ℕ) → i < N → N ≡ n → any_below q i ≡ false → q i ≡ true → some i ≡ first_place q n
+  pub found_here : (n i N : ℕ) → i < N → N ≡ n → any_below q i ≡ false → q i ≡ true → Some i ≡ first_place q n
   found_here n i N l z e h = sym (place_hit q i n (omega arith) (place_below i e) h)
 
-  pub found_none : {p : ℕ → Bool} (n i N : ℕ) → N ≤ i → N ≡ n → Stands p n i → any_below q i ≡ false → none ≡ first_place q n
+  pub found_none : {p : ℕ → Bool} (n i N : ℕ) → N ≤ i → N ≡ n → Stands p n i → any_below q i ≡ false → None ≡ first_place q n
   found_none n i N l z s e = let w : i ≡ n = omega (arith, s.high) in sym (rw w at (place_below i e))
 
-  pub place_never : (n : ℕ) → ((k : ℕ) → k < n → q k ≡ false) → first_place q n ≡ none
+  pub place_never : (n : ℕ) → ((k : ℕ) → k < n → q k ≡ false) → first_place q n ≡ None
   place_never n h = place_below n (none_below q n h)
 
   -- whether there is any, by the search
-  any_found : (n i : ℕ) → some i ≡ first_place q n → true ≡ any_below q n
+  any_found : (n i : ℕ) → Some i ≡ first_place q n → true ≡ any_below q n
   any_found n i e = let f = found_at q n i (sym e) in any_hit q i n n f.0 refl f.1
 
-  none_found : (n : ℕ) → none ≡ first_place q n → false ≡ any_below q n
+  none_found : (n : ℕ) → None ≡ first_place q n → false ≡ any_below q n
   none_found n e = sym (none_below q n (place_none q n (sym e)))
 
 module _ (rows : List ℤ) (x b n : ℕ) {v a : ℕ} {f : Found} (e : v ≡ a) (p : found_of f ≡ first_place (names rows x v b) n) where
@@ -139,11 +139,11 @@ module _ (rows : List ℤ) (x b n : ℕ) {v a : ℕ} {f : Found} (e : v ≡ a) (
 -- ---- rows that name an owner which is not in the sheet: there are none
 
 module _ (rows : List ℤ) (acc : Accepted rows) where
-  pub unnamed : (x y a b : ℕ) → ((i : ℕ) → i < row_count rows → is rows i 0 x ≡ true → is_absent (place_of rows y (num rows i 1)) ≡ false) → none ≡ place_of rows y a
+  pub unnamed : (x y a b : ℕ) → ((i : ℕ) → i < row_count rows → is rows i 0 x ≡ true → is_absent (place_of rows y (num rows i 1)) ≡ false) → None ≡ place_of rows y a
       → (i : ℕ) → i < row_count rows → names rows x a b i ≡ false
   unnamed x y a b w p i m = go (names rows x a b i) refl
     where
-      absent : (z : Option ℕ) → z ≡ none → is_absent z ≡ true
+      absent : (z : Option ℕ) → z ≡ None → is_absent z ≡ true
       absent z e = rw e
 
       go : (z : Bool) → names rows x a b i ≡ z → names rows x a b i ≡ false
@@ -180,7 +180,7 @@ module _ (rows : List ℤ) where
   unfolding same_booking
   sames j i h m = ap₂ ◌&&◌ (ap (λ r. is rows m 3 r) (same_resource j i (unfold same_booking in h))) (pieces_same j i (same_in_piece j i (unfold same_booking in h)) m)
 
-  leads : (j i n : ℕ) → first_place (same_booking rows j) n ≡ some i → first_on rows i ≡ true
+  leads : (j i n : ℕ) → first_place (same_booking rows j) n ≡ Some i → first_on rows i ≡ true
   unfolding first_on
   leads j i n e =
       let f = found_at (same_booking rows j) n i e in
@@ -209,10 +209,10 @@ module _ (rows : List ℤ) where
   firsts_enough k = go (first_place (holds_for rows k) (row_count rows)) refl
     where
       go : (x : Option ℕ) → first_place (holds_for rows k) (row_count rows) ≡ x → any_below (first_holds k) (row_count rows) ≡ any_below (holds_for rows k) (row_count rows)
-      go none e =
+      go None e =
           none_below (first_holds k) (row_count rows) (λ j l. ap (λ b. first_on rows j && b) (place_none (holds_for rows k) (row_count rows) e j l) ∙ and-false (first_on rows j))
           ∙ sym (none_below (holds_for rows k) (row_count rows) (λ j l. place_none (holds_for rows k) (row_count rows) e j l))
-      go (some j) e = at (first_place (same_booking rows j) (row_count rows)) refl
+      go (Some j) e = at (first_place (same_booking rows j) (row_count rows)) refl
         where
           f : (j < row_count rows) × (holds_for rows k j ≡ true)
           f = found_at (holds_for rows k) (row_count rows) j e
@@ -221,8 +221,8 @@ module _ (rows : List ℤ) where
           booked = piece_kind rows k j (holds_piece k j f.1)
 
           at : (x : Option ℕ) → first_place (same_booking rows j) (row_count rows) ≡ x → any_below (first_holds k) (row_count rows) ≡ any_below (holds_for rows k) (row_count rows)
-          at none q = absurd (true≢false (sym (self j booked) ∙ place_none (same_booking rows j) (row_count rows) q j f.0))
-          at (some i) q =
+          at None q = absurd (true≢false (sym (self j booked) ∙ place_none (same_booking rows j) (row_count rows) q j f.0))
+          at (Some i) q =
               let g = found_at (same_booking rows j) (row_count rows) i q in
               sym (any_hit (first_holds k) i (row_count rows) (row_count rows) g.0 refl (ap₂ ◌&&◌ (leads j i (row_count rows) q) (holds_too k j i g.1 f.1)))
               ∙ any_hit (holds_for rows k) j (row_count rows) (row_count rows) f.0 refl f.1

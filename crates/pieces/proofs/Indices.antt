@@ -3,7 +3,7 @@ use Prim.Native.Nat.{ℕ, suc, ◌+◌, ◌-◌, ◌^◌, ◌<◌, ◌≤◌}
 use mathlib.Core.Path.{◌≡◌, refl, sym, ap₂, ◌∙◌}
 use mathlib.Core.Bool.{Bool, beq, true, false, cond, not, ◌&&◌, true≢false, false≢true}
 use mathlib.Core.List.{List}
-use mathlib.Core.Option.{Option, none, some}
+use Rattle.std.specs.Prelude.{Option, None, Some}
 use native.Mathlib.Omega.{arith}
 use native.Mathlib.Decide.{dec_lt}
 use lib.Dec.{eqb, ltb, leb, T}
@@ -119,7 +119,7 @@ key_read rows k q f e = rw (to_z-of_z f, q) at e
 
 -- the index that a column n? holds
 abbrev pub index_in : ℤ → Option ℤ
-index_in x = cond (is_none x) none (some x)
+index_in x = cond (is_none x) None (Some x)
 
 agree : (a b c d : ℕ) → (a < b → c < d) → (b ≤ a → d ≤ c) → ltb a b ≡ ltb c d
 agree a b c d f g = go (dec_lt a b)
@@ -174,7 +174,7 @@ pub before_key : (x y : ℤ) → in_class n?_c x ≡ true → in_class n?_c y �
     → before_index (index_in x) (index_in y) ≡ ltb (index_key x) (index_key y)
 before_key x y f g = go (is_none x) (is_none y) refl refl
   where
-    go : (a b : Bool) → is_none x ≡ a → is_none y ≡ b → before_index (cond a none (some x)) (cond b none (some y)) ≡ ltb (index_key x) (index_key y)
+    go : (a b : Bool) → is_none x ≡ a → is_none y ≡ b → before_index (cond a None (Some x)) (cond b None (Some y)) ≡ ltb (index_key x) (index_key y)
     go true true p q = rw (none_key x p, none_key y q)
     go true false p q = rw (none_key x p) (sym (lt-ltb 0 (index_key y) (ranged_some y (ranged y g q))))
     go false true p q = rw (none_key y q) (sym (le-ltb (index_key x) 0 (omega arith)))
@@ -189,7 +189,7 @@ same_key x y f g = ap₂ (λ a b. not a && not b) (before_key x y f g) (before_k
 pub index_in_lem : (x w : ℤ) → beq (is_none x) (is_none w) ≡ true → index_of (as_part {T = ℤ} (cond (is_none x) nothing (number x)) (cond (is_none w) nothing (number w))) ≡ index_in x
 index_in_lem x w e = go (is_none x) (is_none w) e
   where
-    go : (a b : Bool) → beq a b ≡ true → index_of (as_part {T = ℤ} (cond a nothing (number x)) (cond b nothing (number w))) ≡ cond a none (some x)
+    go : (a b : Bool) → beq a b ≡ true → index_of (as_part {T = ℤ} (cond a nothing (number x)) (cond b nothing (number w))) ≡ cond a None (Some x)
     go true b e = refl
     go false true e = absurd (true≢false (sym e))
     go false false e = refl

@@ -2,7 +2,7 @@
 use Prim.Native.Nat.{ℕ, ◌*◌}
 use mathlib.Core.Path.{◌≡◌, refl, sym, ap, ◌∙◌}
 use mathlib.Core.List.{List}
-use mathlib.Core.Option.{Option, none, some}
+use Rattle.std.specs.Prelude.{Option, None, Some}
 use native.Mathlib.Omega.{arith}
 use lib.IntN.{ℤ}
 use lib.ListN.{length, take}
@@ -19,19 +19,19 @@ same_count e = cc
 
 -- ---- of a call that accepted
 
-pub unrefused : (o : Option Refusal) (count : ℕ) {n : ℕ} → answered o count ≡ Accepted n → o ≡ none
-unrefused none count e = refl
-unrefused (some x) count e = absurd (no_accept e)
+pub unrefused : (o : Option Refusal) (count : ℕ) {n : ℕ} → answered o count ≡ Accepted n → o ≡ None
+unrefused None count e = refl
+unrefused (Some x) count e = absurd (no_accept e)
 
 pub accepted_count : (o : Option Refusal) (count : ℕ) {n : ℕ} → answered o count ≡ Accepted n → n ≡ count
-accepted_count none count e = sym (same_count e)
-accepted_count (some x) count e = absurd (no_accept e)
+accepted_count None count e = sym (same_count e)
+accepted_count (Some x) count e = absurd (no_accept e)
 
 -- the buffer begins with the numbers
 pub lent_first : (o : Option Refusal) (numbers before : List ℤ) (count : ℕ) {n : ℕ} → answered o count ≡ Accepted n
     → take (length numbers) (lent_after o numbers before) ≡ numbers
-lent_first none numbers before count e = take_at numbers _ (length numbers) refl
-lent_first (some x) numbers before count e = absurd (no_accept e)
+lent_first None numbers before count e = take_at numbers _ (length numbers) refl
+lent_first (Some x) numbers before count e = absurd (no_accept e)
 
 -- these are as many lines of w numbers as it counted
 pub accepted_lines : (w : ℕ) (o : Option Refusal) (numbers before : List ℤ) {count n : ℕ} → length numbers ≡ w * count → answered o count ≡ Accepted n

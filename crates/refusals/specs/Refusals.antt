@@ -1,7 +1,7 @@
 -- How a call refuses: with a number and a place, that of a row or a line, counted from 0. The numbers bear the trade's words; docs/RULES.md says when each
 -- is given, and the pages that define the calls in what order. Each request adds its own numbers here. Assumes nothing.
 use Rattle.std.specs.Prelude.{ℕ, Bool}
-use Rattle.std.proofs.Math.Option.{Option, none, some}
+use Rattle.std.specs.Prelude.{Option, None, Some}
 use Rattle.loops.specs.Search.{some_if}
 use Rattle.refusals.specs.declared.Verdict.{Verdict}
 use Rattle.refusals.specs.declared.Verdict.TheVariants.{Fine, Refused}
@@ -60,5 +60,5 @@ refuse test number place = some_if test (record { number = number; place = place
 
 -- what a verdict says
 abbrev pub verdict_of : Verdict → Option Refusal
-verdict_of Fine = none
-verdict_of (Refused number place) = some (record { number = number; place = place })
+verdict_of Fine = None
+verdict_of (Refused number place) = Some (record { number = number; place = place })

@@ -1,7 +1,7 @@
 -- Worked examples of the definitions of derived times, by computation. Assumes nothing.
 use mathlib.Core.Path.{◌≡◌, refl}
 use mathlib.Core.List.{[], ◌∷◌}
-use mathlib.Core.Option.{some}
+use Rattle.std.specs.Prelude.{Some}
 use Prim.Native.Nat.{ℕ}
 use lib.ListN.{replicate}
 use lib.IntN.{pos, negsuc}
@@ -26,7 +26,7 @@ ms setup process teardown = record { setup_ms = setup; process_ms = process; tea
 
 -- A: process 5 at speed 2.0 is 3. B: the share of 100, work 1, whole 3 is 33. C: of 5, work 1, whole 2 it is 3.
 pub examples :
-    (timed_duration (ms 0 5 0) (Speed (of_bits binary64 0x4000_0000_0000_0000) ∷ []) ≡ some (ms 0 3 0))
+    (timed_duration (ms 0 5 0) (Speed (of_bits binary64 0x4000_0000_0000_0000) ∷ []) ≡ Some (ms 0 3 0))
     × (share_of 100 1 3 ≡ 33)
     × (share_of 5 1 2 ≡ 3)
 unfolding timed_duration at_speed divided_by rounded half_up of_int div mul eq of_bits share_of
@@ -52,16 +52,16 @@ run_out = (refl, refl, refl, refl)
 -- Each product is rounded before the next speed, so the order shows: process 1 at 0.1, 0.8 and 5.0, in booking order, is 2, as the
 -- product is above 0.4; with the last booking first it is 3, as the product is 0.4 itself.
 pub order :
-    (timed_duration (ms 0 1 0) (Speed (of_bits binary64 0x3fb9_9999_9999_999a) ∷ Speed (of_bits binary64 0x3fe9_9999_9999_999a) ∷ Speed (of_bits binary64 0x4014_0000_0000_0000) ∷ []) ≡ some (ms 0 2 0))
-    × (timed_duration (ms 0 1 0) (Speed (of_bits binary64 0x4014_0000_0000_0000) ∷ Speed (of_bits binary64 0x3fe9_9999_9999_999a) ∷ Speed (of_bits binary64 0x3fb9_9999_9999_999a) ∷ []) ≡ some (ms 0 3 0))
+    (timed_duration (ms 0 1 0) (Speed (of_bits binary64 0x3fb9_9999_9999_999a) ∷ Speed (of_bits binary64 0x3fe9_9999_9999_999a) ∷ Speed (of_bits binary64 0x4014_0000_0000_0000) ∷ []) ≡ Some (ms 0 2 0))
+    × (timed_duration (ms 0 1 0) (Speed (of_bits binary64 0x4014_0000_0000_0000) ∷ Speed (of_bits binary64 0x3fe9_9999_9999_999a) ∷ Speed (of_bits binary64 0x3fb9_9999_9999_999a) ∷ []) ≡ Some (ms 0 3 0))
 unfolding timed_duration at_speed divided_by rounded half_up of_int div mul eq of_bits
 order = (refl, refl)
 
 -- the largest total, the earliest among equals, whatever the speeds
 pub fixed :
-    (timed_duration (ms 9 9 9) (Speed slowest ∷ Duration (ms 1 2 3) ∷ Duration (ms 3 2 1) ∷ []) ≡ some (ms 1 2 3))
-    × (timed_duration (ms 9 9 9) (Duration (ms 3 2 1) ∷ Duration (ms 1 2 3) ∷ Speed slowest ∷ []) ≡ some (ms 3 2 1))
-    × (timed_duration (ms 9 9 9) (Duration (ms 3 2 1) ∷ Duration (ms 0 7 0) ∷ []) ≡ some (ms 0 7 0))
+    (timed_duration (ms 9 9 9) (Speed slowest ∷ Duration (ms 1 2 3) ∷ Duration (ms 3 2 1) ∷ []) ≡ Some (ms 1 2 3))
+    × (timed_duration (ms 9 9 9) (Duration (ms 3 2 1) ∷ Duration (ms 1 2 3) ∷ Speed slowest ∷ []) ≡ Some (ms 3 2 1))
+    × (timed_duration (ms 9 9 9) (Duration (ms 3 2 1) ∷ Duration (ms 0 7 0) ∷ []) ≡ Some (ms 0 7 0))
 unfolding timed_duration
 fixed = (refl, refl, refl)
 
@@ -71,8 +71,8 @@ pub parts :
     × (piece_duration (InPart (part_of (pos 1) 4 10 5)) (ms 1 10 2) ≡ ms 1 4 7)
     × (piece_duration (InPart (part_of (negsuc 0) 4 10 5)) (ms 1 10 2) ≡ ms 1 4 2)
     × (piece_fixed (InPart (part_of (pos 1) 4 10 5)) (ms 3 20 4) ≡ ms 3 8 9)
-    × (within (some (piece_fixed (InPart (part_of (pos 0) 8192 1 0)) (ms 8191 1099511627775 0))) ≡ Within (ms 8191 9007199254732800 0))
-    × (within (some (piece_fixed (InPart (part_of (pos 0) 8192 1 0)) (ms 8192 1099511627775 0))) ≡ TooLarge)
-    × (within (some (piece_fixed (InPart (part_of (pos 0) 4000000000000 1 0)) (ms 0 4000000000000 0))) ≡ TooLarge)
+    × (within (Some (piece_fixed (InPart (part_of (pos 0) 8192 1 0)) (ms 8191 1099511627775 0))) ≡ Within (ms 8191 9007199254732800 0))
+    × (within (Some (piece_fixed (InPart (part_of (pos 0) 8192 1 0)) (ms 8192 1099511627775 0))) ≡ TooLarge)
+    × (within (Some (piece_fixed (InPart (part_of (pos 0) 4000000000000 1 0)) (ms 0 4000000000000 0))) ≡ TooLarge)
 unfolding within share_of
 parts = (refl, refl, refl, refl, refl, refl, refl)

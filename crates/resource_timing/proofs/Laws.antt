@@ -9,7 +9,7 @@ use Prim.Native.Nat.{ℕ, ◌+◌, ◌^◌, ◌≤◌, ◌<◌}
 use native.Mathlib.Omega.{arith}
 use native.Mathlib.Decide.{dec_lt}
 use mathlib.Core.Bool.{Bool, true, false, cond}
-use mathlib.Core.Option.{Option, none, some}
+use Rattle.std.specs.Prelude.{Option, None, Some}
 use lib.Dec.{ltb}
 use lib.Ieee.{Float, binary64, mul, eq}
 use borrow.Author.Tests.{lt-ltb, le-ltb, ltb-true}
@@ -38,12 +38,12 @@ use Rattle.resource_timing.specs.inner.Limits.{within, standing, timed_of, time_
 
 -- ---- `within` goes by the total
 
-within_beyond : (d : ActivityDuration) → 2 ^ 53 ≤ total_ms d → TooLarge ≡ within (some d)
+within_beyond : (d : ActivityDuration) → 2 ^ 53 ≤ total_ms d → TooLarge ≡ within (Some d)
 unfolding within
 within_beyond d h = rw (le-ltb (total_ms d) (2 ^ 53) h)
 
 -- a time that was worked out is t, which the code tells apart
-pub within_ms : (d : ActivityDuration) {n : ℕ} {t : Time} → t ≡ limited (some (total_ms d)) → t ≡ time.Ms n → Within d ≡ within (some d)
+pub within_ms : (d : ActivityDuration) {n : ℕ} {t : Time} → t ≡ limited (Some (total_ms d)) → t ≡ time.Ms n → Within d ≡ within (Some d)
 unfolding within limited
 within_ms d {n} e f = go (ltb (total_ms d) (2 ^ 53)) (sym f ∙ e)
   where
@@ -51,15 +51,15 @@ within_ms d {n} e f = go (ltb (total_ms d) (2 ^ 53)) (sym f ∙ e)
     go true h = refl
     go false h = absurd (let z : ◌≡◌ {A = ℕ} 0 1 = cc in omega arith)
 
-pub within_large : (d : ActivityDuration) {t : Time} → t ≡ limited (some (total_ms d)) → t ≡ time.TooLarge → TooLarge ≡ within (some d)
+pub within_large : (d : ActivityDuration) {t : Time} → t ≡ limited (Some (total_ms d)) → t ≡ time.TooLarge → TooLarge ≡ within (Some d)
 within_large d e f = within_beyond d (limited_large (total_ms d) (sym f ∙ e))
 
-pub time_told : (d : ActivityDuration) {x : Derived} {t : Time} → x ≡ Within d → t ≡ limited (some (total_ms d)) → t ≡ time_of x
+pub time_told : (d : ActivityDuration) {x : Derived} {t : Time} → x ≡ Within d → t ≡ limited (Some (total_ms d)) → t ≡ time_of x
 unfolding time_of
 time_told d e h = rw e h
 
 -- the total of a duration so known
-time_within : (d : ActivityDuration) → time_of (within (some d)) ≡ limited (some (total_ms d))
+time_within : (d : ActivityDuration) → time_of (within (Some d)) ≡ limited (Some (total_ms d))
 unfolding within time_of limited
 time_within d = go (ltb (total_ms d) (2 ^ 53)) refl
   where
@@ -90,33 +90,33 @@ pub with_longer : {x : Fixed} {f r : Derived} (d : Derived) → x ≡ Standing f
 with_longer d e h = rw e (ap Standing h)
 
 module _ (f d : ActivityDuration) where
-  longer_first : 2 ^ 53 ≤ total_ms f → TooLarge ≡ within (some (longest (some f) d))
+  longer_first : 2 ^ 53 ≤ total_ms f → TooLarge ≡ within (Some (longest (Some f) d))
   longer_first h = go (ltb (total_ms f) (total_ms d)) (ltb-true (total_ms f) (total_ms d))
     where
-      go : (b : Bool) → (b ≡ true → total_ms f < total_ms d) → TooLarge ≡ within (some (cond b d f))
+      go : (b : Bool) → (b ≡ true → total_ms f < total_ms d) → TooLarge ≡ within (Some (cond b d f))
       go true k = let l = k refl in within_beyond d (omega arith)
       go false k = within_beyond f h
 
-  longer_next : total_ms f < 2 ^ 53 → 2 ^ 53 ≤ total_ms d → TooLarge ≡ within (some (longest (some f) d))
+  longer_next : total_ms f < 2 ^ 53 → 2 ^ 53 ≤ total_ms d → TooLarge ≡ within (Some (longest (Some f) d))
   longer_next h k = rw (lt-ltb (total_ms f) (total_ms d) (omega arith)) (within_beyond d k)
 
   -- of two durations so known
-  longer_known : longer_of (within (some f)) (within (some d)) ≡ within (some (longest (some f) d))
+  longer_known : longer_of (within (Some f)) (within (Some d)) ≡ within (Some (longest (Some f) d))
   unfolding longer_of
   longer_known = rw (time_within f, time_within d) (go (dec_lt (total_ms f) (2 ^ 53)) (dec_lt (total_ms d) (2 ^ 53)))
     where
-      pick : (b : Bool) → cond b (within (some d)) (within (some f)) ≡ within (some (cond b d f))
+      pick : (b : Bool) → cond b (within (Some d)) (within (Some f)) ≡ within (Some (cond b d f))
       pick true = refl
       pick false = refl
 
-      below : (x : ActivityDuration) → total_ms x < 2 ^ 53 → limited (some (total_ms x)) ≡ time.Ms (total_ms x)
+      below : (x : ActivityDuration) → total_ms x < 2 ^ 53 → limited (Some (total_ms x)) ≡ time.Ms (total_ms x)
       below x h = unfold limited in (rw (lt-ltb (total_ms x) (2 ^ 53) h))
 
-      beyond : (x : ActivityDuration) → 2 ^ 53 ≤ total_ms x → limited (some (total_ms x)) ≡ time.TooLarge
+      beyond : (x : ActivityDuration) → 2 ^ 53 ≤ total_ms x → limited (Some (total_ms x)) ≡ time.TooLarge
       beyond x h = unfold limited in (rw (le-ltb (total_ms x) (2 ^ 53) h))
 
       go : Dec (total_ms f < 2 ^ 53) → Dec (total_ms d < 2 ^ 53)
-          → longer_by (limited (some (total_ms f))) (limited (some (total_ms d))) (within (some f)) (within (some d)) ≡ within (some (longest (some f) d))
+          → longer_by (limited (Some (total_ms f))) (limited (Some (total_ms d))) (within (Some f)) (within (Some d)) ≡ within (Some (longest (Some f) d))
       go (no h) k = rw (beyond f (omega arith)) (longer_first (omega arith))
       go (yes h) (no k) = rw (below f h, beyond d (omega arith)) (longer_next h (omega arith))
       go (yes h) (yes k) = rw (below f h, below d k) (pick (ltb (total_ms f) (total_ms d)))
@@ -124,13 +124,13 @@ module _ (f d : ActivityDuration) where
 -- ---- what is known so far, with one resource more, and at the end
 
 -- of amounts of a sheet the share is worked out
-fixed_in_lem : (piece : Piece) (d : ActivityDuration) → PieceAmounts piece → Amount d.process_ms → fixed_in piece d ≡ some (piece_fixed piece d)
+fixed_in_lem : (piece : Piece) (d : ActivityDuration) → PieceAmounts piece → Amount d.process_ms → fixed_in piece d ≡ Some (piece_fixed piece d)
 fixed_in_lem Whole d a b = refl
-fixed_in_lem (InPart p) d a b = ap (λ o. option o none (λ n. some (in_part d n p))) (sym (shared d.process_ms p.work_ms p.whole_ms b a.0 a.1))
+fixed_in_lem (InPart p) d a b = ap (λ o. option o None (λ n. Some (in_part d n p))) (sym (shared d.process_ms p.work_ms p.whole_ms b a.0 a.1))
 
-fixed_known : (o : Option ActivityDuration) (e : ActivityDuration) → fixed_with (standing o) (within (some e)) ≡ standing (some (longest o e))
-fixed_known none e = refl
-fixed_known (some f) e = ap Standing (longer_known f e)
+fixed_known : (o : Option ActivityDuration) (e : ActivityDuration) → fixed_with (standing o) (within (Some e)) ≡ standing (Some (longest o e))
+fixed_known None e = refl
+fixed_known (Some f) e = ap Standing (longer_known f e)
 
 pub timed_known : (f : TimedSoFar) (piece : Piece) (timing : ResourceTiming) → PieceAmounts piece → TimingAmounts timing
     → timed_with (timed_of f) piece timing ≡ timed_of (timed_on f (piece_timing piece timing))
@@ -144,8 +144,8 @@ pub derived_known : (f : TimedSoFar) (base : ActivityDuration) → derived_of (t
 derived_known f base = go f.fixed
   where
     go : (o : Option ActivityDuration) → fixed_or (standing o) (within (at_speed base f.speed)) ≡ within (or_else o (at_speed base f.speed))
-    go none = refl
-    go (some d) = refl
+    go None = refl
+    go (Some d) = refl
 
 pub on_speed : (t : Timed) (piece : Piece) {x : ResourceTiming} {s : Float} → x ≡ Speed s → ◌≡◌ {A = Timed} (record { speed = mul binary64 t.speed s; fixed = t.fixed }) (timed_with t piece x)
 unfolding timed_with
@@ -160,12 +160,12 @@ pub no_fixed : {x : Fixed} {r d : Derived} → x ≡ Nothing → r ≡ d → r �
 no_fixed e h = rw e h
 
 -- ---- at a speed
-pub at_one : (base : ActivityDuration) (s : Float) {r : Derived} → r ≡ within (some base) → eq s speed1 ≡ true → r ≡ within (at_speed base s)
+pub at_one : (base : ActivityDuration) (s : Float) {r : Derived} → r ≡ within (Some base) → eq s speed1 ≡ true → r ≡ within (at_speed base s)
 unfolding at_speed
 at_one base s h e = rw e h
 
 pub at_other : (base : ActivityDuration) (s : Float) {n : ℕ} {t : Time} {r : Derived}
-    → r ≡ within (some (record { setup_ms = base.setup_ms; process_ms = n; teardown_ms = base.teardown_ms })) → t ≡ limited (divided_by base.process_ms s)
+    → r ≡ within (Some (record { setup_ms = base.setup_ms; process_ms = n; teardown_ms = base.teardown_ms })) → t ≡ limited (divided_by base.process_ms s)
     → t ≡ time.Ms n → eq s speed1 ≡ false → r ≡ within (at_speed base s)
 unfolding at_speed
 at_other base s {n} g h f e = g ∙ rw (e, limited_ms (divided_by base.process_ms s) n (sym f ∙ h))
@@ -175,9 +175,9 @@ unfolding at_speed
 at_large base s h f e = rw e (go (divided_by base.process_ms s) (sym f ∙ h))
   where
     go : (o : Option ℕ) → time.TooLarge ≡ limited o
-        → TooLarge ≡ within (option o none λ n. some (record { setup_ms = base.setup_ms; process_ms = n; teardown_ms = base.teardown_ms }))
-    go none k = unfold within in refl
-    go (some n) k = let l = limited_large n k in within_beyond _ (omega arith)
+        → TooLarge ≡ within (option o None λ n. Some (record { setup_ms = base.setup_ms; process_ms = n; teardown_ms = base.teardown_ms }))
+    go None k = unfold within in refl
+    go (Some n) k = let l = limited_large n k in within_beyond _ (omega arith)
 
 -- a teardown of 2^53 or more
 at_beyond : (base : ActivityDuration) (s : Float) → 2 ^ 53 ≤ base.teardown_ms → TooLarge ≡ within (at_speed base s)
@@ -185,10 +185,10 @@ unfolding at_speed
 at_beyond base s h = go (eq s speed1) (divided_by base.process_ms s)
   where
     go : (b : Bool) (o : Option ℕ)
-        → TooLarge ≡ within (cond b (some base) (option o none λ n. some (record { setup_ms = base.setup_ms; process_ms = n; teardown_ms = base.teardown_ms })))
+        → TooLarge ≡ within (cond b (Some base) (option o None λ n. Some (record { setup_ms = base.setup_ms; process_ms = n; teardown_ms = base.teardown_ms })))
     go true o = within_beyond base (omega arith)
-    go false none = unfold within in refl
-    go false (some n) = within_beyond _ (omega arith)
+    go false None = unfold within in refl
+    go false (Some n) = within_beyond _ (omega arith)
 
 -- ---- a resource's own duration in a part
 module _ (d : ActivityDuration) (p : PartTimes) where
@@ -196,14 +196,14 @@ module _ (d : ActivityDuration) (p : PartTimes) where
   share = share_within d.process_ms p.work_ms p.whole_ms
 
   pub fixed_ms : {n : ℕ} {t : Time} {r : Derived} (s : Float) → r ≡ within (at_speed (in_part d n p) s) → t ≡ limited share → t ≡ time.Ms n → eq s speed1 ≡ true → r ≡ within (fixed_in (InPart p) d)
-  fixed_ms {n} s g h f e = g ∙ sym (at_one (in_part d n p) s refl e) ∙ ap (λ o. within (option o none (λ n. some (in_part d n p)))) (sym (limited_ms share n (sym f ∙ h)))
+  fixed_ms {n} s g h f e = g ∙ sym (at_one (in_part d n p) s refl e) ∙ ap (λ o. within (option o None (λ n. Some (in_part d n p)))) (sym (limited_ms share n (sym f ∙ h)))
 
   pub fixed_large : {t : Time} → t ≡ limited share → t ≡ time.TooLarge → TooLarge ≡ within (fixed_in (InPart p) d)
   fixed_large h f = go share (sym f ∙ h)
     where
-      go : (o : Option ℕ) → time.TooLarge ≡ limited o → TooLarge ≡ within (option o none (λ n. some (in_part d n p)))
-      go none k = unfold within in refl
-      go (some n) k = let l = limited_large n k in within_beyond _ (omega arith)
+      go : (o : Option ℕ) → time.TooLarge ≡ limited o → TooLarge ≡ within (option o None (λ n. Some (in_part d n p)))
+      go None k = unfold within in refl
+      go (Some n) k = let l = limited_large n k in within_beyond _ (omega arith)
 
 -- ---- a part
 module _ (index : ℤ) {work whole : ℕ} (overhead : ℕ) (s : SFits w64 index) where
@@ -215,7 +215,7 @@ module _ (index : ℤ) {work whole : ℕ} (overhead : ℕ) (s : SFits w64 index)
       → ◌≡◌ {A = PartTimes} (record { work_ms = work; whole_ms = whole; overhead_ms = 0 }) (part_of index work whole overhead)
   part_first e = rw (rw (to_z-of_z s) at e)
 
-module _ (d : ActivityDuration) (process : ℕ) (p : PartTimes) (s : Float) {t : Time} (h : t ≡ limited (some (d.teardown_ms + p.overhead_ms))) where
+module _ (d : ActivityDuration) (process : ℕ) (p : PartTimes) (s : Float) {t : Time} (h : t ≡ limited (Some (d.teardown_ms + p.overhead_ms))) where
   pub part_at : {n : ℕ} {r : Derived} → t ≡ time.Ms n
       → r ≡ within (at_speed (record { setup_ms = d.setup_ms; process_ms = process; teardown_ms = n }) s) → r ≡ within (at_speed (in_part d process p) s)
   part_at {n} f g = rw (limited_below (d.teardown_ms + p.overhead_ms) n (sym f ∙ h)).0 at g
@@ -231,7 +231,7 @@ module _ {x : Piece} {r : Derived} where
   pub in_part_at : (base : ActivityDuration) (s : Float) {p : PartTimes} → x ≡ InPart p → r ≡ within (at_speed (in_part base p.work_ms p) s) → r ≡ within (at_speed (piece_duration x base) s)
   in_part_at base s e h = rw e h
 
-  pub whole_fixed : (d : ActivityDuration) → x ≡ Whole → r ≡ within (some d) → r ≡ within (fixed_in x d)
+  pub whole_fixed : (d : ActivityDuration) → x ≡ Whole → r ≡ within (Some d) → r ≡ within (fixed_in x d)
   whole_fixed d e h = rw e h
 
   pub in_part_fixed : (d : ActivityDuration) {p : PartTimes} → x ≡ InPart p → r ≡ within (fixed_in (InPart p) d) → r ≡ within (fixed_in x d)

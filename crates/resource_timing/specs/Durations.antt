@@ -1,7 +1,7 @@
 -- The time of a piece on the resources that it runs on, as activity.rs has it, with exact sums. Assumes nothing.
 use Rattle.std.specs.Prelude.{ℕ, ◌+◌, false, cond, ltb, ℤ, pos, Float}
 use mathlib.Core.List.{List, foldl}
-use Rattle.std.proofs.Math.Option.{Option, none, some}
+use Rattle.std.specs.Prelude.{Option, None, Some}
 use Rattle.std.specs.Int.Signed.{lt_z}
 use Rattle.std.specs.Float.{fin, binary64}
 use Rattle.std.specs.Float.Ieee.{mul, eq}
@@ -55,25 +55,25 @@ pub record TimedSoFar : Type 0 where
   pub fixed : Option ActivityDuration
 
 abbrev pub start : TimedSoFar
-start = record { speed = speed1; fixed = none }
+start = record { speed = speed1; fixed = None }
 
 -- the greatest total, the earliest among equals
 abbrev pub longest : Option ActivityDuration → ActivityDuration → ActivityDuration
-longest none d = d
-longest (some f) d = cond (ltb (total_ms f) (total_ms d)) d f
+longest None d = d
+longest (Some f) d = cond (ltb (total_ms f) (total_ms d)) d f
 
 -- one resource more, by its timing
 abbrev pub timed_on : TimedSoFar → ResourceTiming → TimedSoFar
 timed_on f (Speed s) = record { speed = mul binary64 f.speed s; fixed = f.fixed }
-timed_on f (Duration d) = record { speed = f.speed; fixed = some (longest f.fixed d) }
+timed_on f (Duration d) = record { speed = f.speed; fixed = Some (longest f.fixed d) }
 
 -- the base with its processing divided by a product of speeds; a product of 1.0 changes nothing; none where the quotient is not finite
 unfoldable pub at_speed : ActivityDuration → Float → Option ActivityDuration
 at_speed base speed =
     cond (eq speed speed1)
-    (some base)
-    (option (divided_by base.process_ms speed) none λ n.
-    some (record { setup_ms = base.setup_ms; process_ms = n; teardown_ms = base.teardown_ms }))
+    (Some base)
+    (option (divided_by base.process_ms speed) None λ n.
+    Some (record { setup_ms = base.setup_ms; process_ms = n; teardown_ms = base.teardown_ms }))
 
 -- what it returns: the fixed duration where there is one
 abbrev pub timed : ActivityDuration → TimedSoFar → Option ActivityDuration

@@ -2,7 +2,7 @@
 #![tactic(auto)]
 
 ghost use Rattle.std.specs.Prelude.{◌≡◌, ◌+◌};
-ghost use Rattle.std.proofs.Math.Option.{some};
+ghost use Rattle.std.specs.Prelude.{Some};
 ghost use Rattle.rounding.specs.inner.Limited.{limited};
 ghost use Rattle.resource_timing.specs.Durations.{total_ms, part_of, in_part, piece_duration, start, at_speed};
 ghost use Rattle.resource_timing.specs.inner.Limits.{within, timed_of, time_of, longer_of, fixed_in, fixed_with, timed_with, derived_of};
@@ -63,7 +63,7 @@ pub struct Timed {
 impl ActivityDuration {
     // Total duration (setup + process + teardown).
     pub fn total_ms(self) -> Time
-        ensures { result ≡ limited (some (total_ms self)) }
+        ensures { result ≡ limited (Some (total_ms self)) }
     {
         let setup = self.setup_ms;
         let process = self.process_ms;
@@ -82,7 +82,7 @@ impl ActivityDuration {
 
     // The duration where its total is below 2^53.
     fn derived(self) -> Derived
-        ensures { result ≡ within (some self) }
+        ensures { result ≡ within (Some self) }
     {
         let total = self.total_ms();
         match total {
@@ -161,7 +161,7 @@ pub fn part_of(index: i64, work: u64, whole: u64, overhead: u64) -> PartTimes
 
 // A teardown with a part's overhead.
 fn with_overhead(teardown: u64, overhead: u64) -> Time
-    ensures { result ≡ limited (some (teardown + overhead)) }
+    ensures { result ≡ limited (Some (teardown + overhead)) }
 {
     if 9007199254740992 <= teardown {
         return Time::TooLarge;

@@ -12,7 +12,7 @@ use Rattle.rounding.specs.Rounding.{half_up, rounded, divided_by}
 use Rattle.rounding.specs.inner.Limited.{limited}
 use Rattle.rounding.specs.declared.Time.{Time}
 use Rattle.rounding.specs.declared.Time.TheVariants.{Ms, TooLarge}
-use mathlib.Core.Option.{Option, none, some}
+use Rattle.std.specs.Prelude.{Option, None, Some}
 use lib.Ieee.Bits.{nan_bits_is, nan_bits_above}
 
 -- (2n / d + 1) / 2
@@ -89,8 +89,8 @@ unfolding lt to_unsigned
 cut_of_value nan s a c v C z h = absurd v
 cut_of_value (inf t) s a c v C z h = absurd v
 cut_of_value (fin true n d) s a c v C z h =
-    let none : n * up d * c ≡ 0 = v.1 ∙ ap (λ (x : ℕ). x * down d) (z (sym v.0)) ∙ zero-mul (down d) in
-    let zero-num : n * up d ≡ 0 = eq_of_mul-eq-mul_right c C (n * up d) 0 (none ∙ sym (zero-mul c)) in
+    let None : n * up d * c ≡ 0 = v.1 ∙ ap (λ (x : ℕ). x * down d) (z (sym v.0)) ∙ zero-mul (down d) in
+    let zero-num : n * up d ≡ 0 = eq_of_mul-eq-mul_right c C (n * up d) 0 (None ∙ sym (zero-mul c)) in
     let one = down_pos d in
     record {
       above = lt→ltb (n * up d * 1) (1 * 1 * down d) (omega arith);
@@ -139,25 +139,25 @@ doubled (fin false m e) t p q =
 
 -- ---- the limit
 
-pub limit_within : (n : ℕ) → n < 2 ^ 53 → Ms n ≡ limited (some n)
+pub limit_within : (n : ℕ) → n < 2 ^ 53 → Ms n ≡ limited (Some n)
 unfolding limited
 limit_within n h = rw (lt-ltb n (2 ^ 53) h)
 
-pub limit_beyond : (n : ℕ) → 2 ^ 53 ≤ n → TooLarge ≡ limited (some n)
+pub limit_beyond : (n : ℕ) → 2 ^ 53 ≤ n → TooLarge ≡ limited (Some n)
 unfolding limited
 limit_beyond n h = rw (le-ltb n (2 ^ 53) h)
 
 -- what a limited time tells of the time
-pub limited_ms : (o : Option ℕ) (n : ℕ) → Ms n ≡ limited o → o ≡ some n
+pub limited_ms : (o : Option ℕ) (n : ℕ) → Ms n ≡ limited o → o ≡ Some n
 unfolding limited
-limited_ms none n e = absurd (let z : ◌≡◌ {A = ℕ} 0 1 = cc in omega arith)
-limited_ms (some m) n e = go (ltb m (2 ^ 53)) e
+limited_ms None n e = absurd (let z : ◌≡◌ {A = ℕ} 0 1 = cc in omega arith)
+limited_ms (Some m) n e = go (ltb m (2 ^ 53)) e
   where
-    go : (b : Bool) → Ms n ≡ cond b (Ms m) TooLarge → some m ≡ some n
+    go : (b : Bool) → Ms n ≡ cond b (Ms m) TooLarge → Some m ≡ Some n
     go true h = cc
     go false h = absurd (let z : ◌≡◌ {A = ℕ} 0 1 = cc in omega arith)
 
-pub limited_below : (n m : ℕ) → Ms m ≡ limited (some n) → (m ≡ n) × (n < 2 ^ 53)
+pub limited_below : (n m : ℕ) → Ms m ≡ limited (Some n) → (m ≡ n) × (n < 2 ^ 53)
 unfolding limited
 limited_below n m e = go (ltb n (2 ^ 53)) (ltb-true n (2 ^ 53)) e
   where
@@ -165,7 +165,7 @@ limited_below n m e = go (ltb n (2 ^ 53)) (ltb-true n (2 ^ 53)) e
     go true k h = (cc, k refl)
     go false k h = absurd (let z : ◌≡◌ {A = ℕ} 0 1 = cc in omega arith)
 
-pub limited_large : (n : ℕ) → TooLarge ≡ limited (some n) → 2 ^ 53 ≤ n
+pub limited_large : (n : ℕ) → TooLarge ≡ limited (Some n) → 2 ^ 53 ≤ n
 unfolding limited
 limited_large n e = go (ltb n (2 ^ 53)) (ltb-false n (2 ^ 53)) e
   where

@@ -2,7 +2,7 @@
 #![tactic(auto)]
 
 ghost use Rattle.std.specs.Prelude.{◌≡◌, from_bits};
-ghost use Rattle.std.proofs.Math.Option.{some};
+ghost use Rattle.std.specs.Prelude.{Some};
 ghost use Rattle.std.specs.Float.{binary64};
 ghost use Rattle.rounding.specs.Rounding.{rounded, divided_by};
 ghost use Rattle.rounding.specs.inner.Limited.{limited};
@@ -26,7 +26,7 @@ pub fn float_from_bits(bits: u64) -> f64
 
 // A time where it is below 2^53.
 pub fn limit(ms: u64) -> Time
-    ensures { result ≡ limited (some ms) }
+    ensures { result ≡ limited (Some ms) }
 {
     if ms < 9007199254740992 {
         Time::Ms(ms)

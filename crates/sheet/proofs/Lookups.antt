@@ -3,7 +3,7 @@ use Prim.Native.Nat.{ℕ, zero, suc, ◌+◌, ◌<◌, ◌≤◌}
 use mathlib.Core.Path.{◌≡◌, refl, sym, ap, ◌∙◌}
 use mathlib.Core.Bool.{Bool, true, false, cond, ◌&&◌}
 use mathlib.Core.List.{List}
-use mathlib.Core.Option.{Option, none, some}
+use Rattle.std.specs.Prelude.{Option, None, Some}
 use native.Mathlib.Omega.{arith}
 use lib.Dec.{eqb}
 use lib.IntN.{ℤ}
@@ -35,7 +35,7 @@ pub record Named (rows : List ℤ) (x id k : ℕ) : Type 0 where
   pub kind : num rows k 0 ≡ x
   pub id_is : num rows k 1 ≡ id
 
-pub placed : (rows : List ℤ) (x id k : ℕ) → place_of rows x id ≡ some k → Named rows x id k
+pub placed : (rows : List ℤ) (x id k : ℕ) → place_of rows x id ≡ Some k → Named rows x id k
 unfolding place_of named
 placed rows x id k e =
     let f = found_at (named rows x id) (row_count rows) k e in
@@ -74,7 +74,7 @@ module _ (q : ℕ → Bool) (m : ℕ) where
   nth_other k e f r = rw f (ne_eqb (count_below q k) m (λ z. r (e ∙ z)))
 
   -- what a row that was found has
-  pub nth_at : (n k : ℕ) → nth_place q m n ≡ some k → (k < n) × (q k ≡ true) × (count_below q k ≡ m)
+  pub nth_at : (n k : ℕ) → nth_place q m n ≡ Some k → (k < n) × (q k ≡ true) × (count_below q k ≡ m)
   unfolding nth_place is_nth
   nth_at n k e =
       let f = found_at (is_nth q m) n k e in
@@ -86,7 +86,7 @@ module _ (q : ℕ → Bool) (m : ℕ) where
   miss_at n false e h = rw e
 
   -- as few as m pass: there is no number m
-  pub too_few : (n : ℕ) → count_below q n ≤ m → nth_place q m n ≡ none
+  pub too_few : (n : ℕ) → count_below q n ≤ m → nth_place q m n ≡ None
   unfolding count_below nth_place first_place
   too_few zero h = refl
   too_few (suc n) h = rw (too_few n (omega arith), miss_at n (q n) refl h)
@@ -97,20 +97,20 @@ module _ (q : ℕ → Bool) (m : ℕ) where
 
 -- ---- a row that was found
 
-pub found_none : {f : Found} {x : Option ℕ} → f ≡ Nothing → found_of f ≡ x → x ≡ none
+pub found_none : {f : Found} {x : Option ℕ} → f ≡ Nothing → found_of f ≡ x → x ≡ None
 found_none q e = sym e ∙ ap found_of q
 
-pub found_some : {f : Found} {x : Option ℕ} {k : ℕ} → f ≡ At k → found_of f ≡ x → x ≡ some k
+pub found_some : {f : Found} {x : Option ℕ} {k : ℕ} → f ≡ At k → found_of f ≡ x → x ≡ Some k
 found_some q e = sym e ∙ ap found_of q
 
 module _ (rows : List ℤ) (x id : ℕ) {k : ℕ} where
-  pub place_kind : place_of rows x id ≡ some k → is rows k 0 x ≡ true
+  pub place_kind : place_of rows x id ≡ Some k → is rows k 0 x ≡ true
   place_kind e = num_is rows k 0 x (placed rows x id k e).kind
 
-  pub place_within : place_of rows x id ≡ some k → k < row_count rows
+  pub place_within : place_of rows x id ≡ Some k → k < row_count rows
   place_within e = (placed rows x id k e).within
 
-  pub place_low : place_of rows x id ≡ some k → k ≤ row_count rows
+  pub place_low : place_of rows x id ≡ Some k → k ≤ row_count rows
   place_low e = omega (arith, place_within e)
 
   pub found_low : {f : Found} → found_of f ≡ place_of rows x id → f ≡ At k → k ≤ row_count rows

@@ -3,7 +3,7 @@ use Prim.Native.Nat.{ℕ, ◌<◌, ◌≤◌}
 use mathlib.Core.Path.{◌≡◌, refl}
 use mathlib.Core.Bool.{Bool, cond}
 use mathlib.Core.List.{List}
-use mathlib.Core.Option.{Option, none, some}
+use Rattle.std.specs.Prelude.{Option, None, Some}
 use native.Mathlib.Omega.{arith}
 use native.Mathlib.Decide.{dec_lt}
 use lib.Dec.{ltb}
@@ -22,10 +22,10 @@ use Rattle.sheet.proofs.Lookups.{nth_at, placed}
 
 -- ---- it is at most the number of rows
 
-pub below : (rows : List ℤ) (x : Option ℕ) → ((k : ℕ) → x ≡ some k → k < row_count rows) → or_end rows x ≤ row_count rows
+pub below : (rows : List ℤ) (x : Option ℕ) → ((k : ℕ) → x ≡ Some k → k < row_count rows) → or_end rows x ≤ row_count rows
 unfolding or_end
-below rows none h = omega arith
-below rows (some k) h = omega (arith, h k refl)
+below rows None h = omega arith
+below rows (Some k) h = omega (arith, h k refl)
 
 pub named_below : (rows : List ℤ) (x id : ℕ) → or_end rows (place_of rows x id) ≤ row_count rows
 named_below rows x id = below rows (place_of rows x id) (λ k e. (placed rows x id k e).within)
@@ -37,11 +37,11 @@ nth_below rows q m = below rows (nth_place q m (row_count rows)) (λ k e. (nth_a
 
 -- as it is read, and as it is written
 module _ (rows : List ℤ) {n : ℕ} (e : n ≡ row_count rows) where
-  pub stored_some : {k : ℕ} → k < n → some k ≡ stored_place rows k
+  pub stored_some : {k : ℕ} → k < n → Some k ≡ stored_place rows k
   unfolding stored_place
   stored_some {k} l = rw (lt-ltb k (row_count rows) (rw e at l))
 
-  pub stored_none : {k : ℕ} → n ≤ k → none ≡ stored_place rows k
+  pub stored_none : {k : ℕ} → n ≤ k → None ≡ stored_place rows k
   unfolding stored_place
   stored_none {k} l = rw (le-ltb k (row_count rows) (rw e at l))
 
@@ -51,10 +51,10 @@ module _ (rows : List ℤ) {n : ℕ} (e : n ≡ row_count rows) where
 
 module _ (rows : List ℤ) where
   -- a place that was stored names the row that it was found at
-  pub stored : (x : Option ℕ) {o : ℕ} → o ≡ or_end rows x → ((k : ℕ) → x ≡ some k → k < row_count rows) → stored_place rows o ≡ x
+  pub stored : (x : Option ℕ) {o : ℕ} → o ≡ or_end rows x → ((k : ℕ) → x ≡ Some k → k < row_count rows) → stored_place rows o ≡ x
   unfolding stored_place or_end
-  stored none e h = rw (e, le-ltb (row_count rows) (row_count rows) (omega arith))
-  stored (some k) e h = rw (e, lt-ltb k (row_count rows) (h k refl))
+  stored None e h = rw (e, le-ltb (row_count rows) (row_count rows) (omega arith))
+  stored (Some k) e h = rw (e, lt-ltb k (row_count rows) (h k refl))
 
   pub stored_place_lem : (y id : ℕ) {o : ℕ} → o ≡ or_end rows (place_of rows y id) → stored_place rows o ≡ place_of rows y id
   stored_place_lem y id e = stored (place_of rows y id) e (λ k q. (placed rows y id k q).within)
@@ -64,6 +64,6 @@ module _ (rows : List ℤ) where
   unfolding stored_place
   stored_first {p} {o} f = go (dec_lt o (row_count rows))
     where
-      go : Dec (o < row_count rows) → cond (ltb o (row_count rows)) (some o) none ≡ first_place p (row_count rows)
+      go : Dec (o < row_count rows) → cond (ltb o (row_count rows)) (Some o) None ≡ first_place p (row_count rows)
       go (yes l) = rw (lt-ltb o (row_count rows) l) (first_found f l refl)
       go (no l) = rw (le-ltb o (row_count rows) (omega arith)) (first_absent f (omega arith) refl)

@@ -1,7 +1,7 @@
 -- Where a row stands that is looked for: by kind and id, by its number among the requirements of an activity, or among the constraints.
 -- Assumes nothing.
 use Rattle.std.specs.Prelude.{ℕ, Bool, ◌&&◌, List, ℤ, eqb, leb}
-use Rattle.std.proofs.Math.Option.{Option}
+use Rattle.std.specs.Prelude.{Option}
 use Rattle.loops.specs.Search.{first_place, count_below}
 use Rattle.rows.specs.Cells.{row_count, num, is}
 

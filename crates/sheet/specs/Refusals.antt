@@ -1,7 +1,7 @@
 -- Refusals 1 to 5: which sheets are refused, with what number, at what place, and in what order. Assumes nothing.
 use Rattle.std.specs.Prelude.{ℕ, ◌%◌, Bool, true, false, not, ◌&&◌, ◌||◌, List, [], ◌∷◌, ℤ, length, eqb, ltb, leb}
 use Rattle.std.specs.Bool.{beq}
-use Rattle.std.proofs.Math.Option.{Option, none, some}
+use Rattle.std.specs.Prelude.{Option, None, Some}
 use Rattle.loops.specs.Lists.{all_of, among}
 use Rattle.loops.specs.Search.{or_else, first, any_below}
 use Rattle.refusals.specs.Refusals.{MISSHAPEN, UNKNOWN_KIND, OUT_OF_RANGE, STRAY, TWICE, Refusal, refuse}
@@ -36,13 +36,13 @@ out_of_range rows k = any_below (bad_cell rows k) 10 || half_part rows k
 -- ---- 4: a column names an owner that is not in the sheet
 
 abbrev pub is_absent : Option ℕ → Bool
-is_absent none = true
-is_absent (some k) = false
+is_absent None = true
+is_absent (Some k) = false
 
 -- a member's owner is of kind 20 or 21
 unfoldable pub has_members : List ℤ → Option ℕ → Bool
-has_members rows none = false
-has_members rows (some k) = leb 20 (num rows k 0) && leb (num rows k 0) 21
+has_members rows None = false
+has_members rows (Some k) = leb 20 (num rows k 0) && leb (num rows k 0) 21
 
 -- what column c of row k names by its class is absent
 unfoldable pub lacks : Class → List ℤ → ℕ → ℕ → Bool

@@ -4,7 +4,7 @@ use Prim.Native.Nat.{ℕ}
 use mathlib.Core.Path.{◌≡◌, refl, ◌∙◌, ap, ap₂}
 use mathlib.Core.Bool.{Bool, true, false, cond, not, ◌&&◌}
 use mathlib.Core.List.{List, [], ◌∷◌, ◌++◌, append-nil}
-use mathlib.Core.Option.{Option, none, some}
+use Rattle.std.specs.Prelude.{Option, None, Some}
 use lib.Dec.{eqb}
 use lib.IntN.{ℤ, pos}
 use lib.ListN.{length}
@@ -105,15 +105,15 @@ module _ {T : Type 0} (K : Clock T) (s : Sheet T) (bare : Bare s) where
   unfolding time_only time_only_below
   no_spans = collect_nothing (span_at s) no_span_at s.count
 
-  no_time_only : (x : ℕ) → time_only_for_activity s x ≡ none
+  no_time_only : (x : ℕ) → time_only_for_activity s x ≡ None
   unfolding time_only_for_activity keep
   no_time_only x = rw no_spans
 
-  no_activity_span : (x : ℕ) → activity_span K s x ≡ none
+  no_activity_span : (x : ℕ) → activity_span K s x ≡ None
   unfolding activity_span earliest
   no_activity_span x = rw (no_time_only x, none_of x)
 
-  pub no_completion : (t : ℕ) → task_completion_time K s t ≡ none
+  pub no_completion : (t : ℕ) → task_completion_time K s t ≡ None
   unfolding task_completion_time latest each
   no_completion t = rw (no_bookings, no_spans)
 
@@ -132,8 +132,8 @@ module _ {T : Type 0} (K : Clock T) (s : Sheet T) (bare : Bare s) where
   no_parts a = go (split s a.id)
     where
       go : (x : Option Split) → option x [] (check_split s a) ≡ []
-      go none = refl
-      go (some x) = no_split a x
+      go None = refl
+      go (Some x) = no_split a x
 
   none3 : check_parts s ≡ []
   unfolding check_parts

@@ -1,6 +1,6 @@
 -- The twelve worked examples of the rules, as one table. Assumes nothing.
 use Rattle.std.specs.Prelude.{ℕ, ◌≡◌, true, false, List, [], ◌∷◌, ◌++◌, ℤ, pos, Float}
-use Rattle.std.proofs.Math.Option.{some}
+use Rattle.std.specs.Prelude.{Some}
 use Rattle.std.specs.Float.{binary64}
 use Rattle.std.specs.Float.Ieee.{of_bits}
 use Rattle.rows.specs.Ranges.{held_none}
@@ -41,7 +41,7 @@ two_windows = (open' 0 10 ∷ open' 20 30 ∷ []) ∷ []
 
 abbrev pub Examples : Type 0
 Examples =
-    (divided_by 5 speed2 ≡ some 3)  -- A: process 5 at speed 2.0 is 3
+    (divided_by 5 speed2 ≡ Some 3)  -- A: process 5 at speed 2.0 is 3
     × (share_of 100 1 3 ≡ 33)  -- B: share of 100, work 1, whole 3 is 33
     × (share_of 5 1 2 ≡ 3)  -- C: share of 5, work 1, whole 2 is 3
     × (earliest_start clock (overlap_of half (pos 0)) (pos 10) (pos 15) ≡ pos 13)  -- D: start_after 0.5 of 10..15 is 13

@@ -3,7 +3,7 @@ use Prim.Native.Nat.{ℕ}
 use mathlib.Core.Path.{◌≡◌, refl, ap, sym, ◌∙◌}
 use mathlib.Core.Bool.{Bool, true, false, cond}
 use mathlib.Core.List.{List, [], ◌++◌, foldl, foldl-append}
-use mathlib.Core.Option.{Option, none}
+use Rattle.std.specs.Prelude.{Option, None}
 use lib.Dec.{eqb}
 use lib.IntN.{ℤ, pos}
 use Rattle.loops.specs.Lists.{given, each}
@@ -49,7 +49,7 @@ module _ (rows : List ℤ) (task : ℕ) where
       go false h = rw (h, span_none rows k h)
 
   pub completion : {m e : Option ℤ}
-      → m ≡ fold (only_at (of_kind rows 23) (end_if rows 5 task)) none (row_count rows)
+      → m ≡ fold (only_at (of_kind rows 23) (end_if rows 5 task)) None (row_count rows)
       → e ≡ fold (only_at (of_kind rows 24) (end_if rows 4 task)) m (row_count rows)
       → e ≡ task_completion_time clock (sheet rows) task
   unfolding task_completion_time latest assignments assignments_below time_only time_only_below
@@ -60,10 +60,10 @@ module _ (rows : List ℤ) (task : ℕ) where
       ∙ ap (foldl (later_of clock) m) (sym (each_collect _ (span_at (sheet rows)) (row_count rows)))
       ∙ ap (λ z. foldl (later_of clock) z (each (λ x. given (eqb x.task task) x.end) (collect (span_at (sheet rows)) (row_count rows))))
       (p
-      ∙ sym (fold_ext _ _ none (row_count rows) booking_end)
-      ∙ sym (foldl_collect (later_of clock) none _ (row_count rows))
-      ∙ ap (foldl (later_of clock) none) (sym (each_collect _ (assignment_at (sheet rows)) (row_count rows))))
+      ∙ sym (fold_ext _ _ None (row_count rows) booking_end)
+      ∙ sym (foldl_collect (later_of clock) None _ (row_count rows))
+      ∙ ap (foldl (later_of clock) None) (sym (each_collect _ (assignment_at (sheet rows)) (row_count rows))))
       ∙ sym
-      (foldl-append (later_of clock) none
+      (foldl-append (later_of clock) None
       (each (λ a. given (eqb a.task task) a.end) (collect (assignment_at (sheet rows)) (row_count rows)))
       (each (λ x. given (eqb x.task task) x.end) (collect (span_at (sheet rows)) (row_count rows))))

@@ -3,7 +3,7 @@ use Prim.Native.Nat.{ℕ, ◌<◌, ◌≤◌}
 use mathlib.Core.Path.{◌≡◌, sym, ◌∙◌}
 use mathlib.Core.Bool.{Bool, true, false}
 use mathlib.Core.List.{List}
-use mathlib.Core.Option.{Option, none, some}
+use Rattle.std.specs.Prelude.{Option, None, Some}
 use lib.IntN.{ℤ, pos, nat_abs}
 use lib.Signed.{lt_z}
 use mir.Syntax.{w64}
@@ -21,18 +21,18 @@ use Rattle.spans.specs.declared.Instant.TheVariants.{At}
 use Rattle.spans.specs.inner.Instants.{meant, end_if}
 
 module _ (z : ℤ) (f : SFits w64 z) where
-  pub read_none : {v : ℤ} → lt_z (to_z w64 (of_z w64 z)) (pos 0) ≡ true → z ≡ v → none ≡ as_instant (read t?_c v)
+  pub read_none : {v : ℤ} → lt_z (to_z w64 (of_z w64 z)) (pos 0) ≡ true → z ≡ v → None ≡ as_instant (read t?_c v)
   read_none e q = rw (← q, (below_zero z f e).1)
 
-  pub read_some : {v : ℤ} → lt_z (to_z w64 (of_z w64 z)) (pos 0) ≡ false → z ≡ v → some (pos (nat_abs (to_z w64 (of_z w64 z)))) ≡ as_instant (read t?_c v)
+  pub read_some : {v : ℤ} → lt_z (to_z w64 (of_z w64 z)) (pos 0) ≡ false → z ≡ v → Some (pos (nat_abs (to_z w64 (of_z w64 z)))) ≡ as_instant (read t?_c v)
   read_some e q = rw (to_z-of_z f, ← q, (from_zero z f e).1)
 
 -- the later of an instant and x
 module _ {e : Instant} {a x : ℕ} (q : e ≡ At a) where
-  pub later_new : a < x → some (pos x) ≡ later_of clock (meant e) (pos x)
+  pub later_new : a < x → Some (pos x) ≡ later_of clock (meant e) (pos x)
   later_new l = rw (q, lt-ltb a x l)
 
-  pub later_old : x ≤ a → some (pos a) ≡ later_of clock (meant e) (pos x)
+  pub later_old : x ≤ a → Some (pos a) ≡ later_of clock (meant e) (pos x)
   later_old l = rw (q, le-ltb a x l)
 
 -- the end of a row, where it is of the task

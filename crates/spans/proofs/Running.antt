@@ -3,7 +3,7 @@ use Prim.Native.Nat.{ℕ, zero, suc, ◌<◌}
 use mathlib.Core.Path.{◌≡◌, refl, ap, sym, ◌∙◌}
 use mathlib.Core.Bool.{Bool, true, false, cond, ◌&&◌, true≢false}
 use mathlib.Core.List.{List, [], ◌∷◌, ◌++◌, map, foldl}
-use mathlib.Core.Option.{Option, none, some}
+use Rattle.std.specs.Prelude.{Option, None, Some}
 use native.Mathlib.Omega.{arith}
 use lib.Dec.{eqb}
 use lib.IntN.{ℤ, pos}
@@ -33,13 +33,13 @@ grow : Option (Span ℤ) → Assignment ℤ → Option (Span ℤ)
 grow x a = widened x a.start a.end
 
 grown : (l : List (Assignment ℤ)) (a e : ℤ)
-    → foldl grow (some (record { start = a; end = e })) l
-    ≡ span_from (foldl (earlier_of clock) (some a) (map (λ x. x.start) l)) (foldl (later_of clock) (some e) (map (λ x. x.end) l))
+    → foldl grow (Some (record { start = a; end = e })) l
+    ≡ span_from (foldl (earlier_of clock) (Some a) (map (λ x. x.start) l)) (foldl (later_of clock) (Some e) (map (λ x. x.end) l))
 unfolding grow
 grown [] a e = refl
 grown (x ∷ l) a e = grown l (cond (clock.before x.start a) x.start a) (cond (clock.before e x.end) x.end e)
 
-grown_all : (l : List (Assignment ℤ)) → foldl grow none l ≡ span_from (earliest clock (map (λ x. x.start) l)) (latest clock (map (λ x. x.end) l))
+grown_all : (l : List (Assignment ℤ)) → foldl grow None l ≡ span_from (earliest clock (map (λ x. x.start) l)) (latest clock (map (λ x. x.end) l))
 unfolding grow earliest latest
 grown_all [] = refl
 grown_all (x ∷ l) = grown l x.start x.end
@@ -60,15 +60,15 @@ module _ (rows : List ℤ) (id : ℕ) where
       go true h = rw (h, assignment_row rows k h) (kept (eqb (num rows k 1) id) x _)
       go false h = rw (h, assignment_none rows k h)
 
-  booked : fold (only_at (of_kind rows 23) (widen_if rows id)) none (row_count rows)
+  booked : fold (only_at (of_kind rows 23) (widen_if rows id)) None (row_count rows)
       ≡ span_from
       (earliest clock (map (λ a. a.start) (assignments_for_activity_all (sheet rows) id)))
       (latest clock (map (λ a. a.end) (assignments_for_activity_all (sheet rows) id)))
   unfolding assignments_for_activity_all assignments assignments_below
   booked =
-      sym (fold_ext _ _ none (row_count rows) at_row)
-      ∙ sym (foldl_collect grow none _ (row_count rows))
-      ∙ ap (foldl grow none) (sym (keep_collect _ (assignment_at (sheet rows)) (row_count rows)))
+      sym (fold_ext _ _ None (row_count rows) at_row)
+      ∙ sym (foldl_collect grow None _ (row_count rows))
+      ∙ ap (foldl grow None) (sym (keep_collect _ (assignment_at (sheet rows)) (row_count rows)))
       ∙ grown_all (keep (λ a. eqb a.activity id) (collect (assignment_at (sheet rows)) (row_count rows)))
 
   -- ---- the first time-only span
@@ -78,8 +78,8 @@ module _ (rows : List ℤ) (id : ℕ) where
   timed k = record { activity = num rows k 1; task = num rows k 2; start = pos (num rows k 3); end = pos (num rows k 4) }
 
   at_most : Option ℕ → Option (TimeOnlySpan ℤ)
-  at_most none = none
-  at_most (some k) = some (timed k)
+  at_most None = None
+  at_most (Some k) = Some (timed k)
 
   timed_at_lem : (k : ℕ) → head (keep (λ a. eqb a.activity id) (span_at (sheet rows) k)) ≡ at_most (some_if (named rows 24 id k) k)
   unfolding keep named is at_most timed
@@ -96,8 +96,8 @@ module _ (rows : List ℤ) (id : ℕ) where
 
   or_most : (x y : Option ℕ) → or_else (at_most x) (at_most y) ≡ at_most (or_else x y)
   unfolding at_most
-  or_most none y = refl
-  or_most (some k) y = refl
+  or_most None y = refl
+  or_most (Some k) y = refl
 
   first_most : (n : ℕ) → first (λ k. head (keep (λ a. eqb a.activity id) (span_at (sheet rows) k))) n ≡ at_most (first_place (named rows 24 id) n)
   unfolding first first_place at_most
@@ -113,13 +113,13 @@ module _ (rows : List ℤ) (id : ℕ) where
 
   -- by what the lookup of such a span answered
   module _ {f : Found} (h : found_of f ≡ place_of rows 24 id) where
-    pub runs_booked : {x : Option (Span ℤ)} → f ≡ Nothing → x ≡ fold (only_at (of_kind rows 23) (widen_if rows id)) none (row_count rows)
+    pub runs_booked : {x : Option (Span ℤ)} → f ≡ Nothing → x ≡ fold (only_at (of_kind rows 23) (widen_if rows id)) None (row_count rows)
         → x ≡ activity_span clock (sheet rows) id
     unfolding activity_span at_most
     runs_booked g q = rw (timed_only, ← h, g) (q ∙ booked)
 
     pub runs_timed : {k a e : ℕ} → f ≡ At k → a ≡ num rows k 3 → e ≡ num rows k 4
-        → some (record { start = pos a; end = pos e }) ≡ activity_span clock (sheet rows) id
+        → Some (record { start = pos a; end = pos e }) ≡ activity_span clock (sheet rows) id
     unfolding activity_span at_most timed
     runs_timed g p q = rw (timed_only, ← h, g, p, q)
 
@@ -147,5 +147,5 @@ module _ (rows : List ℤ) (id : ℕ) where
 
 -- a span that there is, widened
 pub widen_some : (start end : ℕ) {x : ActivitySpan} {a e r s : ℕ} → x ≡ Between a e → pos r ≡ cond (clock.before (pos start) (pos a)) (pos start) (pos a)
-    → pos s ≡ cond (clock.before (pos e) (pos end)) (pos end) (pos e) → some (record { start = pos r; end = pos s }) ≡ widened (span_meant x) (pos start) (pos end)
+    → pos s ≡ cond (clock.before (pos e) (pos end)) (pos end) (pos e) → Some (record { start = pos r; end = pos s }) ≡ widened (span_meant x) (pos start) (pos end)
 widen_some start end q p o = rw (q, p, o)

@@ -2,7 +2,7 @@
 #![tactic(auto)]
 
 ghost use Rattle.std.specs.Prelude.{◌≡◌, cond, ◌<◌, pos};
-ghost use Rattle.std.proofs.Math.Option.{none};
+ghost use Rattle.std.specs.Prelude.{None};
 ghost use Rattle.calendar.specs.Clock.{clock};
 ghost use Rattle.loops.specs.Range.{fold};
 ghost use Rattle.loops.specs.inner.Chain.{only_at};
@@ -131,7 +131,7 @@ fn widen(x: ActivitySpan, start: u64, end: u64) -> ActivitySpan
 // From the earliest start to the latest end of an activity's bookings.
 fn booked_span(rows: &[i64], kinds: &[u16; 3680], id: u64) -> ActivitySpan
     requires { Kinds rows.now kinds.now }
-    ensures { span_meant result ≡ fold (only_at (of_kind rows.now 23) (widen_if rows.now id)) none (row_count rows.now) }
+    ensures { span_meant result ≡ fold (only_at (of_kind rows.now 23) (widen_if rows.now id)) None (row_count rows.now) }
 {
     let n = rows::row_count(rows);
     let mut x = ActivitySpan::Nowhere;

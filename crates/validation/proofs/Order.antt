@@ -3,7 +3,7 @@ use Prim.Native.Nat.{ℕ, ◌%◌, ◌<◌, ◌≤◌}
 use mathlib.Core.Path.{◌≡◌, refl, ap, sym, ◌∙◌}
 use mathlib.Core.Bool.{true, false, not}
 use mathlib.Core.List.{List}
-use mathlib.Core.Option.{Option, none}
+use Rattle.std.specs.Prelude.{Option, None}
 use native.Mathlib.Omega.{arith}
 use lib.Dec.{eqb, ltb, leb}
 use lib.IntN.{ℤ}
@@ -23,14 +23,14 @@ use Rattle.refusals.specs.declared.Verdict.{Verdict}
 use Rattle.refusals.specs.declared.Verdict.TheVariants.{Fine, Refused}
 use Rattle.validation.specs.inner.Answer.{shape_refusal, link_refusal, Tables, Indexing}
 
-pub stops : (f : ℕ → Option Refusal) (i n N : ℕ) {v : Verdict} {a b : ℕ} → v ≡ Refused a b → verdict_of v ≡ f i → first f i ≡ none → i < n → n ≡ N → verdict_of v ≡ first f N
+pub stops : (f : ℕ → Option Refusal) (i n N : ℕ) {v : Verdict} {a b : ℕ} → v ≡ Refused a b → verdict_of v ≡ f i → first f i ≡ None → i < n → n ≡ N → verdict_of v ≡ first f N
 stops f i n N q r p h z = ap verdict_of q ∙ sym (first_hit f i N (omega arith) p (sym r ∙ ap verdict_of q))
 
 pub ends : (x y : Option Refusal) {v : Verdict} {a b : ℕ} → v ≡ Refused a b → verdict_of v ≡ x → verdict_of v ≡ or_else x y
 ends x y q p = ap verdict_of q ∙ sym (ap (λ z. or_else z y) (sym p ∙ ap verdict_of q))
 
 -- a step that refuses nothing
-pub passed : {x : Option Refusal} {v : Verdict} → v ≡ Fine → verdict_of v ≡ x → x ≡ none
+pub passed : {x : Option Refusal} {v : Verdict} → v ≡ Fine → verdict_of v ≡ x → x ≡ None
 passed f e = sym e ∙ ap verdict_of f
 
 pub goes_on : {x y r : Option Refusal} {v : Verdict} → v ≡ Fine → verdict_of v ≡ x → r ≡ y → r ≡ or_else x y
@@ -46,10 +46,10 @@ in_two rows = sym (or_assoc (refuse (misshapen (length rows)) 1 0) (first (colum
 pub shaped : (rows : List ℤ) {v : Verdict} → v ≡ Fine → verdict_of v ≡ shape_refusal rows → Shaped rows
 unfolding shape_refusal misshapen column_fault known_kind
 shaped rows q f =
-    let e : shape_refusal rows ≡ none = passed q f in
+    let e : shape_refusal rows ≡ None = passed q f in
     let m : misshapen (length rows) ≡ false = if_none (misshapen (length rows)) _ (or_none_left (refuse (misshapen (length rows)) 1 0) _ e) in
     let l : length rows ≤ 8000 = ltb-false 8000 (length rows) (neither_right (not (eqb (length rows % 10) 0)) (ltb 8000 (length rows)) m) in
-    let f : first (column_fault rows) (row_count rows) ≡ none = or_none_right (refuse (misshapen (length rows)) 1 0) (first (column_fault rows) (row_count rows)) e in
+    let f : first (column_fault rows) (row_count rows) ≡ None = or_none_right (refuse (misshapen (length rows)) 1 0) (first (column_fault rows) (row_count rows)) e in
     record {
       short = omega arith;
       kinds = λ k z. small k (not-false (known_kind rows k) (if_none (not (known_kind rows k)) _ (or_none_left (refuse (not (known_kind rows k)) 2 k) (refuse (out_of_range rows k) 3 k) (first_none (column_fault rows) (row_count rows) f k z))));
@@ -76,8 +76,8 @@ indexed rows v k₀ l₀ o₀ k l o a b c q e f = record {
 }
 
 -- a sheet that is not refused: its shape, and its tables
-pub shape_passed : (rows : List ℤ) → refusal_of rows ≡ none → shape_refusal rows ≡ none
+pub shape_passed : (rows : List ℤ) → refusal_of rows ≡ None → shape_refusal rows ≡ None
 shape_passed rows e = or_none_left (shape_refusal rows) (link_refusal rows) (sym (in_two rows) ∙ e)
 
-pub tables_of : (rows : List ℤ) {k₀ l₀ o₀ k l o : List ℕ} {v : Verdict} → Indexing rows k₀ l₀ o₀ v k l o → refusal_of rows ≡ none → Tables rows k l o
+pub tables_of : (rows : List ℤ) {k₀ l₀ o₀ k l o : List ℕ} {v : Verdict} → Indexing rows k₀ l₀ o₀ v k l o → refusal_of rows ≡ None → Tables rows k l o
 tables_of rows h e = h.tables (shape_passed rows e)

@@ -4,7 +4,7 @@ use mathlib.Core.Path.{◌≡◌, refl, ap, ap₂, sym, ◌∙◌}
 use mathlib.Core.Logic.{⊎_elim}
 use mathlib.Core.Bool.{true, false, ◌&&◌}
 use mathlib.Core.List.{List, [], ◌∷◌, ◌++◌, map, append-nil}
-use mathlib.Core.Option.{some}
+use Rattle.std.specs.Prelude.{Some}
 use native.Mathlib.Omega.{arith}
 use borrow.Author.Tests.{le-leb, lt-leb}
 use lib.Dec.{leb}
@@ -204,10 +204,10 @@ module _ (rows : List ℤ) (o x : ℕ) where
   pub windows_are : Holder rows o x → collect window_by (row_count rows) ≡ windows (sheet rows) x (num rows o 1)
   windows_are h =
       ⊎_elim
-      (λ (q : (x ≡ 16) × (place_of rows 2 (num rows o 1) ≡ some o)).
+      (λ (q : (x ≡ 16) × (place_of rows 2 (num rows o 1) ≡ Some o)).
       by_owner (num rows o 1) (rw q.0 (of_activity rows 16 o (num rows o 1) (unfold owner_kind in refl) q.1))
       ∙ rw q.0 (sym (activity_windows rows (num rows o 1))))
-      (λ (q : (x ≡ 15) × (place_of rows 11 (num rows o 1) ≡ some o)).
+      (λ (q : (x ≡ 15) × (place_of rows 11 (num rows o 1) ≡ Some o)).
       by_owner (num rows o 1) (rw q.0 (of_resource rows 15 o (num rows o 1) (unfold owner_kind in refl) q.1))
       ∙ rw q.0 (sym (resource_windows rows (num rows o 1))))
       h

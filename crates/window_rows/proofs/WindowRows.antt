@@ -3,7 +3,7 @@ use Prim.Native.Nat.{ℕ, ◌+◌, ◌<◌, ◌≤◌}
 use mathlib.Core.Path.{◌≡◌, refl, sym, ◌∙◌}
 use mathlib.Core.Bool.{Bool, true, false, cond, ◌&&◌, true≢false}
 use mathlib.Core.List.{List, [], ◌∷◌}
-use mathlib.Core.Option.{none}
+use Rattle.std.specs.Prelude.{None}
 use native.Mathlib.Omega.{arith}
 use borrow.Author.Tests.{eqb-true}
 use lib.Dec.{eqb}
@@ -75,7 +75,7 @@ module _ (rows : List ℤ) where
   activity_windows id = all_rows 16 id (λ k h. rw (is_num rows k 0 16 h) (pick (eqb (num rows k 1) id) (window_row k)))
 
   -- a resource that is not in the sheet has no windows
-  module _ (acc : Accepted rows) (id : ℕ) (q : place_of rows 11 id ≡ none) where
+  module _ (acc : Accepted rows) (id : ℕ) (q : place_of rows 11 id ≡ None) where
     absent : (k : ℕ) → is rows k 1 id ≡ true → lacks resource_c rows k 1 ≡ true
     unfolding lacks is
     absent k e = rw (eqb-true (num rows k 1) id e, q)

@@ -4,7 +4,7 @@ use mathlib.Core.Path.{◌≡◌, refl, sym, ap, subst, ◌∙◌}
 use mathlib.Core.Bool.{Bool, true, false, cond, ◌&&◌, ◌||◌, true≢false}
 use mathlib.Core.List.{List, [], ◌∷◌, ◌++◌}
 use mathlib.Core.Logic.{inr}
-use mathlib.Core.Option.{none}
+use Rattle.std.specs.Prelude.{None}
 use native.Mathlib.Omega.{arith}
 use borrow.Author.Tests.{leb-true, lt-ltb}
 use mir.Syntax.{w64}
@@ -69,7 +69,7 @@ module _ (s b : ℕ) where
   reach_collect f h zero = omega arith
   reach_collect f h (suc n) = reach_append (collect f n) (f n) (reach_collect f h n) (h n)
 
-module _ (rows : List ℤ) (ok : refusal_of rows ≡ none) (s : ℕ) where
+module _ (rows : List ℤ) (ok : refusal_of rows ≡ None) (s : ℕ) where
   reach_row : (id k : ℕ) → reach clock (pos s) (window_naming rows 15 id k) ≤ most
   unfolding reach
   reach_row id k = go (is rows k 0 15 && is rows k 1 id) refl
@@ -185,7 +185,7 @@ module _ (rows : List ℤ) where
     laid_unknown {w} f l = let c : in_class id_c resource ≡ false = sym (rw (to_z-of_z p) at e) ∙ f in laid_none w l (rw c)
 
   module _ (id : ℕ) {f : Found} (e : found_of f ≡ place_of rows 11 id) where
-    pub laid_absent : {w : List ℕ} → f ≡ Nothing → refusal_of rows ≡ none → length w ≡ 2400 → Laid w w 0 0 (windows (sheet rows) 15 id)
+    pub laid_absent : {w : List ℕ} → f ≡ Nothing → refusal_of rows ≡ None → length w ≡ 2400 → Laid w w 0 0 (windows (sheet rows) 15 id)
     laid_absent {w} g ok l = laid_none w l (sym (windows_none rows (accepted rows ok) id (found_none g e)))
 
     pub laid_found : {o r : ℕ} {w w' : List ℕ} → f ≡ At o → Laid w w' 0 r (windows (sheet rows) 15 (num rows o 1)) → Laid w w' 0 r (windows (sheet rows) 15 id)
@@ -196,7 +196,7 @@ module _ (rows : List ℤ) where
 
 -- ---- the answers
 
-module _ (rows : List ℤ) (resource start work : ℤ) (ok : refusal_of rows ≡ none) (i : in_order start work ≡ true) where
+module _ (rows : List ℤ) (resource start work : ℤ) (ok : refusal_of rows ≡ None) (i : in_order start work ≡ true) where
   fits_inquiry : Fits (joint_work_end clock (inquired_calendar rows resource ∷ []) (pos (to_nat start)) work)
   unfolding in_order
   fits_inquiry =
@@ -227,7 +227,7 @@ module _ (rows : List ℤ) (resource start work : ℤ) (ok : refusal_of rows ≡
       ap outcome_of (f ∙ ap said (rw (to_z-of_z q, h, to_z-of_z p) at e)) ∙ ending_is w m (l.calendar ∙ ap (inquired_calendar rows) (to_z-of_z o))
 
 module _ (rows : List ℤ) {v : Verdict} where
-  pub no_refusal : verdict_of v ≡ refusal_of rows → v ≡ verdict.Fine → refusal_of rows ≡ none
+  pub no_refusal : verdict_of v ≡ refusal_of rows → v ≡ verdict.Fine → refusal_of rows ≡ None
   no_refusal e f = sym e ∙ ap verdict_of f
 
   module _ {k₀ l₀ o₀ k l o : List ℕ} (i : Indexing rows k₀ l₀ o₀ v k l o) (f : v ≡ verdict.Fine) where

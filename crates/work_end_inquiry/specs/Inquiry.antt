@@ -1,6 +1,6 @@
 -- The work-end inquiry: when work ends that is started on a resource. Assumes nothing.
 use Rattle.std.specs.Prelude.{Bool, cond, not, ◌&&◌, List, [], ◌∷◌, ℤ, pos}
-use Rattle.std.proofs.Math.Option.{Option}
+use Rattle.std.specs.Prelude.{Option}
 use Rattle.loops.specs.Numbers.{to_nat}
 use Rattle.loops.specs.Lists.{option}
 use Rattle.loops.specs.Search.{or_else}

@@ -2,7 +2,7 @@
 #![tactic(auto)]
 
 ghost use Rattle.std.specs.Prelude.{◌≡◌, true, [], ◌∷◌, length};
-ghost use Rattle.std.proofs.Math.Option.{none};
+ghost use Rattle.std.specs.Prelude.{None};
 ghost use Rattle.calendar.specs.Clock.{clock};
 ghost use Rattle.calendar.specs.WorkEnd.{joint_work_end};
 ghost use Rattle.sheet.specs.inner.Index.{Kinds};
@@ -51,7 +51,7 @@ fn resource_windows(
     id: u64,
     w: &mut [u64; 2400],
 ) -> usize
-    requires { (refusal_of rows.now ≡ none) × Kinds rows.now kinds.now × Owned rows.now owned.now × (length w.old ≡ 2400) }
+    requires { (refusal_of rows.now ≡ None) × Kinds rows.now kinds.now × Owned rows.now owned.now × (length w.old ≡ 2400) }
     ensures { Laid w.old w.new 0 result (windows (sheet rows.now) 15 id) }
 {
     let f = sheet::find_resource(rows, kinds, id);
@@ -69,7 +69,7 @@ fn resource_calendar(
     resource: i64,
     w: &mut [u64; 2400],
 ) -> usize
-    requires { (refusal_of rows.now ≡ none) × Kinds rows.now kinds.now × Owned rows.now owned.now × (length w.old ≡ 2400) }
+    requires { (refusal_of rows.now ≡ None) × Kinds rows.now kinds.now × Owned rows.now owned.now × (length w.old ≡ 2400) }
     ensures { Laid w.old w.new 0 result (inquired_calendar rows.now resource) }
 {
     let ranges = rows::range_table();
@@ -99,7 +99,7 @@ fn ending(
     start: i64,
     work: i64,
 ) -> InquiryAnswer
-    requires { (refusal_of rows.now ≡ none) × Kinds rows.now kinds.now × Owned rows.now owned.now × (in_order start work ≡ true) }
+    requires { (refusal_of rows.now ≡ None) × Kinds rows.now kinds.now × Owned rows.now owned.now × (in_order start work ≡ true) }
     ensures { outcome_of result ≡ ends (joint_work_end clock (inquired_calendar rows.now resource ∷ []) start work) }
 {
     let mut w = [0u64; 2400];

@@ -1,7 +1,7 @@
 -- A booking with its activity by their rows, and what check 1 counts and sums of them. Assumes nothing.
 use Rattle.std.specs.Prelude.{ℕ, ◌<◌, ◌≡◌, Bool, true, not, ◌&&◌, ℤ, pos, ◌+ℤ◌}
 use mathlib.Core.List.{List, map, foldl}
-use Rattle.std.proofs.Math.Option.{some}
+use Rattle.std.specs.Prelude.{Some}
 use Rattle.loops.specs.Lists.{any_of}
 use Rattle.rows.specs.Cells.{row_count, num, is}
 use Rattle.sheet.specs.Places.{place_of}
@@ -16,7 +16,7 @@ use Rattle.definition.specs.CheckAssignments.{misplaced}
 pub record Booked (rows : List ℤ) (a k : ℕ) : Type 0 where
   pub within : k < row_count rows
   pub kind : is rows k 0 23 ≡ true
-  pub place : place_of rows 2 (num rows k 1) ≡ some a
+  pub place : place_of rows 2 (num rows k 1) ≡ Some a
 
 -- the sum of the quantities of the requirements
 unfoldable pub quantities : List ℤ → ℕ → ℤ

@@ -1,6 +1,6 @@
 -- The activity that a span names, by its row. Assumes nothing.
 use Rattle.std.specs.Prelude.{ℕ, ◌≡◌, true, List, ℤ}
-use Rattle.std.proofs.Math.Option.{none, some}
+use Rattle.std.specs.Prelude.{None, Some}
 use Rattle.loops.specs.Lists.{option, is_empty}
 use Rattle.rows.specs.Cells.{num}
 use Rattle.sheet.specs.declared.Found.{Found}
@@ -13,7 +13,7 @@ use Rattle.definition.specs.CheckTimeOnly.{known}
 
 -- f is the row of the activity that the span of row k names, if it is one of the span's task and holds no resource
 pub record Known (rows : List ℤ) (k : ℕ) (f : Found) : Type 0 where
-  pub means : option (found_of f) none (λ a. some (activity_of rows a)) ≡ known (sheet rows) (span_of rows k)
+  pub means : option (found_of f) None (λ a. Some (activity_of rows a)) ≡ known (sheet rows) (span_of rows k)
   -- then it is the row that the lookup of the span's activity finds
-  pub place : (a : ℕ) → found_of f ≡ some a → place_of rows 2 (num rows k 1) ≡ some a
-  pub free : (a : ℕ) → found_of f ≡ some a → is_empty (requirements (sheet rows) (num rows a 1)) ≡ true
+  pub place : (a : ℕ) → found_of f ≡ Some a → place_of rows 2 (num rows k 1) ≡ Some a
+  pub free : (a : ℕ) → found_of f ≡ Some a → is_empty (requirements (sheet rows) (num rows a 1)) ≡ true

@@ -1,6 +1,6 @@
 -- The parts of an activity's bookings, by row: o is the row of the activity, x that of its split. Assumes nothing.
 use Rattle.std.specs.Prelude.{ℕ, zero, suc, Bool, cond, not, ◌&&◌, ◌||◌, List, [], eqb, ltb, ℤ, pos}
-use Rattle.std.proofs.Math.Option.{Option, none, some}
+use Rattle.std.specs.Prelude.{Option, None, Some}
 use Rattle.std.specs.Int.Signed.{lt_z}
 use Rattle.loops.specs.Lists.{given}
 use Rattle.loops.specs.Ordered.{Entry}
@@ -42,8 +42,8 @@ whole_in rows o = any_below (whole_at rows o) (row_count rows)
 
 -- a work that may be none as a number: 0 for none, else one more
 abbrev pub decoded : ℕ → Option ℕ
-decoded zero = none
-decoded (suc w) = some w
+decoded zero = None
+decoded (suc w) = Some w
 
 abbrev pub split_of : List ℤ → ℕ → Split
 split_of rows x = record { max_parts = cell rows x 2; min_part = num rows x 3; overhead = num rows x 4 }

@@ -1,6 +1,6 @@
 -- Which resources the bookings of a piece are on, by row. Assumes nothing.
 use Rattle.std.specs.Prelude.{ℕ, ◌<◌, ◌≤◌, ◌≡◌, Bool, true, false, cond, ◌&&◌, List, eqb, ℤ, length, get_or}
-use Rattle.std.proofs.Math.Option.{some}
+use Rattle.std.specs.Prelude.{Some}
 use Rattle.loops.specs.Lists.{option}
 use Rattle.loops.specs.Search.{any_below}
 use Rattle.rows.specs.Cells.{row_count, num}
@@ -31,4 +31,4 @@ pub record Marked (rows : List ℤ) (k i : ℕ) (marks : List ℕ) : Type 0 wher
 -- the marks of rows are at resources
 pub record OnResources (rows : List ℤ) (marks : List ℕ) : Type 0 where
   pub size : length marks ≡ 800
-  pub resource : (r : ℕ) → r < row_count rows → marked marks r ≡ true → place_of rows 11 (num rows r 1) ≡ some r
+  pub resource : (r : ℕ) → r < row_count rows → marked marks r ≡ true → place_of rows 11 (num rows r 1) ≡ Some r

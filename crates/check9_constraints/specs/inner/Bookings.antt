@@ -1,6 +1,6 @@
 -- The members of a no-overlap constraint and their bookings, by rows. Assumes nothing.
 use Rattle.std.specs.Prelude.{ℕ, Bool, false, cond, ◌&&◌, List, [], ℤ, pos, ltb}
-use Rattle.std.proofs.Math.Option.{Option, none}
+use Rattle.std.specs.Prelude.{Option, None}
 use Rattle.loops.specs.Lists.{given, option}
 use Rattle.loops.specs.Range.{collect}
 use Rattle.loops.specs.Search.{first_place}
@@ -17,7 +17,7 @@ booked_on rows activity resource k = is rows k 0 23 && (is rows k 1 activity && 
 -- the row of the first booking on the resource of the member in row k, if row k is a member of the constraint and has one
 unfoldable pub member_booking : List ℤ → ℕ → ℕ → ℕ → Option ℕ
 member_booking rows place resource k =
-    cond (is rows k 0 22 && is rows k 1 place) (first_place (booked_on rows (num rows k 2) resource) (row_count rows)) none
+    cond (is rows k 0 22 && is rows k 1 place) (first_place (booked_on rows (num rows k 2) resource) (row_count rows)) None
 
 -- the table that keeps them
 abbrev pub Booked : List ℤ → ℕ → ℕ → List ℕ → Type 0

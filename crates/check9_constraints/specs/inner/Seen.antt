@@ -1,6 +1,6 @@
 -- The starts of a synchronize constraint's members, seen one after the other. Assumes nothing.
 use Rattle.std.specs.Prelude.{ℕ, Bool, true, false, cond, not, ◌&&◌, List, ℤ, pos}
-use Rattle.std.proofs.Math.Option.{Option}
+use Rattle.std.specs.Prelude.{Option}
 use Rattle.loops.specs.Lists.{option}
 use Rattle.calendar.specs.Clock.{clock}
 use Rattle.rows.specs.Cells.{num, is}

@@ -1,6 +1,6 @@
 -- The derived times of the bookings, by row, as the code holds them. Assumes nothing.
 use Rattle.std.specs.Prelude.{ℕ, ◌+◌, ◌^◌, ◌<◌, ◌≤◌, ◌≡◌, List, [], ◌∷◌, ℤ, get_or}
-use Rattle.std.proofs.Math.Option.{some}
+use Rattle.std.specs.Prelude.{Some}
 use Rattle.loops.specs.Lists.{head, option}
 use Rattle.rows.specs.Cells.{row_count}
 use Rattle.resource_timing.specs.declared.Derived.{Derived}
@@ -33,6 +33,6 @@ pub record Times (rows : List ℤ) (need : List ℕ) : Type 0 where
 pub record Needs (rows : List ℤ) (need : List ℕ) : Type 0 where
   pub short : row_count rows ≤ 800
   pub at : (k : ℕ) (b : Assignment ℤ) (a : Activity ℤ) → k < row_count rows → assignment_at (sheet rows) k ≡ b ∷ []
-      → find_activity (sheet rows) b.activity ≡ some a → needed_ms (sheet rows) a b (runs_on (sheet rows) b) ≡ b.setup + get_or need k 0
+      → find_activity (sheet rows) b.activity ≡ Some a → needed_ms (sheet rows) a b (runs_on (sheet rows) b) ≡ b.setup + get_or need k 0
   pub small : (k : ℕ) → k < row_count rows → get_or need k 0 < 2 ^ 53
   pub past : (k : ℕ) → row_count rows ≤ k → get_or need k 0 ≡ 0

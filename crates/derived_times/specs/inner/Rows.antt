@@ -1,6 +1,6 @@
 -- Timings and the parts of bookings as rows, and one booking's step of a derived time. Assumes nothing.
 use Rattle.std.specs.Prelude.{ℕ, ◌+◌, Bool, cond, not, ◌&&◌, ◌||◌, List, ltb, ℤ}
-use Rattle.std.proofs.Math.Option.{Option, none, some}
+use Rattle.std.specs.Prelude.{Option, None, Some}
 use Rattle.std.specs.Float.{binary64}
 use Rattle.std.specs.Float.Ieee.{of_bits}
 use Rattle.loops.specs.Lists.{option}
@@ -20,9 +20,9 @@ use Rattle.pieces.specs.inner.Held.{held_at}
 
 -- the earlier of two places
 abbrev pub earlier_of : Option ℕ → Option ℕ → Option ℕ
-earlier_of none y = y
-earlier_of (some i) none = some i
-earlier_of (some i) (some j) = cond (ltb i j) (some i) (some j)
+earlier_of None y = y
+earlier_of (Some i) None = Some i
+earlier_of (Some i) (Some j) = cond (ltb i j) (Some i) (Some j)
 
 module _ (rows : List ℤ) where
   abbrev pub columns_of : ℕ → ℕ → ActivityDuration
@@ -40,7 +40,7 @@ module _ (rows : List ℤ) where
 
   -- the row of the timing on booking k's resource
   unfoldable pub timing_place : ℕ → Option ℕ
-  timing_place k = cond (is rows k 0 23) (first_place (timed_by (num rows k 1) (num rows k 3)) (row_count rows)) none
+  timing_place k = cond (is rows k 0 23) (first_place (timed_by (num rows k 1) (num rows k 3)) (row_count rows)) None
 
   -- one booking j more, where booking k's piece runs on it
   unfoldable pub timed_at : ℕ → Piece → TimedSoFar → ℕ → TimedSoFar

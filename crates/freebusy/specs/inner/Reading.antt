@@ -1,6 +1,6 @@
 -- What reading some periods comes to, where others went before them: the public promises do not speak of it. Assumes nothing.
 use Rattle.std.specs.Prelude.{ℕ, ◌≤◌, List, ◌≡◌, ℤ, pos}
-use Rattle.std.proofs.Math.Option.{Option, none, some}
+use Rattle.std.specs.Prelude.{Option, None, Some}
 use Rattle.loops.specs.Lists.{each}
 use Rattle.loops.specs.Search.{or_else}
 use Rattle.line_buffer.specs.inner.Sink.{Sink, sink, put_lines}
@@ -29,8 +29,8 @@ unread = record { count = 0; refused = Fine }
 
 -- the lent space after a text was read for its refusal, and where it has none once more for its rows
 abbrev pub space_read : Option Refusal → List ℕ → List ℕ → List ℕ
-space_read none text space = space_after text (space_after text space)
-space_read (some r) text space = space_after text space
+space_read None text space = space_after text (space_after text space)
+space_read (Some r) text space = space_after text space
 
 -- a window's ends are instants of a sheet
 abbrev pub Early : Window → Type 0
@@ -39,4 +39,4 @@ Early (Wrong k) = Unit
 
 -- what a text is refused by that is not overlong, for a resource that may be: 11 by line, then by period
 abbrev pub text_refusal : List ℕ → ℕ → Option Refusal
-text_refusal text room = or_else (line_refusal (wrong_from none 0 (lines text))) (periods_refusal room 0 (periods_in text))
+text_refusal text room = or_else (line_refusal (wrong_from None 0 (lines text))) (periods_refusal room 0 (periods_in text))

@@ -1,6 +1,6 @@
 -- Seconds as the code counts them: no more than 4,000,000,001, which lead out of the range of instants from each of them. Assumes nothing.
 use Rattle.std.specs.Prelude.{ℕ, ◌+◌, Bool, cond, ◌||◌, List, [], ◌∷◌, ltb, drop}
-use Rattle.std.proofs.Math.Option.{Option, none, some}
+use Rattle.std.specs.Prelude.{Option, None, Some}
 use Rattle.loops.specs.Lists.{option, is_some}
 use Rattle.loops.specs.Search.{or_else}
 use Rattle.letters.specs.Letters.{is_letter}
@@ -18,29 +18,29 @@ at_most n = cond (ltb 4_000_000_001 n) 4_000_000_001 n
 
 -- a number with its unit, so capped; and as the code has it, of a text s
 abbrev pub capped_count : Option Counted → Option Counted
-capped_count none = none
-capped_count (some k) = some (counts (at_most k.count) k.unit k.rest)
+capped_count None = None
+capped_count (Some k) = Some (counts (at_most k.count) k.unit k.rest)
 
 unfoldable pub count_of : Amount → List ℕ → Option Counted
-count_of a s = cond a.found (some (counts a.count a.unit (drop a.at s))) none
+count_of a s = cond a.found (Some (counts a.count a.unit (drop a.at s))) None
 
 -- seconds, so capped; and as the code has them
 unfoldable pub capped : Option ℕ → Option ℕ
-capped none = none
-capped (some n) = some (at_most n)
+capped None = None
+capped (Some n) = Some (at_most n)
 
 abbrev pub seconds_of : Seconds → Option ℕ
-seconds_of (Is n) = some n
-seconds_of Not = none
+seconds_of (Is n) = Some n
+seconds_of Not = None
 
 -- n seconds more
 unfoldable pub added : ℕ → Option ℕ → Option ℕ
-added n o = option o none (λ m. some (n + m))
+added n o = option o None (λ m. Some (n + m))
 
 -- the letter c, and then what f reads
 unfoldable pub letter_then : ℕ → (List ℕ → Option ℕ) → List ℕ → Option ℕ
-letter_then c f [] = none
-letter_then c f (x ∷ xs) = cond (is_letter c x) (f xs) none
+letter_then c f [] = None
+letter_then c f (x ∷ xs) = cond (is_letter c x) (f xs) None
 
 -- dur-hour / dur-minute / dur-second
 unfoldable pub after_t : List ℕ → Option ℕ

@@ -1,7 +1,7 @@
 -- What a row of a kind stands for, read by its columns: functions over the rows are handed a row's place, and their contracts speak of these.
 -- Assumes nothing.
 use Rattle.std.specs.Prelude.{ℕ, List, ℤ, pos, eqb}
-use Rattle.std.proofs.Math.Option.{Option}
+use Rattle.std.specs.Prelude.{Option}
 use Rattle.loops.specs.Search.{count_below}
 use Rattle.rows.specs.Cells.{cell, num}
 use Rattle.sheet.specs.Places.{named}

@@ -1,7 +1,7 @@
 -- The row that each row belongs to, and the rows that belong to a row, with the tables that hold them. These are filled once, and the checks walk
 -- along them in place of all rows. Assumes nothing.
 use Rattle.std.specs.Prelude.{ℕ, ◌+◌, ◌*◌, ◌%◌, ◌<◌, ◌≤◌, ◌≡◌, Bool, cond, ◌&&◌, List, [], ◌∷◌, ℤ, get_or, eqb}
-use Rattle.std.proofs.Math.Option.{Option, none}
+use Rattle.std.specs.Prelude.{Option, None}
 use Rattle.loops.specs.inner.Chain.{Links}
 use Rattle.rows.specs.Cells.{row_count, num, is}
 use Rattle.sheet.specs.Places.{task_place, activity_place, resource_place, requirement_place, constraint_place}
@@ -23,7 +23,7 @@ owner_of rows x k =
     cond (eqb x 1) (task_place rows (num rows k 2))
     (cond (eqb x 2) (activity_place rows (num rows k 1))
     (cond (eqb x 5) (requirement_place rows (num rows k 1) (num rows k 2))
-    (cond (eqb x 11) (resource_place rows (num rows k 1)) (cond (eqb x 17) (constraint_place rows (num rows k 1)) none))))
+    (cond (eqb x 11) (resource_place rows (num rows k 1)) (cond (eqb x 17) (constraint_place rows (num rows k 1)) None))))
 
 -- the row that row k belongs to
 unfoldable pub owner_place : List ℤ → ℕ → Option ℕ

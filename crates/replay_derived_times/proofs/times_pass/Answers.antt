@@ -7,7 +7,7 @@ use Rattle.owners.specs.inner.Owners.{Linked, Owned}
 use Rattle.sheet.specs.inner.Index.{Kinds}
 use lib.IntN.{ℤ}
 use Prim.Native.Nat.{ℕ}
-use mathlib.Core.Option.{none}
+use Rattle.std.specs.Prelude.{None}
 use mathlib.Core.List.{List}
 use mathlib.Core.Path.{sym, ap, ◌∙◌, ◌≡◌}
 use Rattle.refusals.specs.Refusals.{verdict_of}
@@ -18,7 +18,7 @@ use Rattle.replay_derived_times.proofs.times_pass.Goals as goal
 
 -- an accepted sheet's tables, as its index gives them
 module _ {rows : List ℤ} {k₀ l₀ o₀ k l o : List ℕ} {v : Verdict} (i : Indexing rows k₀ l₀ o₀ v k l o) (e : v ≡ Fine) where
-  fine : refusal_of rows ≡ none
+  fine : refusal_of rows ≡ None
   fine = sym i.verdict ∙ ap verdict_of e
 
   accepted_of : Accepted rows

@@ -1,6 +1,6 @@
 -- What the code holds of durations: those whose total is below 2^53; any other is refused, and is not worked out. Assumes nothing.
 use Rattle.std.specs.Prelude.{ℕ, ◌^◌, ◌≤◌, cond, ltb}
-use Rattle.std.proofs.Math.Option.{Option, none, some}
+use Rattle.std.specs.Prelude.{Option, None, Some}
 use Rattle.std.specs.Float.{binary64}
 use Rattle.std.specs.Float.Ieee.{mul}
 use Rattle.loops.specs.Lists.{option}
@@ -22,12 +22,12 @@ use Rattle.resource_timing.specs.Durations.{TimedSoFar, total_ms, in_part, at_sp
 
 -- the derived time is refused where it is 2^53 or more, or not finite
 unfoldable pub within : Option ActivityDuration → Derived
-within none = TooLarge
-within (some d) = cond (ltb (total_ms d) (2 ^ 53)) (Within d) TooLarge
+within None = TooLarge
+within (Some d) = cond (ltb (total_ms d) (2 ^ 53)) (Within d) TooLarge
 
 abbrev pub standing : Option ActivityDuration → Fixed
-standing none = Nothing
-standing (some d) = Standing (within (some d))
+standing None = Nothing
+standing (Some d) = Standing (within (Some d))
 
 abbrev pub timed_of : TimedSoFar → Timed
 timed_of f = record { speed = f.speed; fixed = standing f.fixed }
@@ -36,7 +36,7 @@ timed_of f = record { speed = f.speed; fixed = standing f.fixed }
 
 -- the total, where it is below 2^53
 unfoldable pub time_of : Derived → Time
-time_of (Within d) = limited (some (total_ms d))
+time_of (Within d) = limited (Some (total_ms d))
 time_of TooLarge = time.TooLarge
 
 -- the duration of greater total, the first of two equal ones
@@ -54,8 +54,8 @@ fixed_with (Standing f) d = Standing (longer_of f d)
 
 -- a resource's own duration for the activity, as the piece has it; none where its share is not worked out
 abbrev pub fixed_in : Piece → ActivityDuration → Option ActivityDuration
-fixed_in Whole d = some d
-fixed_in (InPart p) d = option (share_within d.process_ms p.work_ms p.whole_ms) none (λ n. some (in_part d n p))
+fixed_in Whole d = Some d
+fixed_in (InPart p) d = option (share_within d.process_ms p.work_ms p.whole_ms) None (λ n. Some (in_part d n p))
 
 -- one resource more that the piece runs on, by the activity's timing there
 unfoldable pub timed_with : Timed → Piece → ResourceTiming → Timed

@@ -1,18 +1,18 @@
 -- The table that indexes the rows by kind and by name, and how a table of places holds a place. It is filled once, and the checks walk along it in
 -- place of all rows. Assumes nothing.
 use Rattle.std.specs.Prelude.{ℕ, ◌+◌, ◌*◌, ◌%◌, ◌<◌, ◌≤◌, cond, List, ℤ, length, ltb}
-use Rattle.std.proofs.Math.Option.{Option, none, some}
+use Rattle.std.specs.Prelude.{Option, None, Some}
 use Rattle.loops.specs.inner.Chain.{Links, part}
 use Rattle.rows.specs.Cells.{row_count, num}
 
 -- a place as a number, and the number of rows for none
 unfoldable pub or_end : List ℤ → Option ℕ → ℕ
-or_end rows none = row_count rows
-or_end rows (some k) = k
+or_end rows None = row_count rows
+or_end rows (Some k) = k
 
 -- the row that a stored place names
 unfoldable pub stored_place : List ℤ → ℕ → Option ℕ
-stored_place rows k = cond (ltb k (row_count rows)) (some k) none
+stored_place rows k = cond (ltb k (row_count rows)) (Some k) None
 
 -- ---- what the table holds
 

@@ -1,12 +1,12 @@
 -- Places that are found once and kept: a table has the place for row k at k. Assumes nothing.
 use Rattle.std.specs.Prelude.{ℕ, ◌<◌, ◌≤◌, ◌≡◌, List, ℤ, get_or}
-use Rattle.std.proofs.Math.Option.{Option, some}
+use Rattle.std.specs.Prelude.{Option, Some}
 use Rattle.rows.specs.Cells.{row_count}
 use Rattle.sheet.specs.inner.Index.{or_end}
 
 -- what was found is a row
 pub record IsRow (rows : List ℤ) (x : Option ℕ) : Type 0 where
-  pub within : (k : ℕ) → x ≡ some k → k < row_count rows
+  pub within : (k : ℕ) → x ≡ Some k → k < row_count rows
 
 -- what f finds for each row; past the last row the table has 0
 pub record Kept (rows : List ℤ) (f : ℕ → Option ℕ) (t : List ℕ) : Type 0 where

@@ -1,6 +1,6 @@
 -- What a span stands for, and a step of the loop over an activity's bookings. Assumes nothing.
 use Rattle.std.specs.Prelude.{ℕ, cond, List, ℤ, pos}
-use Rattle.std.proofs.Math.Option.{Option, none, some}
+use Rattle.std.specs.Prelude.{Option, None, Some}
 use Rattle.calendar.specs.Clock.{clock}
 use Rattle.rows.specs.Cells.{num, is}
 use Rattle.definition.specs.ActivitySpan as page
@@ -8,14 +8,14 @@ use Rattle.spans.specs.declared.ActivitySpan.{ActivitySpan}
 use Rattle.spans.specs.declared.ActivitySpan.TheVariants.{Between, Nowhere}
 
 abbrev pub span_meant : ActivitySpan → Option (page.Span ℤ)
-span_meant (Between a e) = some (record { start = pos a; end = pos e })
-span_meant Nowhere = none
+span_meant (Between a e) = Some (record { start = pos a; end = pos e })
+span_meant Nowhere = None
 
 -- a span widened to hold the time from a to e
 abbrev pub widened : Option (page.Span ℤ) → ℤ → ℤ → Option (page.Span ℤ)
-widened none a e = some (record { start = a; end = e })
-widened (some x) a e =
-    some
+widened None a e = Some (record { start = a; end = e })
+widened (Some x) a e =
+    Some
     (record {
       start = cond (clock.before a x.start) a x.start;
       end = cond (clock.before x.end e) e x.end;

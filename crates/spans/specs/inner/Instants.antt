@@ -1,6 +1,6 @@
 -- What an answer stands for, and a step of the loop over ends. Assumes nothing.
 use Rattle.std.specs.Prelude.{ℕ, cond, List, ℤ, pos}
-use Rattle.std.proofs.Math.Option.{Option, none, some}
+use Rattle.std.specs.Prelude.{Option, None, Some}
 use Rattle.calendar.specs.Clock.{clock}
 use Rattle.rows.specs.Cells.{num, is}
 use Rattle.model.specs.Schedule.{later_of}
@@ -8,8 +8,8 @@ use Rattle.spans.specs.declared.Instant.{Instant}
 use Rattle.spans.specs.declared.Instant.TheVariants.{At, Nothing}
 
 abbrev pub meant : Instant → Option ℤ
-meant (At x) = some (pos x)
-meant Nothing = none
+meant (At x) = Some (pos x)
+meant Nothing = None
 
 -- the end in column c of row k, where the row is of the task, if it is later than e
 unfoldable pub end_if : List ℤ → ℕ → ℕ → Option ℤ → ℕ → Option ℤ

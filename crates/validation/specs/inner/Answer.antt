@@ -1,6 +1,6 @@
 -- What the validation of a sheet answers. Assumes nothing.
 use Rattle.std.specs.Prelude.{ℕ, ◌≡◌, List, ℤ, length}
-use Rattle.std.proofs.Math.Option.{Option, none}
+use Rattle.std.specs.Prelude.{Option, None}
 use Rattle.loops.specs.Search.{or_else, first}
 use Rattle.rows.specs.Cells.{row_count}
 use Rattle.sheet.specs.inner.Index.{Kinds}
@@ -26,5 +26,5 @@ link_refusal rows = or_else (first (owner_fault rows) (row_count rows)) (first (
 -- what `index` answers and leaves: the verdict; the tables of the rows, if none of 1 to 3 refuses the sheet, and else what was lent
 pub record Indexing (rows : List ℤ) (k₀ l₀ o₀ : List ℕ) (v : Verdict) (k l o : List ℕ) : Type 0 where
   pub verdict : verdict_of v ≡ refusal_of rows
-  pub tables : shape_refusal rows ≡ none → Tables rows k l o
-  pub kept : (shape_refusal rows ≡ none → ⊥) → (k ≡ k₀) × (l ≡ l₀) × (o ≡ o₀)
+  pub tables : shape_refusal rows ≡ None → Tables rows k l o
+  pub kept : (shape_refusal rows ≡ None → ⊥) → (k ≡ k₀) × (l ≡ l₀) × (o ≡ o₀)

@@ -1,6 +1,6 @@
 -- Whose windows are laid out, and what is laid out. Assumes nothing.
 use Rattle.std.specs.Prelude.{ℕ, ◌+◌, ◌*◌, ◌≤◌, ◌≡◌, List, [], ◌∷◌, ◌⊎◌, ℤ, length}
-use Rattle.std.proofs.Math.Option.{some}
+use Rattle.std.specs.Prelude.{Some}
 use Rattle.std.proofs.lemmas.List.Edits.{sets}
 use Rattle.loops.specs.Lists.{each}
 use Rattle.loops.specs.Numbers.{to_nat}
@@ -12,7 +12,7 @@ use Rattle.sheet.specs.Places.{place_of}
 
 -- row o is an activity and x the kind of its windows, or it is a resource and x the kind of its windows
 abbrev pub Holder : List ℤ → ℕ → ℕ → Type 0
-Holder rows o x = ((x ≡ 16) × (place_of rows 2 (num rows o 1) ≡ some o)) ⊎ ((x ≡ 15) × (place_of rows 11 (num rows o 1) ≡ some o))
+Holder rows o x = ((x ≡ 16) × (place_of rows 2 (num rows o 1) ≡ Some o)) ⊎ ((x ≡ 15) × (place_of rows 11 (num rows o 1) ≡ Some o))
 
 -- the window of row k
 abbrev pub window_here : List ℤ → ℕ → TimeWindow
