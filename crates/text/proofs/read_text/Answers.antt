@@ -5,8 +5,8 @@ use Rattle.text.proofs.read_text.Goals as goal
 pub returns-then-text-gt65536 : goal.returns-then-text-gt65536
 returns-then-text-gt65536 c = search (rules, long_text, long_rows)
 
-pub returns-in-Accepted : goal.returns-in-Accepted
-returns-in-Accepted c = search (rules, short_answer, read_rows)
+pub returns-in-Ok : goal.returns-in-Ok
+returns-in-Ok c = search (rules, short_answer, read_rows)
 
 pub returns-in_default : goal.returns-in_default
 returns-in_default c = search (rules, short_answer, refused_rows)
