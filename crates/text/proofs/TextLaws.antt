@@ -2,7 +2,7 @@
 use Rattle.std.specs.Prelude.{Result, Ok, Err}
 use Rattle.refusals.specs.Refusals.{at}
 use Rattle.refusals.specs.declared.Reason.{Reason}
-use Rattle.refusals.specs.declared.Reason.TheVariants.{Crowded, Misspelt, Overlong}
+use Rattle.refusals.specs.declared.Reason.TheVariants.{UnknownKind, Crowded, Misspelt, Overlong}
 use Rattle.refusals.specs.declared.Refusal.{Refusal}
 use Prim.Native.Nat.{ℕ, suc, ◌+◌, ◌*◌, ◌-◌, ◌/◌, ◌≤◌, ◌<◌}
 use mathlib.Core.Bool.{Bool, true, false, cond, ◌&&◌, not}
@@ -34,7 +34,7 @@ use Rattle.text_fields.proofs.PartLaws.{parts_only, parts_more, parts_first}
 some_columns : (k n : ℕ) → by_kind k n ≡ (Ok tt) → n ≤ 10
 some_columns k n e = go (ltb 0 k && ltb k 25) (eqb n (suc (width k))) refl e
   where
-    go : (a t : Bool) → eqb n (suc (width k)) ≡ t → cond a (cond t (Ok tt) (Err 9)) (Err 2) ≡ (Ok tt) → n ≤ 10
+    go : (a t : Bool) → eqb n (suc (width k)) ≡ t → ◌≡◌ {A = Result Unit Reason} (cond a (cond t (Ok tt) (Err Misspelt)) (Err UnknownKind)) (Ok tt) → n ≤ 10
     go true true q e = omega (arith, width_most k, eqb-true n (suc (width k)) q)
     go true false q e = absurd (no_row e)
     go false t q e = absurd (no_row e)
@@ -43,7 +43,7 @@ few_fields : (l : List ℕ) → line_of l ≡ (Ok tt) → length (fields_of l) �
 unfolding line_of
 few_fields l e = go (spelled (fields_of l) && not (is_empty (get_or (fields_of l) 0 []))) e
   where
-    go : (t : Bool) → cond t (by_kind (to_nat (value_of (get_or (fields_of l) 0 []))) (length (fields_of l))) (Err 9) ≡ (Ok tt) → length (fields_of l) ≤ 10
+    go : (t : Bool) → cond t (by_kind (to_nat (value_of (get_or (fields_of l) 0 []))) (length (fields_of l))) (Err Misspelt) ≡ (Ok tt) → length (fields_of l) ≤ 10
     go true q = some_columns (to_nat (value_of (get_or (fields_of l) 0 []))) (length (fields_of l)) q
     go false q = absurd (no_row q)
 
@@ -79,9 +79,9 @@ module _ (text : List ℕ) (lent : ℕ) (rows₀ rows : List ℤ) (rest : List �
 
   module _ (l : List ℕ) (e : l ≡ until_byte 10 rest) where
     -- no line feed
-    pub open_answer : 0 < length rest → length rest ≤ length l → Err (at Misspelt place) ≡ answer_from lent 0 (parts 10 text)
+    pub open_answer : {e : Refusal} → e ≡ at Misspelt place → 0 < length rest → length rest ≤ length l → Err e ≡ answer_from lent 0 (parts 10 text)
     unfolding answer_from
-    open_answer h k = rw (parts_only 10 rest l e k, not_empty l (omega arith)) at w.answer
+    open_answer a h k = rw a (rw (parts_only 10 rest l e k, not_empty l (omega arith)) at w.answer)
 
     pub open_rows : length rest ≤ length l → rows ≡ sets rows₀ 0 (rows_read lent 0 (parts 10 text))
     unfolding rows_read
@@ -96,16 +96,16 @@ module _ (text : List ℕ) (lent : ℕ) (rows₀ rows : List ℤ) (rest : List �
           (p.0, o ∙ ap (λ (ps : List (List ℕ)). l ∷ ps) p.1, p.1)
 
       module _ {x : Result Unit Reason} (j : x ≡ line_of l) where
-        pub wrong_answer : (k : Reason) → x ≡ Err k → Err (at k place) ≡ answer_from lent 0 (parts 10 text)
+        pub wrong_answer : (k : Reason) {e : Refusal} → e ≡ at k place → x ≡ Err k → Err e ≡ answer_from lent 0 (parts 10 text)
         unfolding answer_from
-        wrong_answer k q = rw (opened.1, sym j ∙ q) at w.answer
+        wrong_answer k a q = rw a (rw (opened.1, sym j ∙ q) at w.answer)
 
-        pub full_answer : x ≡ (Ok tt) → lent ≤ place → Err (at Crowded place) ≡ answer_from lent 0 (parts 10 text)
+        pub full_answer : {e : Refusal} → e ≡ at Crowded place → x ≡ Ok tt → lent ≤ place → Err e ≡ answer_from lent 0 (parts 10 text)
         unfolding answer_from
-        full_answer q k = rw (opened.1, sym j ∙ q, le-ltb place lent k) at w.answer
+        full_answer a q k = rw a (rw (opened.1, sym j ∙ q, le-ltb place lent k) at w.answer)
 
         module _ {rows' : List ℤ} (s : rows' ≡ sets rows (place * 10) (row_of l)) where
-          pub wrong_rows : (k : ℕ) → x ≡ Err k → rows' ≡ sets rows₀ 0 (rows_read lent 0 (parts 10 text))
+          pub wrong_rows : (k : Reason) → x ≡ Err k → rows' ≡ sets rows₀ 0 (rows_read lent 0 (parts 10 text))
           unfolding rows_read
           wrong_rows k q = s ∙ (rw (opened.1, sym j ∙ q, append-nil (row_of l)) at w.stores)
 
@@ -162,12 +162,12 @@ accepted_stored rows ps n e =
 
 -- ---- the two readings
 
-pub long_text : (text : List ℕ) (lent : ℕ) → 65536 < length text → Err (at Overlong 0) ≡ answer_of text lent
+pub long_text : (text : List ℕ) (lent : ℕ) {e : Refusal} → e ≡ at Overlong 0 → 65536 < length text → Err e ≡ answer_of text lent
 unfolding answer_of
-long_text text lent h = rw (lt-ltb 65536 (length text))
+long_text text lent a h = rw (a, lt-ltb 65536 (length text))
 
 pub long_rows : (text : List ℕ) (lent : ℕ) (rows : List ℤ) → 65536 < length text → rows ≡ rows_after (answer_of text lent) text rows
-long_rows text lent rows h = ap (λ (a : Result ℕ Refusal). rows_after a text rows) (long_text text lent h)
+long_rows text lent rows h = ap (λ (a : Result ℕ Refusal). rows_after a text rows) (long_text text lent refl h)
 
 module _ (text : List ℕ) (rows : List ℤ) (h : length text ≤ 65536) {a : Result ℕ Refusal} (e : a ≡ answer_from (length rows / 10) 0 (parts 10 text)) where
   pub short_answer : a ≡ answer_of text (length rows / 10)
@@ -177,7 +177,7 @@ module _ (text : List ℕ) (rows : List ℤ) (h : length text ≤ 65536) {a : Re
   -- the first reading is lent none of the rows, and so leaves them as they were
   module _ (none : List ℤ) (n : length none ≡ 0) where
     pub refused_rows : (e : Refusal) → a ≡ Err e → none ++ rows ≡ rows_after (answer_of text (length rows / 10)) text rows
-    refused_rows k p r = none_ahead none rows n ∙ ap (λ (a : Result ℕ Refusal). rows_after a text rows) (sym r ∙ short_answer)
+    refused_rows k r = none_ahead none rows n ∙ ap (λ (a : Result ℕ Refusal). rows_after a text rows) (sym r ∙ short_answer)
 
     pub read_rows : (m : ℕ) → a ≡ Ok m → {rows' : List ℤ} → rows' ≡ sets (none ++ rows) 0 (rows_read (length rows / 10) 0 (parts 10 text))
         → rows' ≡ rows_after (answer_of text (length rows / 10)) text rows

@@ -46,9 +46,6 @@ pub fn read_text(text: &[u8], rows: &mut [i64]) -> Answer
     }
     let lent = rows.len() / 10;
     let classes = rows::class_table();
-    let found = read_lines(text, &mut rows[..0], lent, &classes);
-    if let Ok(_) = found {
-        let _ = read_lines(text, rows, lent, &classes);
-    }
-    found
+    read_lines(text, &mut rows[..0], lent, &classes)?;
+    read_lines(text, rows, lent, &classes)
 }
