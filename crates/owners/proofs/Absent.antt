@@ -15,7 +15,8 @@ use Rattle.loops.specs.Search.{any_below}
 use Rattle.loops.proofs.BoolLaws.{and_left, and_right}
 use Rattle.loops.proofs.SearchLaws.{any_none}
 use Rattle.rows.specs.Cells.{row_count, num, is}
-use Rattle.rows.specs.Class.{Class, blank_c, kind_c, id_c, n_c, u_c, t_c, m_c, g_c, f_c, share_c, speed_c, n?_c, t?_c, m?_c, task_c, activity_c, resource_c, requirement_c, constraint_c}
+use Rattle.rows.specs.declared.Class.{Class}
+use Rattle.rows.specs.declared.Class.TheVariants.{Blank, RowKind, Id, Number, Count, Instant, Duration, SignedTime, Flag, ShareBits, SpeedBits, OptionalNumber, OptionalInstant, OptionalDuration, TaskId, ActivityId, ResourceId, RequirementPlace, ConstraintPlace}
 use Rattle.rows.specs.inner.Codes.{class_at, code_of}
 use Rattle.rows.specs.Table.{columns, class_of}
 use Rattle.rows.proofs.Tables.{code_class}
@@ -34,25 +35,25 @@ plain kind c = ltb (code_of (class_of kind c)) 14
 
 lacks_none : (cl : Class) (rows : List ℤ) (k c : ℕ) → ltb (code_of cl) 14 ≡ true → lacks cl rows k c ≡ false
 unfolding lacks
-lacks_none blank_c rows k c e = refl
-lacks_none kind_c rows k c e = refl
-lacks_none id_c rows k c e = refl
-lacks_none n_c rows k c e = refl
-lacks_none u_c rows k c e = refl
-lacks_none t_c rows k c e = refl
-lacks_none m_c rows k c e = refl
-lacks_none g_c rows k c e = refl
-lacks_none f_c rows k c e = refl
-lacks_none share_c rows k c e = refl
-lacks_none speed_c rows k c e = refl
-lacks_none n?_c rows k c e = refl
-lacks_none t?_c rows k c e = refl
-lacks_none m?_c rows k c e = refl
-lacks_none task_c rows k c e = absurd (false≢true e)
-lacks_none activity_c rows k c e = absurd (false≢true e)
-lacks_none resource_c rows k c e = absurd (false≢true e)
-lacks_none requirement_c rows k c e = absurd (false≢true e)
-lacks_none constraint_c rows k c e = absurd (false≢true e)
+lacks_none Blank rows k c e = refl
+lacks_none RowKind rows k c e = refl
+lacks_none Id rows k c e = refl
+lacks_none Number rows k c e = refl
+lacks_none Count rows k c e = refl
+lacks_none Instant rows k c e = refl
+lacks_none Duration rows k c e = refl
+lacks_none SignedTime rows k c e = refl
+lacks_none Flag rows k c e = refl
+lacks_none ShareBits rows k c e = refl
+lacks_none SpeedBits rows k c e = refl
+lacks_none OptionalNumber rows k c e = refl
+lacks_none OptionalInstant rows k c e = refl
+lacks_none OptionalDuration rows k c e = refl
+lacks_none TaskId rows k c e = absurd (false≢true e)
+lacks_none ActivityId rows k c e = absurd (false≢true e)
+lacks_none ResourceId rows k c e = absurd (false≢true e)
+lacks_none RequirementPlace rows k c e = absurd (false≢true e)
+lacks_none ConstraintPlace rows k c e = absurd (false≢true e)
 
 past : (kind c : ℕ) → 25 ≤ kind → plain kind (suc c) ≡ true
 past kind c h = rw (get_or-eq_default columns [] h)
@@ -117,7 +118,7 @@ module _ (rows : List ℤ) (k : ℕ) where
   -- only columns 1 and 2 name owners
   pub unowned_is : unowned rows k ≡ (absent_at rows k 1 || absent_at rows k 2)
   unfolding unowned absent_at
-  unowned_is = any_ten (absent_at rows k) (lacks_none kind_c rows k 0 refl) (λ c l. lacks_none (class_of (num rows k 0) (suc (suc (suc c)))) rows k (suc (suc (suc c))) (rest_at_lem (num rows k 0) c l))
+  unowned_is = any_ten (absent_at rows k) (lacks_none RowKind rows k 0 refl) (λ c l. lacks_none (class_of (num rows k 0) (suc (suc (suc c)))) rows k (suc (suc (suc c))) (rest_at_lem (num rows k 0) c l))
 
   module _ {kind : ℕ} (e : kind ≡ num rows k 0) where
     absent_plain : (c : ℕ) → plain kind c ≡ true → absent_at rows k c ≡ false
@@ -156,7 +157,7 @@ module _ (rows : List ℤ) (k : ℕ) where
       by_task w =
           let h : (plain kind 1 && eqb (code_of (class_of kind 2)) 14) ≡ true = rw (le-ltb 22 kind l, is_kind_lem 1 w) at (agree_at kind (omega arith)) in
           two false (is_absent (owner_of rows 1 k)) (absent_plain 1 (and_left (plain kind 1) (eqb (code_of (class_of kind 2)) 14) h))
-          (absent_class 2 task_c (and_right (plain kind 1) (eqb (code_of (class_of kind 2)) 14) h))
+          (absent_class 2 TaskId (and_right (plain kind 1) (eqb (code_of (class_of kind 2)) 14) h))
 
       one : (cl : Class) → (eqb (code_of (class_of kind 1)) (code_of cl) && plain kind 2) ≡ true → unowned rows k ≡ lacks cl rows k 1
       one cl h =
@@ -165,23 +166,23 @@ module _ (rows : List ℤ) (k : ℕ) where
 
       pub by_activity : x ≡ 2 → unowned rows k ≡ is_absent (owner_of rows 2 k)
       unfolding lacks owner_of
-      by_activity w = one activity_c (rw (le-ltb 22 kind l, is_kind_lem 2 w) at (agree_at kind (omega arith)))
+      by_activity w = one ActivityId (rw (le-ltb 22 kind l, is_kind_lem 2 w) at (agree_at kind (omega arith)))
 
       pub by_resource_lem : x ≡ 11 → unowned rows k ≡ is_absent (owner_of rows 11 k)
       unfolding lacks owner_of
-      by_resource_lem w = one resource_c (rw (le-ltb 22 kind l, is_kind_lem 11 w) at (agree_at kind (omega arith)))
+      by_resource_lem w = one ResourceId (rw (le-ltb 22 kind l, is_kind_lem 11 w) at (agree_at kind (omega arith)))
 
       pub by_constraint : x ≡ 17 → unowned rows k ≡ not (has_members rows (owner_of rows 17 k))
       unfolding lacks owner_of
-      by_constraint w = one constraint_c (rw (le-ltb 22 kind l, is_kind_lem 17 w) at (agree_at kind (omega arith)))
+      by_constraint w = one ConstraintPlace (rw (le-ltb 22 kind l, is_kind_lem 17 w) at (agree_at kind (omega arith)))
 
       pub by_requirement : x ≡ 5 → unowned rows k ≡ (is_absent (activity_place rows (num rows k 1)) || is_absent (owner_of rows 5 k))
       unfolding lacks owner_of
       by_requirement w =
           let h : (eqb (code_of (class_of kind 1)) 15 && eqb (code_of (class_of kind 2)) 17) ≡ true = rw (le-ltb 22 kind l, is_kind_lem 5 w) at (agree_at kind (omega arith)) in
           two (is_absent (activity_place rows (num rows k 1))) (is_absent (owner_of rows 5 k))
-          (absent_class 1 activity_c (and_left (eqb (code_of (class_of kind 1)) 15) (eqb (code_of (class_of kind 2)) 17) h))
-          (absent_class 2 requirement_c (and_right (eqb (code_of (class_of kind 1)) 15) (eqb (code_of (class_of kind 2)) 17) h))
+          (absent_class 1 ActivityId (and_left (eqb (code_of (class_of kind 1)) 15) (eqb (code_of (class_of kind 2)) 17) h))
+          (absent_class 2 RequirementPlace (and_right (eqb (code_of (class_of kind 1)) 15) (eqb (code_of (class_of kind 2)) 17) h))
 
       -- an owner is of one of these kinds
       pub each_owner : {P : Type 0} → (x ≡ 0 → P) → (x ≡ 1 → P) → (x ≡ 2 → P) → (x ≡ 5 → P) → (x ≡ 11 → P) → (x ≡ 17 → P) → P

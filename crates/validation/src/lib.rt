@@ -24,12 +24,10 @@ fn is_misshapen(n: usize) -> bool
 fn first_column_fault(rows: &[i64]) -> Verdict
     ensures { verdict_of result ≡ first (column_fault rows.now) (row_count rows.now) }
 {
-    let classes = rows::class_table();
-    let ranges = rows::range_table();
     let n = rows::row_count(rows);
     let mut k = 0;
     while k < n {
-        column_faults::column_fault(&classes, &ranges, rows, k)?;
+        column_faults::column_fault(rows, k)?;
         k += 1;
     }
     Ok(())
