@@ -27,7 +27,7 @@ use Rattle.refusals.specs.Refusals.{refuse, verdict_of, at}
 use Rattle.refusals.specs.declared.Reason.TheVariants.{OutOfRange, Overlong, Malformed}
 use Rattle.refusals.specs.declared.Refusal.{Refusal}
 use Rattle.refusals.specs.Lending.{answered, lent_after}
-use Rattle.rows.specs.Class.{id_c}
+use Rattle.rows.specs.declared.Class.TheVariants.{Id}
 use Rattle.rows.specs.Ranges.{between, in_range, in_class}
 use Rattle.freebusy_lines.specs.Lines.{lines}
 use Rattle.freebusy_components.specs.Components.{wrong_from}
@@ -124,26 +124,26 @@ module _ (text : List ℕ) (id : ℕ) (rows : List ℤ) {w : Place} (f : place_o
 
 -- ---- the resource's number
 
-id_small : (z : ℤ) → in_class id_c z ≡ true → to_nat z ≤ 999999999
+id_small : (z : ℤ) → in_class Id z ≡ true → to_nat z ≤ 999999999
 unfolding in_class in_range between
 id_small (pos n) e = leb-true n 999999999 (and_right (leb 0 n) (leb n 999999999) (or_left (leb 0 n && leb n 999999999) false e refl))
 id_small (negsuc n) e = absurd (let z : ◌≡◌ {A = ℕ} 0 1 = cc in omega arith)
 
-id_pos : (z : ℤ) → in_class id_c z ≡ true → pos (to_nat z) ≡ z
+id_pos : (z : ℤ) → in_class Id z ≡ true → pos (to_nat z) ≡ z
 unfolding in_class in_range between
 id_pos (pos n) e = refl
 id_pos (negsuc n) e = absurd (let z : ◌≡◌ {A = ℕ} 0 1 = cc in omega arith)
 
 -- what a test of it told: the machine reads the number back
 module _ (z : ℤ) (f : SFits w64 z) where
-  pub class_read : {b : Bool} → b ≡ in_class id_c (to_z w64 (of_z w64 z)) → b ≡ in_class id_c z
-  class_read e = e ∙ ap (in_class id_c) (to_z-of_z f)
+  pub class_read : {b : Bool} → b ≡ in_class Id (to_z w64 (of_z w64 z)) → b ≡ in_class Id z
+  class_read e = e ∙ ap (in_class Id) (to_z-of_z f)
 
-  module _ {b : Bool} (i : b ≡ in_class id_c (to_z w64 (of_z w64 z))) where
-    is_stray : not b ≡ true → in_class id_c z ≡ false
+  module _ {b : Bool} (i : b ≡ in_class Id (to_z w64 (of_z w64 z))) where
+    is_stray : not b ≡ true → in_class Id z ≡ false
     is_stray h = sym (class_read i) ∙ not-true b h
 
-    is_ours : not b ≡ false → in_class id_c z ≡ true
+    is_ours : not b ≡ false → in_class Id z ≡ true
     is_ours h = sym (class_read i) ∙ not-false b h
 
     pub id_fits : {id : ℕ} → id ≡ to_nat (to_z w64 (of_z w64 z)) → not b ≡ false → id < 2 ^ 63
@@ -161,7 +161,7 @@ module _ (text : List ℕ) (resource : ℤ) (rows : List ℤ) where
   unfolding freebusy_after freebusy_refusal
   long_rows h = rw (lt-ltb 65536 (length text) h)
 
-  module _ {b : Bool} (i : b ≡ in_class id_c (to_z w64 (of_z w64 resource))) (fit : SFits w64 resource) (short : length text ≤ 65536) where
+  module _ {b : Bool} (i : b ≡ in_class Id (to_z w64 (of_z w64 resource))) (fit : SFits w64 resource) (short : length text ≤ 65536) where
     -- 3
     pub stray_answer : not b ≡ true → Err (at OutOfRange 0) ≡ freebusy_answer text resource (length rows / 10)
     unfolding freebusy_answer freebusy_refusal
@@ -201,8 +201,8 @@ accepted_few text resource room {n} e = go (freebusy_refusal text resource room)
   where
     go : (o : Option Refusal) → freebusy_refusal text resource room ≡ o → answered o (length (closures text)) ≡ Ok n → n ≤ room
     go None p q =
-        let a = or_none_right (refuse (ltb 65536 (length text)) Overlong 0) (or_else (refuse (not (in_class id_c resource)) OutOfRange 0) (or_else (line_refusal (wrong_from None 0 (lines text))) (periods_refusal room 0 (periods_in text)))) p in
-        let b = or_none_right (refuse (not (in_class id_c resource)) OutOfRange 0) (or_else (line_refusal (wrong_from None 0 (lines text))) (periods_refusal room 0 (periods_in text))) a in
+        let a = or_none_right (refuse (ltb 65536 (length text)) Overlong 0) (or_else (refuse (not (in_class Id resource)) OutOfRange 0) (or_else (line_refusal (wrong_from None 0 (lines text))) (periods_refusal room 0 (periods_in text)))) p in
+        let b = or_none_right (refuse (not (in_class Id resource)) OutOfRange 0) (or_else (line_refusal (wrong_from None 0 (lines text))) (periods_refusal room 0 (periods_in text))) a in
         let d = or_none_right (line_refusal (wrong_from None 0 (lines text))) (periods_refusal room 0 (periods_in text)) b in
         let k : length (closures text) ≡ n = cc in
         omega (arith, passed_fit room 0 (periods_in text) 0 (omega arith) d)

@@ -8,7 +8,7 @@ use Rattle.refusals.specs.Refusals.{refuse}
 use Rattle.refusals.specs.declared.Reason.TheVariants.{OutOfRange, Overlong, Malformed, Overfull}
 use Rattle.refusals.specs.declared.Refusal.{Refusal}
 use Rattle.refusals.specs.Lending.{answered, lent_after}
-use Rattle.rows.specs.Class.{id_c}
+use Rattle.rows.specs.declared.Class.TheVariants.{Id}
 use Rattle.rows.specs.Ranges.{in_class}
 use Rattle.line_buffer.specs.Lines.{flat_lines}
 use Rattle.freebusy_lines.specs.Lines.{lines}
@@ -74,7 +74,7 @@ periods_refusal room n (b ∷ bs) = or_else (period_refusal room n b) (periods_r
 unfoldable pub freebusy_refusal : List ℕ → ℤ → ℕ → Option Refusal
 freebusy_refusal text resource room =
     or_else (refuse (ltb 65536 (length text)) Overlong 0)
-    (or_else (refuse (not (in_class id_c resource)) OutOfRange 0)
+    (or_else (refuse (not (in_class Id resource)) OutOfRange 0)
     (or_else (line_refusal (wrong_from None 0 (lines text))) (periods_refusal room 0 (periods_in text))))
 
 -- ---- the call

@@ -7,7 +7,7 @@ ghost use Rattle.line_buffer.specs.Lines.{flat_lines};
 ghost use Rattle.line_buffer.specs.inner.Sink.{sink};
 ghost use Rattle.refusals.specs.Refusals.{OVERFULL, refuse, verdict_of};
 ghost use Rattle.refusals.specs.Lending.{answered, lent_after};
-ghost use Rattle.rows.specs.Class.{id_c};
+ghost use Rattle.rows.specs.declared.Class.TheVariants.{Id};
 ghost use Rattle.rows.specs.Ranges.{in_class};
 ghost use Rattle.text_fields.specs.Parts.{parts};
 ghost use Rattle.freebusy_lines.specs.Lines.{unfolded};
@@ -20,9 +20,7 @@ ghost use Rattle.freebusy.specs.inner.Reading.{put_closures, ReadOn, unread, spa
 use freebusy_components::Place;
 use freebusy_periods::Window;
 use refusals::{Answer, Reason, Verdict};
-
-// The class of an id.
-const ID: u8 = 2;
+use rows::Class;
 
 // What the periods so far come to: how many rows they have, and the refusal of the first that is refused.
 #[derive(Clone, Copy)]
@@ -233,10 +231,9 @@ fn read_periods(text: &[u8], id: u64, rows: &mut [i64], room: usize, space: &mut
 }
 
 fn is_id(resource: i64) -> bool
-    ensures { result ≡ in_class id_c resource }
+    ensures { result ≡ in_class Id resource }
 {
-    let ranges = rows::range_table();
-    rows::in_class(&ranges, ID, resource)
+    Class::Id.allows(resource)
 }
 
 fn answer_of(found: Reading) -> Answer

@@ -17,7 +17,7 @@ use Rattle.loops.proofs.PartLaws.{collect_nothing}
 use Rattle.loops.proofs.SearchLaws.{count_le}
 use Rattle.calendar.specs.Calendar.{Window, Calendar}
 use Rattle.calendar.specs.Layout.{window_of}
-use Rattle.rows.specs.Class.{resource_c}
+use Rattle.rows.specs.declared.Class.TheVariants.{ResourceId}
 use Rattle.rows.specs.Cells.{row_count, num, is}
 use Rattle.sheet.specs.inner.Accepted.{Accepted}
 use Rattle.sheet.specs.Places.{place_of}
@@ -76,7 +76,7 @@ module _ (rows : List ℤ) where
 
   -- a resource that is not in the sheet has no windows
   module _ (acc : Accepted rows) (id : ℕ) (q : place_of rows 11 id ≡ None) where
-    absent : (k : ℕ) → is rows k 1 id ≡ true → lacks resource_c rows k 1 ≡ true
+    absent : (k : ℕ) → is rows k 1 id ≡ true → lacks ResourceId rows k 1 ≡ true
     unfolding lacks is
     absent k e = rw (eqb-true (num rows k 1) id e, q)
 

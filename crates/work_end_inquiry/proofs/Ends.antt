@@ -24,7 +24,7 @@ use Rattle.calendar.specs.Calendar.{Calendar, joint_working}
 use Rattle.calendar.specs.Amount.{since}
 use Rattle.calendar.specs.WorkEnd.{Ending, ends_at, pauses, never, map_ending, after, end_in, reach, reaches, end_after, end_from, joint_work_end}
 use Rattle.calendar.specs.Layout as layout
-use Rattle.rows.specs.Class.{id_c, t_c, g_c}
+use Rattle.rows.specs.declared.Class.TheVariants.{Id, Instant, SignedTime}
 use Rattle.rows.specs.Ranges.{between, is_none, in_range, in_class}
 use Rattle.rows.specs.Cells.{row_count, num, is}
 use Rattle.refusals.specs.Refusals.{verdict_of, at}
@@ -84,7 +84,7 @@ module _ (rows : List ℤ) (ok : refusal_of rows ≡ None) (s : ℕ) where
 
   reach_calendar : (resource : ℤ) → reach clock (pos s) (inquired_calendar rows resource) ≤ most
   unfolding inquired_calendar reach
-  reach_calendar resource = go (in_class id_c resource)
+  reach_calendar resource = go (in_class Id resource)
     where
       go : (b : Bool) → reach clock (pos s) (cond b (windows (sheet rows) 15 (to_nat resource)) []) ≤ most
       go true = reach_windows (to_nat resource)
@@ -132,14 +132,14 @@ in_range_lem : (b c : Bool) → (b || (false && c)) ≡ true → b ≡ true
 in_range_lem true c e = refl
 in_range_lem false c e = e
 
-start_in : (x : ℤ) → in_class t_c x ≡ true → (pos (to_nat x) ≡ x) × (to_nat x ≤ most)
+start_in : (x : ℤ) → in_class Instant x ≡ true → (pos (to_nat x) ≡ x) × (to_nat x ≤ most)
 unfolding in_class in_range between
-start_in (pos n) e = (refl, leb-true n most (and_right (le_z (pos 0) (pos n)) (le_z (pos n) (pos most)) (in_range_lem (in_range t_c (pos n)) (is_none (pos n)) e)))
+start_in (pos n) e = (refl, leb-true n most (and_right (le_z (pos 0) (pos n)) (le_z (pos n) (pos most)) (in_range_lem (in_range Instant (pos n)) (is_none (pos n)) e)))
 start_in (negsuc n) e = absurd (true≢false (sym e))
 
-work_in : (x : ℤ) → in_class g_c x ≡ true → to_nat x ≤ most
+work_in : (x : ℤ) → in_class SignedTime x ≡ true → to_nat x ≤ most
 unfolding in_class in_range between
-work_in (pos n) e = leb-true n most (and_right (le_z (negsuc 3999999999999) (pos n)) (le_z (pos n) (pos most)) (in_range_lem (in_range g_c (pos n)) (is_none (pos n)) e))
+work_in (pos n) e = leb-true n most (and_right (le_z (negsuc 3999999999999) (pos n)) (le_z (pos n) (pos most)) (in_range_lem (in_range SignedTime (pos n)) (is_none (pos n)) e))
 work_in (negsuc n) e = omega arith
 
 -- ---- what the functions work out: a signed number reaches a called function as the machine reads it back
@@ -147,14 +147,14 @@ work_in (negsuc n) e = omega arith
 abbrev read : ℤ → ℤ
 read x = to_z w64 (of_z w64 x)
 
-module _ (start work : ℤ) {a : Bool} (e : a ≡ in_class t_c (read start)) (p : SFits w64 start) where
-  pub order_more : {b : Bool} → a ≡ true → b ≡ in_class g_c (read work) → SFits w64 work → b ≡ in_order start work
+module _ (start work : ℤ) {a : Bool} (e : a ≡ in_class Instant (read start)) (p : SFits w64 start) where
+  pub order_more : {b : Bool} → a ≡ true → b ≡ in_class SignedTime (read work) → SFits w64 work → b ≡ in_order start work
   unfolding in_order
-  order_more f g q = rw (to_z-of_z q) at g ∙ ap (λ c. c && in_class g_c work) (sym f ∙ rw (to_z-of_z p) at e)
+  order_more f g q = rw (to_z-of_z q) at g ∙ ap (λ c. c && in_class SignedTime work) (sym f ∙ rw (to_z-of_z p) at e)
 
   pub order_no : a ≡ false → false ≡ in_order start work
   unfolding in_order
-  order_no f = ap (λ c. c && in_class g_c work) (sym f ∙ rw (to_z-of_z p) at e)
+  order_no f = ap (λ c. c && in_class SignedTime work) (sym f ∙ rw (to_z-of_z p) at e)
 
 pub said_end : {a : calendar.WorkEnd} {e : ℕ} → a ≡ ending.End e → Ok (ending_of.End e) ≡ said a
 said_end h = sym (ap said h)
@@ -176,14 +176,14 @@ laid_none w l e =
     })
 
 module _ (rows : List ℤ) where
-  module _ (resource : ℤ) {a : Bool} (e : a ≡ in_class id_c (read resource)) (p : SFits w64 resource) where
+  module _ (resource : ℤ) {a : Bool} (e : a ≡ in_class Id (read resource)) (p : SFits w64 resource) where
     pub laid_known : {w w' : List ℕ} {r n : ℕ} → Laid w w' 0 r (windows (sheet rows) 15 n) → n ≡ to_nat (read resource) → a ≡ true → Laid w w' 0 r (inquired_calendar rows resource)
     unfolding inquired_calendar
-    laid_known h g f = let c : in_class id_c resource ≡ true = sym (rw (to_z-of_z p) at e) ∙ f in rw (c, sym (rw (to_z-of_z p) at g)) h
+    laid_known h g f = let c : in_class Id resource ≡ true = sym (rw (to_z-of_z p) at e) ∙ f in rw (c, sym (rw (to_z-of_z p) at g)) h
 
     pub laid_unknown : {w : List ℕ} → a ≡ false → length w ≡ 2400 → Laid w w 0 0 (inquired_calendar rows resource)
     unfolding inquired_calendar
-    laid_unknown {w} f l = let c : in_class id_c resource ≡ false = sym (rw (to_z-of_z p) at e) ∙ f in laid_none w l (rw c)
+    laid_unknown {w} f l = let c : in_class Id resource ≡ false = sym (rw (to_z-of_z p) at e) ∙ f in laid_none w l (rw c)
 
   module _ (id : ℕ) {f : Found} (e : found_of f ≡ place_of rows 11 id) where
     pub laid_absent : {w : List ℕ} → f ≡ Nothing → refusal_of rows ≡ None → length w ≡ 2400 → Laid w w 0 0 (windows (sheet rows) 15 id)
@@ -202,12 +202,12 @@ module _ (rows : List ℤ) (resource start work : ℤ) (ok : refusal_of rows ≡
   unfolding in_order
   fits_inquiry =
       fits_end (inquired_calendar rows resource) (to_nat start) work (reach_calendar rows ok (to_nat start) resource)
-      (start_in start (and_left (in_class t_c start) (in_class g_c work) i)).1
-      (work_in work (and_right (in_class t_c start) (in_class g_c work) i))
+      (start_in start (and_left (in_class Instant start) (in_class SignedTime work) i)).1
+      (work_in work (and_right (in_class Instant start) (in_class SignedTime work) i))
 
   same_start : pos (to_nat start) ≡ start
   unfolding in_order
-  same_start = (start_in start (and_left (in_class t_c start) (in_class g_c work) i)).0
+  same_start = (start_in start (and_left (in_class Instant start) (in_class SignedTime work) i)).0
 
   one_calendar : (w : List ℕ) (m : ℕ) → layout.calendars_of w (0 ∷ m ∷ []) ≡ layout.calendar_of w 0 m ∷ []
   unfolding layout.calendars_of layout.lists_of layout.calendar_of collect

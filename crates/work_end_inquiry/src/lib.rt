@@ -15,14 +15,8 @@ ghost use Rattle.work_end_inquiry.specs.Inquiry.{ends, outcome_of, in_order, inq
 ghost use Rattle.work_end_inquiry.specs.inner.Said.{said};
 
 use refusals::{Reason, Refusal};
+use rows::Class;
 use sheet::Found;
-
-// The classes of an id, of an instant and of an amount that may be negative.
-const ID: u8 = 2;
-
-const T: u8 = 5;
-
-const G: u8 = 7;
 
 // The work ends at an instant; or the start is no working time; or too little working time follows.
 #[derive(Clone, Copy, PartialEq, Eq)]
@@ -37,11 +31,7 @@ pub type InquiryAnswer = Result<Ends, Refusal>;
 fn in_order(start: i64, work: i64) -> bool
     ensures { result ≡ in_order start work }
 {
-    let ranges = rows::range_table();
-    if rows::in_class(&ranges, T, start) {
-        return rows::in_class(&ranges, G, work);
-    }
-    false
+    Class::Instant.allows(start) && Class::SignedTime.allows(work)
 }
 
 // The calendar of the resource of that id, from place 0 of w on, and the place past its last window: none where the sheet has no such resource.
@@ -73,8 +63,7 @@ fn resource_calendar(
     requires { (refusal_of rows.now ≡ None) × Kinds rows.now kinds.now × Owned rows.now owned.now × (length w.old ≡ 2400) }
     ensures { Laid w.old w.new 0 result (inquired_calendar rows.now resource) }
 {
-    let ranges = rows::range_table();
-    if rows::in_class(&ranges, ID, resource) {
+    if Class::Id.allows(resource) {
         return resource_windows(rows, kinds, owned, rows::nat(resource), w);
     }
     0
