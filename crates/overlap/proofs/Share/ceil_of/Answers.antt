@@ -1,7 +1,7 @@
--- `overlap::ahead` meets its contract. Assumes nothing.
+-- `overlap::Share::ceil_of` meets its contract. Assumes nothing.
 use Rattle.overlap.proofs.Laws.{span_held, cut_above, cut_below, cut_le, cut_held, cut_fits, ahead_more, more_within, ahead_same}
 use lib.Ieee.{in_float}
-use Rattle.overlap.proofs.ahead.Goals as goal
+use Rattle.overlap.proofs.Share.ceil_of.Goals as goal
 
 pub int_to_float-x : goal.int_to_float-x
 unfolding in_float

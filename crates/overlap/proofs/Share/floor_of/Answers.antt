@@ -1,7 +1,7 @@
--- `overlap::behind` meets its contract. Assumes nothing.
+-- `overlap::Share::floor_of` meets its contract. Assumes nothing.
 use Rattle.overlap.proofs.Laws.{span_held, cut_above, cut_below, cut_is, cut_le}
 use lib.Ieee.{in_float}
-use Rattle.overlap.proofs.behind.Goals as goal
+use Rattle.overlap.proofs.Share.floor_of.Goals as goal
 
 pub int_to_float-span : goal.int_to_float-span
 unfolding in_float
