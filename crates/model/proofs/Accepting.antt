@@ -23,7 +23,8 @@ use Rattle.rows.specs.Ranges.{range, between, is_none, in_range, in_class}
 use Rattle.rows.proofs.Signs.{cell_past, cell_wide}
 use Rattle.rows.proofs.Tables.{class_wide}
 use Rattle.sheet.specs.Places.{named, place_of}
-use Rattle.refusals.specs.Refusals.{Refusal, refuse}
+use Rattle.refusals.specs.Refusals.{refuse}
+use Rattle.refusals.specs.declared.Refusal.{Refusal}
 use Rattle.sheet.specs.Refusals.{misshapen, known_kind, bad_cell, half_part, out_of_range, absent_at, lacks, unowned, repeats, repeated, column_fault, owner_fault, repeat_fault, refusal_of}
 use Rattle.sheet.specs.inner.Groups.{once}
 use Rattle.sheet.specs.inner.Accepted.{Accepted}

@@ -1,4 +1,5 @@
 -- Work that is started in a sheet ends, if it does, within the numbers of 64 bits. Assumes nothing.
+use Rattle.std.specs.Prelude.{Result, Ok, Err}
 use Prim.Native.Nat.{ℕ, zero, suc, ◌+◌, ◌^◌, ◌<◌, ◌≤◌, max, min}
 use mathlib.Core.Path.{◌≡◌, refl, sym, ap, subst, ◌∙◌}
 use mathlib.Core.Bool.{Bool, true, false, cond, ◌&&◌, ◌||◌, true≢false}
@@ -26,10 +27,10 @@ use Rattle.calendar.specs.Layout as layout
 use Rattle.rows.specs.Class.{id_c, t_c, g_c}
 use Rattle.rows.specs.Ranges.{between, is_none, in_range, in_class}
 use Rattle.rows.specs.Cells.{row_count, num, is}
-use Rattle.refusals.specs.Refusals.{verdict_of}
+use Rattle.refusals.specs.Refusals.{verdict_of, at}
+use Rattle.refusals.specs.declared.Reason.TheVariants.{OutOfRange}
+use Rattle.refusals.specs.declared.Refusal.{Refusal}
 use Rattle.sheet.specs.Refusals.{refusal_of}
-use Rattle.refusals.specs.declared.Verdict.{Verdict}
-use Rattle.refusals.specs.declared.Verdict.TheVariants as verdict
 use Rattle.sheet.specs.Places.{place_of}
 use Rattle.sheet.specs.declared.Found.{Found}
 use Rattle.sheet.specs.declared.Found.TheVariants.{At, Nothing}
@@ -226,28 +227,28 @@ module _ (rows : List ℤ) (resource start work : ℤ) (ok : refusal_of rows ≡
   ending_said {m = m} {w = w} l h e f o p q =
       ap outcome_of (f ∙ ap said (rw (to_z-of_z q, h, to_z-of_z p) at e)) ∙ ending_is w m (l.calendar ∙ ap (inquired_calendar rows) (to_z-of_z o))
 
-module _ (rows : List ℤ) {v : Verdict} where
-  pub no_refusal : verdict_of v ≡ refusal_of rows → v ≡ verdict.Fine → refusal_of rows ≡ None
+module _ (rows : List ℤ) {v : Result Unit Refusal} where
+  pub no_refusal : verdict_of v ≡ refusal_of rows → v ≡ Ok tt → refusal_of rows ≡ None
   no_refusal e f = sym e ∙ ap verdict_of f
 
-  module _ {k₀ l₀ o₀ k l o : List ℕ} (i : Indexing rows k₀ l₀ o₀ v k l o) (f : v ≡ verdict.Fine) where
+  module _ {k₀ l₀ o₀ k l o : List ℕ} (i : Indexing rows k₀ l₀ o₀ v k l o) (f : v ≡ Ok tt) where
     pub kinds_of : Kinds rows k
     kinds_of = (tables_of rows i (no_refusal i.verdict f)).kinds
 
     pub owned_of : Owned rows o
     owned_of = (tables_of rows i (no_refusal i.verdict f)).owned
 
-  pub inquiry_refused : (resource start work : ℤ) {n k : ℕ} → verdict_of v ≡ refusal_of rows → v ≡ verdict.Refused n k
-      → refused (record { number = n; place = k }) ≡ inquiry rows resource start work
+  pub inquiry_refused : (resource start work : ℤ) {e : Refusal} → verdict_of v ≡ refusal_of rows → v ≡ Err e
+      → refused e ≡ inquiry rows resource start work
   unfolding inquiry inquiry_refusal
   inquiry_refused resource start work e f = rw (sym e ∙ ap verdict_of f)
 
-  module _ (resource start work : ℤ) {a : Bool} (h : a ≡ in_order (read start) (read work)) (e : verdict_of v ≡ refusal_of rows) (f : v ≡ verdict.Fine)
+  module _ (resource start work : ℤ) {a : Bool} (h : a ≡ in_order (read start) (read work)) (e : verdict_of v ≡ refusal_of rows) (f : v ≡ Ok tt)
       (p : SFits w64 start) (q : SFits w64 work) where
     in_order_lem : in_order start work ≡ a
     in_order_lem = sym (rw (to_z-of_z p, to_z-of_z q) at h)
 
-    pub inquiry_own : a ≡ false → refused (record { number = 3; place = 0 }) ≡ inquiry rows resource start work
+    pub inquiry_own : a ≡ false → refused (at OutOfRange 0) ≡ inquiry rows resource start work
     unfolding inquiry inquiry_refusal
     inquiry_own i = rw (no_refusal e f, in_order_lem ∙ i)
 

@@ -4,10 +4,10 @@ use borrow.Author.Rules.{rules}
 use Rattle.feasibility.proofs.check_schedule.Goals as goal
 
 pub check_times-requires : goal.check_times-requires
-check_times-requires c = indexed_of _ c.index-verdict.ensures c.in-Fine.is
+check_times-requires c = indexed_of _ c.index-verdict.ensures c.in-Ok.is
 
-pub returns-in-Refused : goal.returns-in-Refused
-returns-in-Refused c =
+pub returns-in-Err : goal.returns-in-Err
+returns-in-Err c =
     record {
       value = search (rules, rows_answer);
       out_after = search (rules, rows_left);

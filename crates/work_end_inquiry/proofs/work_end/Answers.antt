@@ -9,8 +9,8 @@ ending-requires c = search (rules, no_refusal, kinds_of, owned_of, told)
 pub returns-then-in_order : goal.returns-then-in_order
 returns-then-in_order c = search (rules, inquiry_ends)
 
-pub returns-in-Refused : goal.returns-in-Refused
-returns-in-Refused c = search (rules, inquiry_refused)
+pub returns-in-Err : goal.returns-in-Err
+returns-in-Err c = search (rules, inquiry_refused)
 
 pub returns-else-in_order : goal.returns-else-in_order
 returns-else-in_order c = search (rules, inquiry_own)
