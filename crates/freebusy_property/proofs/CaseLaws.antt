@@ -3,8 +3,7 @@
 use Prim.Native.Nat.{ℕ, ◌+◌, ◌<◌}
 use mathlib.Core.Bool.{Bool, true, false, cond, not, ◌&&◌, ◌||◌}
 use mathlib.Core.List.{List, [], ◌∷◌, map}
-use mathlib.Core.Option
-use Rattle.std.specs.Prelude.{Option, None, Some}
+use Rattle.std.specs.Prelude.{Option, None, Some, option_map}
 use mathlib.Core.Path.{◌≡◌, refl, sym, ap, ap₂, ◌∙◌}
 use native.Mathlib.Omega.{arith}
 use lib.Dec.{eqb, ltb}
@@ -60,13 +59,13 @@ module _ (b : ℕ) (h : b < 65) where
       go true u = refl
       go false u = refl
 
-  after_in_capitals : (q : Bool) (s : List ℕ) → after_in q b (capitals s) ≡ Option.map capitals (after_in q b s)
+  after_in_capitals : (q : Bool) (s : List ℕ) → after_in q b (capitals s) ≡ option_map capitals (after_in q b s)
   unfolding after_in
   after_in_capitals q [] = refl
   after_in_capitals q (x ∷ s) =
       rw (byte_unseen b h x, byte_unseen 34 (omega arith) x, after_in_capitals (quoted_after q x) s) (go (parting q b x) (after_in (quoted_after q x) b s))
     where
-      go : (t : Bool) (o : Option (List ℕ)) → cond t (Some (capitals s)) (Option.map capitals o) ≡ Option.map capitals (cond t (Some s) o)
+      go : (t : Bool) (o : Option (List ℕ)) → cond t (Some (capitals s)) (option_map capitals o) ≡ option_map capitals (cond t (Some s) o)
       go true o = refl
       go false o = refl
 
@@ -88,7 +87,7 @@ module _ (t : List ℕ → Bool) (h : (p : List ℕ) → t (capitals p) ≡ t p)
   count_unseen [] = refl
   count_unseen (p ∷ ps) = ap₂ ◌+◌ (ap (λ b. cond b 1 0) (h p)) (count_unseen ps)
 
-  option_unseen : (o : Option (List ℕ)) → option (Option.map capitals o) false t ≡ option o false t
+  option_unseen : (o : Option (List ℕ)) → option (option_map capitals o) false t ≡ option o false t
   option_unseen None = refl
   option_unseen (Some v) = h v
 
@@ -139,7 +138,7 @@ params_capitals : (h : List ℕ) → params_in (capitals h) ≡ map capitals (pa
 unfolding params_in
 params_capitals h = ap (λ o. option o [] (unquoted_parts 59)) (after_in_capitals 59 (omega arith) false h) ∙ go (after_unquoted 59 h)
   where
-    go : (o : Option (List ℕ)) → option (Option.map capitals o) [] (unquoted_parts 59) ≡ map capitals (option o [] (unquoted_parts 59))
+    go : (o : Option (List ℕ)) → option (option_map capitals o) [] (unquoted_parts 59) ≡ map capitals (option o [] (unquoted_parts 59))
     go None = refl
     go (Some v) = parts_in_capitals 59 (omega arith) false v
 
@@ -173,7 +172,7 @@ pub value_capitals : (l : List ℕ) → value_of (capitals l) ≡ capitals (valu
 unfolding value_of
 value_capitals l = ap (λ o. option o [] (λ v. v)) (after_in_capitals 58 (omega arith) false l) ∙ go (after_unquoted 58 l)
   where
-    go : (o : Option (List ℕ)) → option (Option.map capitals o) [] (λ v. v) ≡ capitals (option o [] (λ v. v))
+    go : (o : Option (List ℕ)) → option (option_map capitals o) [] (λ v. v) ≡ capitals (option o [] (λ v. v))
     go None = refl
     go (Some v) = refl
 
