@@ -1,5 +1,9 @@
 -- The ways in which a call ends that is lent a buffer of lines of w numbers: refused with the sheet; or the lines were found in a buffer of its own, and are
 -- handed over, or too many for the lent one, or more than were held where they were found. Assumes nothing.
+use Rattle.std.specs.Prelude.{Result, Ok, Err}
+use Rattle.refusals.specs.Refusals.{at}
+use Rattle.refusals.specs.declared.Refusal.{Refusal}
+use Rattle.refusals.specs.declared.Reason.TheVariants as refusals
 use Prim.Native.Nat.{ℕ, ◌*◌, ◌/◌, ◌^◌, ◌<◌, ◌≤◌}
 use mathlib.Core.Path.{◌≡◌, refl, ap, sym, ◌∙◌}
 use mathlib.Core.List.{List, ◌++◌}
@@ -12,8 +16,6 @@ use lib.ListN.{length, take, drop}
 use lib.Seq.{take_at}
 use borrow.Author.Tests.{lt-ltb, le-ltb, ltb-false}
 use Rattle.loops.proofs.PlaceLaws.{or_none_right, if_none}
-use Rattle.refusals.specs.declared.Answer.{Answer}
-use Rattle.refusals.specs.declared.Answer.TheVariants.{Accepted, Refused}
 use Rattle.refusals.specs.Lending.{answered, lent_after}
 use Rattle.line_buffer.specs.Lines.{flat_lines}
 use Rattle.line_buffer.specs.declared.Handed.{Handed}
@@ -27,26 +29,26 @@ use Rattle.acceptance.specs.Refusals.{sheet_refusal, call_refusal}
 
 module _ {X : Type 0} (w : ℕ) (numbers : X → List ℤ) (some-w : 0 < w) (each-w : (x : X) → length (numbers x) ≡ w) (rows : List ℤ) (xs : List X) (o : List ℤ) where
   -- the call that finds these lines, lent the buffer o, answers so and leaves the buffer o'
-  abbrev pub Ends : Answer → List ℤ → Type 0
+  abbrev pub Ends : Result ℕ Refusal → List ℤ → Type 0
   Ends answer o' =
       (answer ≡ answered (call_refusal rows (length xs) (length o / w)) (length xs))
       × (o' ≡ lent_after (call_refusal rows (length xs) (length o / w)) (flat_lines numbers xs) o)
 
-  pub ends_refused : {number place : ℕ} → sheet_refusal rows ≡ Some (record { number = number; place = place }) → Ends (Refused number place) o
+  pub ends_refused : {e : Refusal} → sheet_refusal rows ≡ Some e → Ends (Err e) o
   unfolding call_refusal
   ends_refused h = (rw h, rw h)
 
   module _ (passed : sheet_refusal rows ≡ None) where
     -- not refused: the count, and the buffer that holds the lines
-    ends_accepted : {o' : List ℤ} {n : ℕ} → length xs ≤ length o / w → n ≡ length xs → o' ≡ flat_lines numbers xs ++ drop (length xs * w) o → Ends (Accepted n) o'
+    ends_accepted : {o' : List ℤ} {n : ℕ} → length xs ≤ length o / w → n ≡ length xs → o' ≡ flat_lines numbers xs ++ drop (length xs * w) o → Ends (Ok n) o'
     unfolding call_refusal
     ends_accepted h p q =
         rw (passed, le-ltb (length o / w) (length xs) h)
-        (ap Accepted p, q ∙ ap (λ m. flat_lines numbers xs ++ drop m o) (sym (flat_length w numbers some-w each-w xs)))
+        (ap Ok p, q ∙ ap (λ m. flat_lines numbers xs ++ drop m o) (sym (flat_length w numbers some-w each-w xs)))
 
     module _ (o₀ : List ℤ) {x : List ℤ} {k : ℕ} (ran : sink x k ≡ put_lines w numbers (sink o₀ 0) xs) {r : Handed} (told : r ≡ handed (length o / w) (length x / w) k) where
       -- all were held, and they were copied
-      pub ends_over : {o' : List ℤ} → k ≡ length xs → length o₀ < 2 ^ 60 → o' ≡ after_handing r (k * w) x o → r ≡ Over → Ends (Accepted k) o'
+      pub ends_over : {o' : List ℤ} → k ≡ length xs → length o₀ < 2 ^ 60 → o' ≡ after_handing r (k * w) x o → r ≡ Over → Ends (Ok k) o'
       ends_over n room left over =
           let fits = is_over (length o / w) (length x / w) k told over in
           let held : length x ≡ length o₀ = lines_kept w numbers o₀ 0 xs ran in
@@ -59,7 +61,7 @@ module _ {X : Type 0} (w : ℕ) (numbers : X → List ℤ) (some-w : 0 < w) (eac
           (left ∙ ap (λ h. after_handing h (k * w) x o) over ∙ ap (λ l. l ++ drop (k * w) o) first ∙ ap (λ m. flat_lines numbers xs ++ drop (m * w) o) n)
 
       -- the buffer has no room for them
-      pub ends_full : {o' : List ℤ} → o' ≡ after_handing r (k * w) x o → r ≡ Full → Ends (Refused 7 0) o'
+      pub ends_full : {o' : List ℤ} → o' ≡ after_handing r (k * w) x o → r ≡ Full → Ends (Err (at refusals.Full 0)) o'
       unfolding call_refusal
       ends_full left full =
           let over : length o / w < k = is_full (length o / w) (length x / w) k told full in
@@ -72,7 +74,7 @@ module _ {X : Type 0} (w : ℕ) (numbers : X → List ℤ) (some-w : 0 < w) (eac
         all_counted l = omega (arith, count_fits w numbers o₀ xs ran, div-le_self (length o) w)
 
         -- they were found once more, in the lent buffer
-        pub ends_longer : {o₁ o' : List ℤ} {n : ℕ} → o₁ ≡ after_handing r (k * w) x o → r ≡ Longer → sink o' n ≡ put_lines w numbers (sink o₁ 0) xs → Ends (Accepted n) o'
+        pub ends_longer : {o₁ o' : List ℤ} {n : ℕ} → o₁ ≡ after_handing r (k * w) x o → r ≡ Longer → sink o' n ≡ put_lines w numbers (sink o₁ 0) xs → Ends (Ok n) o'
         ends_longer left longer again =
             let ran-again = again ∙ ap (λ l. put_lines w numbers (sink l 0) xs) (left ∙ ap (λ h. after_handing h (k * w) x o) longer) in
             let fits : k ≤ length o / w = is_longer (length o / w) (length x / w) k told longer in

@@ -1,13 +1,13 @@
 -- The refusals of a sheet in order, from what the two verdicts ensure. Assumes nothing.
+use Rattle.std.specs.Prelude.{Result, Ok, Err}
 use Prim.Native.Nat.{ℕ}
 use mathlib.Core.Path.{◌≡◌, ap, sym, ◌∙◌}
 use mathlib.Core.List.{List}
 use Rattle.std.specs.Prelude.{None, Some}
 use lib.IntN.{ℤ}
 use Rattle.loops.proofs.PlaceLaws.{or_none_left}
-use Rattle.refusals.specs.declared.Verdict.{Verdict}
-use Rattle.refusals.specs.declared.Verdict.TheVariants.{Fine, Refused}
 use Rattle.refusals.specs.Refusals.{verdict_of}
+use Rattle.refusals.specs.declared.Refusal.{Refusal}
 use Rattle.sheet.specs.Refusals.{refusal_of}
 use Rattle.sheet.specs.inner.Accepted.{Accepted}
 use Rattle.sheet.specs.inner.Index.{Kinds}
@@ -23,59 +23,59 @@ use Rattle.acceptance.specs.Refusals.{sheet_refusal}
 use Rattle.acceptance.specs.inner.Accepting.{Accepting}
 
 module _ (rows : List ℤ) where
-  pub indexed_of : {k₀ l₀ o₀ : List ℕ} {v : Verdict} {k l o : List ℕ} → Indexing rows k₀ l₀ o₀ v k l o → v ≡ Fine → Indexed rows k l o
+  pub indexed_of : {k₀ l₀ o₀ : List ℕ} {v : Result Unit Refusal} {k l o : List ℕ} → Indexing rows k₀ l₀ o₀ v k l o → v ≡ (Ok tt) → Indexed rows k l o
   indexed_of i e =
       let a : refusal_of rows ≡ None = sym i.verdict ∙ ap verdict_of e in
       let t = tables_of rows i a in
       record { accepted = a; by_kind = t.kinds; linked = t.links; by_owner = t.owned }
 
-  pub by_rows : {v : Verdict} {number place : ℕ} → verdict_of v ≡ refusal_of rows → v ≡ Refused number place
-      → sheet_refusal rows ≡ Some (record { number = number; place = place })
+  pub by_rows : {v : Result Unit Refusal} {e : Refusal} → verdict_of v ≡ refusal_of rows → v ≡ Err e
+      → sheet_refusal rows ≡ Some e
   unfolding sheet_refusal
   by_rows q e = rw (sym q ∙ ap verdict_of e)
 
-  pub by_times : {v : Verdict} {number place : ℕ} → refusal_of rows ≡ None → verdict_of v ≡ time_refusal rows → v ≡ Refused number place
-      → sheet_refusal rows ≡ Some (record { number = number; place = place })
+  pub by_times : {v : Result Unit Refusal} {e : Refusal} → refusal_of rows ≡ None → verdict_of v ≡ time_refusal rows → v ≡ Err e
+      → sheet_refusal rows ≡ Some e
   unfolding sheet_refusal
   by_times a q e = rw (a, sym q ∙ ap verdict_of e)
 
-  pub by_none : {v : Verdict} → refusal_of rows ≡ None → verdict_of v ≡ time_refusal rows → v ≡ Fine → sheet_refusal rows ≡ None
+  pub by_none : {v : Result Unit Refusal} → refusal_of rows ≡ None → verdict_of v ≡ time_refusal rows → v ≡ (Ok tt) → sheet_refusal rows ≡ None
   unfolding sheet_refusal
   by_none a q e = rw (a, sym q ∙ ap verdict_of e)
 
   -- ---- `accept`
 
-  module _ {k₀ l₀ o₀ k l o : List ℕ} {v : Verdict} (i : Indexing rows k₀ l₀ o₀ v k l o) where
+  module _ {k₀ l₀ o₀ k l o : List ℕ} {v : Result Unit Refusal} (i : Indexing rows k₀ l₀ o₀ v k l o) where
     -- the rows are refused
-    pub accept_rows : {number place : ℕ} → v ≡ Refused number place → Accepting rows k₀ l₀ o₀ v k l o
+    pub accept_rows : {e : Refusal} → v ≡ Err e → Accepting rows k₀ l₀ o₀ v k l o
     accept_rows e = record { verdict = ap verdict_of e ∙ sym (by_rows i.verdict e); tables = i.tables; kept = i.kept }
 
     -- they are not: the verdict is that of the times
-    pub accept_times : {u : Verdict} → v ≡ Fine → verdict_of u ≡ time_refusal rows → Accepting rows k₀ l₀ o₀ u k l o
+    pub accept_times : {u : Result Unit Refusal} → v ≡ (Ok tt) → verdict_of u ≡ time_refusal rows → Accepting rows k₀ l₀ o₀ u k l o
     unfolding sheet_refusal
     accept_times e q = record { verdict = rw (sym i.verdict ∙ ap verdict_of e) q; tables = i.tables; kept = i.kept }
 
     -- the index of rows that are not refused, part by part
-    pub rows_accepted : v ≡ Fine → Accepted rows
+    pub rows_accepted : v ≡ (Ok tt) → Accepted rows
     rows_accepted e = accepted rows (indexed_of i e).accepted
 
-    pub rows_by_kind : v ≡ Fine → Kinds rows k
+    pub rows_by_kind : v ≡ (Ok tt) → Kinds rows k
     rows_by_kind e = (indexed_of i e).by_kind
 
-    pub rows_linked : v ≡ Fine → Linked rows l
+    pub rows_linked : v ≡ (Ok tt) → Linked rows l
     rows_linked e = (indexed_of i e).linked
 
-    pub rows_by_owner : v ≡ Fine → Owned rows o
+    pub rows_by_owner : v ≡ (Ok tt) → Owned rows o
     rows_by_owner e = (indexed_of i e).by_owner
 
-  module _ {k₀ l₀ o₀ k l o : List ℕ} {v : Verdict} (a : Accepting rows k₀ l₀ o₀ v k l o) where
-    pub refused_by : {number place : ℕ} → v ≡ Refused number place → sheet_refusal rows ≡ Some (record { number = number; place = place })
+  module _ {k₀ l₀ o₀ k l o : List ℕ} {v : Result Unit Refusal} (a : Accepting rows k₀ l₀ o₀ v k l o) where
+    pub refused_by : {e : Refusal} → v ≡ Err e → sheet_refusal rows ≡ Some e
     refused_by e = sym a.verdict ∙ ap verdict_of e
 
-    pub passed_all : v ≡ Fine → sheet_refusal rows ≡ None
+    pub passed_all : v ≡ (Ok tt) → sheet_refusal rows ≡ None
     passed_all e = sym a.verdict ∙ ap verdict_of e
 
-    pub index_of : v ≡ Fine → Indexed rows k l o
+    pub index_of : v ≡ (Ok tt) → Indexed rows k l o
     unfolding sheet_refusal
     index_of e =
         let r : refusal_of rows ≡ None = or_none_left (refusal_of rows) (time_refusal rows) (passed_all e) in
@@ -89,5 +89,5 @@ module _ (rows : List ℤ) where
 
   -- ---- what each booking needs
 
-  pub needed_of : {v : Verdict} (need : List ℕ) → Times rows need → verdict_of v ≡ time_refusal rows → v ≡ Fine → Needs rows need
+  pub needed_of : {v : Result Unit Refusal} (need : List ℕ) → Times rows need → verdict_of v ≡ time_refusal rows → v ≡ (Ok tt) → Needs rows need
   needed_of need t q e = needs_of rows need t (sym q ∙ ap verdict_of e)

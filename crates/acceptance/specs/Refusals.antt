@@ -2,7 +2,9 @@
 use Rattle.std.specs.Prelude.{ℕ, List, ltb, ℤ}
 use Rattle.std.specs.Prelude.{Option}
 use Rattle.loops.specs.Search.{or_else}
-use Rattle.refusals.specs.Refusals.{FULL, Refusal, refuse}
+use Rattle.refusals.specs.Refusals.{refuse}
+use Rattle.refusals.specs.declared.Reason.TheVariants.{Full}
+use Rattle.refusals.specs.declared.Refusal.{Refusal}
 use Rattle.sheet.specs.Refusals.{refusal_of}
 use Rattle.derived_times.specs.Times.{time_refusal}
 
@@ -12,4 +14,4 @@ sheet_refusal rows = or_else (refusal_of rows) (time_refusal rows)
 
 -- 1 to 7, of a sheet in which so many lines are found, and of a buffer that has room for `room` of them
 unfoldable pub call_refusal : List ℤ → ℕ → ℕ → Option Refusal
-call_refusal rows lines room = or_else (sheet_refusal rows) (refuse (ltb room lines) FULL 0)
+call_refusal rows lines room = or_else (sheet_refusal rows) (refuse (ltb room lines) Full 0)

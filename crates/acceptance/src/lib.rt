@@ -16,10 +16,7 @@ pub fn accept(
     requires { (length kinds.old ≡ 3680) × (length links.old ≡ 1600) × (length owned.old ≡ 8810) }
     ensures { Accepting rows.now kinds.old links.old owned.old result kinds.new links.new owned.new }
 {
-    let verdict = validation::index(rows, kinds, links, owned);
-    let Verdict::Fine = verdict else {
-        return verdict;
-    };
+    validation::index(rows, kinds, links, owned)?;
     let held = pieces::held_of(rows, kinds, links, owned);
     let need = derived_times::needs_of(rows, links, owned, &held);
     derived_times::refused(rows, &need)

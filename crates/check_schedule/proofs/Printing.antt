@@ -1,4 +1,5 @@
 -- What stands in the buffer after `print_answer`, of a sheet. Assumes nothing.
+use Rattle.std.specs.Prelude.{Result, Ok, Err}
 use Prim.Native.Nat.{ℕ, ◌+◌, ◌*◌, ◌/◌, ◌≤◌, min}
 use mathlib.Core.Path.{◌≡◌, refl, sym, ap, ◌∙◌, subst}
 use mathlib.Core.List.{List, ◌∷◌, ◌++◌}
@@ -9,9 +10,7 @@ use lib.ListN.{length, take, drop, length-drop}
 use lib.Seq.{sets, take-append-le, drop-append-le}
 use Rattle.loops.specs.inner.Wrote.{Wrote}
 use Rattle.loops.proofs.RangeLaws.{collect_ext}
-use Rattle.refusals.specs.declared.Answer.{Answer}
-use Rattle.refusals.specs.declared.Answer.TheVariants.{Accepted, Refused}
-use Rattle.refusals.specs.Refusals.{Refusal}
+use Rattle.refusals.specs.declared.Refusal.{Refusal}
 use Rattle.refusals.specs.Lending.{answered, lent_after}
 use Rattle.findings.specs.Findings.{flat}
 use Rattle.findings.proofs.SinkLaws.{flat_length}
@@ -42,18 +41,18 @@ module _ (xs ys : List ℤ) where
 -- ---- a sheet
 
 -- as many as are lent
-abbrev pub Few : Answer → Type 0
-Few (Accepted n) = n ≤ 2000
-Few (Refused number place) = Unit {0}
+abbrev pub Few : Result ℕ Refusal → Type 0
+Few (Ok n) = n ≤ 2000
+Few (Err e) = Unit {0}
 
 few : (rows : List ℤ) (o : Option Refusal) → refusal rows 2000 ≡ o → Few (answered o (length (findings rows)))
 unfolding refusal
 few rows None e = had_room rows (length (findings rows)) 2000 e
 few rows (Some x) e = tt
 
-fits : (a : Answer) (found : List ℤ) → Small found → Bounded a → Few a → length (printed a found) ≤ 168030
-fits (Accepted n) found s b f = accepted_fits found s n f
-fits (Refused number place) found s b f = omega (arith, refused_fits number place b.0 b.1)
+fits : (a : Result ℕ Refusal) (found : List ℤ) → Small found → Bounded a → Few a → length (printed a found) ≤ 168030
+fits (Ok n) found s b f = accepted_fits found s n f
+fits (Err e) found s b f = omega (arith, refused_fits number place b.0 b.1)
 
 as_written : (rows before : List ℤ) (o : Option Refusal)
     → printed (answered o (length (findings rows))) (lent_after o (flat (findings rows)) before) ≡ printed (answered o (length (findings rows))) (flat (findings rows))
@@ -62,7 +61,7 @@ as_written rows before (Some x) = refl
 
 -- the call's buffer, lent, is handed on as found
 module _ (rows before : List ℤ) (room : 8000 ≡ length before) (o : List ℕ) (long : length o ≡ 168030) {o' : List ℕ} {r : ℕ}
-    (a : Answer) (p : a ≡ check_answer rows (length before / 4)) (lent found : List ℤ) (q : lent ≡ findings_after rows before) (same : found ≡ lent)
+    (a : Result ℕ Refusal) (p : a ≡ check_answer rows (length before / 4)) (lent found : List ℤ) (q : lent ≡ findings_after rows before) (same : found ≡ lent)
     (small : Small found) (bounded : Bounded a) (told : r ≡ min (length (printed a found)) (length o)) (put : o' ≡ sets o 0 (printed a found)) where
   two_thousand : length before / 4 ≡ 2000
   two_thousand = omega arith

@@ -6,7 +6,6 @@ ghost use Rattle.text_program.specs.Text.{printed_text};
 ghost use Rattle.check_schedule.specs.Program.{printed_sheet};
 
 use program_io::Input;
-use refusals::Answer;
 
 // 2,000 findings.
 fn no_findings() -> [i64; 8000]
@@ -50,11 +49,11 @@ fn print_text(text: &[u8], out: &mut [u8]) -> usize
     let mut rows = text_program::no_rows();
     let read = text::read_text(text, &mut rows);
     match read {
-        Answer::Accepted(n) => {
+        Ok(n) => {
             let end = 10 * n;
             print_sheet(&rows[..end], out)
         }
-        Answer::Refused(number, place) => printing::put_refused(out, number, place as u64),
+        Err(e) => printing::put_refused(out, e),
     }
 }
 

@@ -1,4 +1,5 @@
 -- What stands in the buffer after the rows of a calendar were printed; 800 rows take 84,000 bytes at most. Assumes nothing.
+use Rattle.std.specs.Prelude.{Result, Ok, Err}
 use Prim.Native.Nat.{ℕ, zero, suc, ◌+◌, ◌*◌, ◌-◌, ◌/◌, ◌^◌, ◌<◌, ◌≤◌}
 use mathlib.Core.Path.{◌≡◌, refl, sym, ap, ap₂, ◌∙◌}
 use mathlib.Core.List.{List, [], ◌∷◌, ◌++◌}
@@ -14,10 +15,8 @@ use Rattle.loops.specs.Range.{collect}
 use Rattle.loops.specs.inner.Wrote.{Wrote}
 use Rattle.loops.proofs.RangeLaws.{collect_zero, collect_front, collect_ext}
 use Rattle.line_buffer.specs.Lines.{flat_lines}
-use Rattle.refusals.specs.Refusals.{Refusal}
+use Rattle.refusals.specs.declared.Refusal.{Refusal}
 use Rattle.refusals.specs.Lending.{answered, lent_after}
-use Rattle.refusals.specs.declared.Answer.{Answer}
-use Rattle.refusals.specs.declared.Answer.TheVariants.{Accepted, Refused}
 use Rattle.refusals.proofs.AnswerLaws.{no_accept, same_count}
 use Rattle.printing.specs.NumberLines.{number_line}
 use Rattle.printing.specs.Printed.{printed_refused}
@@ -72,7 +71,7 @@ lines_are resource (c ∷ cs) rest =
 
 -- ---- the call's answer
 
-module _ (text : List ℕ) (resource : ℤ) (before : List ℤ) (room : 8000 ≡ length before) {a : Answer}
+module _ (text : List ℕ) (resource : ℤ) (before : List ℤ) (room : 8000 ≡ length before) {a : Result ℕ Refusal}
     (asked : a ≡ freebusy_answer text (to_z w64 (of_z w64 resource)) (length before / 10)) (fit : SFits w64 resource) where
   eight_hundred : length before / 10 ≡ 800
   eight_hundred = omega arith
@@ -85,19 +84,19 @@ module _ (text : List ℕ) (resource : ℤ) (before : List ℤ) (room : 8000 ≡
     all : n ≡ length (closures text)
     first : numbers ≡ flat_lines (closure_row resource) (closures text) ++ drop (length (flat_lines (closure_row resource) (closures text))) before
 
-  found_by : (o : Option Refusal) {n : ℕ} → answered o (length (closures text)) ≡ Accepted n → Found (lent_after o (flat_lines (closure_row resource) (closures text)) before) n
+  found_by : (o : Option Refusal) {n : ℕ} → answered o (length (closures text)) ≡ Ok n → Found (lent_after o (flat_lines (closure_row resource) (closures text)) before) n
   found_by None q = record { all = sym (same_count q); first = refl }
   found_by (Some x) q = absurd (no_accept q)
 
-  found_is : {n : ℕ} → a ≡ Accepted n → Found (lent_after (freebusy_refusal text resource 800) (flat_lines (closure_row resource) (closures text)) before) n
+  found_is : {n : ℕ} → a ≡ Ok n → Found (lent_after (freebusy_refusal text resource 800) (flat_lines (closure_row resource) (closures text)) before) n
   unfolding freebusy_answer
   found_is q = found_by (freebusy_refusal text resource 800) (sym answer_is ∙ q)
 
-  pub few_rows : {n : ℕ} → a ≡ Accepted n → n ≤ 800
+  pub few_rows : {n : ℕ} → a ≡ Ok n → n ≤ 800
   few_rows q = accepted_few text resource 800 (sym answer_is ∙ q)
 
   -- the rows that were lent are handed on as the numbers
-  module _ {o o' : List ℕ} {r n : ℕ} (lent numbers : List ℤ) (w : Wrote o 0 o' r (rows_bytes numbers n)) (long : length o ≡ 84000) (q : a ≡ Accepted n)
+  module _ {o o' : List ℕ} {r n : ℕ} (lent numbers : List ℤ) (w : Wrote o 0 o' r (rows_bytes numbers n)) (long : length o ≡ 84000) (q : a ≡ Ok n)
       (same : numbers ≡ lent) (e : lent ≡ freebusy_after text (to_z w64 (of_z w64 resource)) before) (small : Small numbers) where
     left : numbers ≡ lent_after (freebusy_refusal text resource 800) (flat_lines (closure_row resource) (closures text)) before
     unfolding freebusy_after
@@ -112,11 +111,11 @@ module _ (text : List ℕ) (resource : ℤ) (before : List ℤ) (room : 8000 ≡
     pub rows_printed : take r o' ≡ printed_closures text resource
     unfolding printed_closures
     rows_printed =
-        let z : freebusy_answer text resource 800 ≡ Accepted n = sym answer_is ∙ q in
+        let z : freebusy_answer text resource 800 ≡ Ok n = sym answer_is ∙ q in
         stood.1 ∙ ap₂ rows_bytes (left ∙ (found_is q).first) (found_is q).all ∙ lines_are resource (closures text) _ ∙ rw z
 
-  pub refusal_printed : {o o' : List ℕ} {r number place : ℕ} → Wrote o 0 o' r (printed_refused number place) → length o ≡ 84000 → a ≡ Refused number place
+  pub refusal_printed : {o o' : List ℕ} {r number place : ℕ} → Wrote o 0 o' r (printed_refused number place) → length o ≡ 84000 → a ≡ Err e
       → number < 2 ^ 64 → place < 2 ^ 64 → take r o' ≡ printed_closures text resource
   unfolding printed_closures
   refusal_printed {number = number} {place = place} w long q h l =
-      let z : freebusy_answer text resource 800 ≡ Refused number place = sym answer_is ∙ q in rw z (refused_first w long (omega arith) h l)
+      let z : freebusy_answer text resource 800 ≡ Err e = sym answer_is ∙ q in rw z (refused_first w long (omega arith) h l)

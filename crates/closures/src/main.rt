@@ -7,7 +7,6 @@ ghost use Rattle.closures.specs.Program.{printed_closures};
 ghost use Rattle.closures.specs.inner.Bytes.{rows_bytes};
 
 use program_io::Input;
-use refusals::Answer;
 use text_fields::Number;
 
 // Room for what is printed of 800 rows.
@@ -50,8 +49,8 @@ fn print_closures(text: &[u8], resource: i64, out: &mut [u8]) -> usize
     let answer = freebusy::read_freebusy(text, resource, &mut rows);
     let rows = kept(rows);
     match answer {
-        Answer::Accepted(n) => put_rows(out, &rows, n),
-        Answer::Refused(number, place) => printing::put_refused(out, number, place as u64),
+        Ok(n) => put_rows(out, &rows, n),
+        Err(e) => printing::put_refused(out, e),
     }
 }
 

@@ -9,7 +9,7 @@ ghost use Rattle.rows.specs.Ranges.{is_none};
 ghost use Rattle.refusals.specs.Refusals.{verdict_of};
 ghost use Rattle.sheet.specs.Refusals.{known_kind, bad_cell, half_part, out_of_range, column_fault};
 
-use refusals::Verdict;
+use refusals::{Reason, Verdict};
 
 fn is_known(rows: &[i64], k: usize) -> bool
     ensures { result ≡ known_kind rows.now k }
@@ -86,9 +86,9 @@ pub fn column_fault(
 {
     if is_known(rows, k) {
         if is_out(classes, ranges, rows, k) {
-            return Verdict::Refused(refusals::OUT_OF_RANGE, k);
+            return Err(Reason::OutOfRange.at(k));
         }
-        return Verdict::Fine;
+        return Ok(());
     }
-    Verdict::Refused(refusals::UNKNOWN_KIND, k)
+    Err(Reason::UnknownKind.at(k))
 }

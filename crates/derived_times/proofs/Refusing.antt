@@ -1,4 +1,6 @@
 -- Derived times by row, and which are refused. Assumes nothing.
+use Rattle.refusals.specs.Refusals.{at}
+use Rattle.refusals.specs.declared.Reason.TheVariants.{Stretched}
 use Prim.Native.Nat.{ℕ, ◌+◌, ◌^◌, ◌<◌, ◌≤◌}
 use mathlib.Core.Path.{◌≡◌, refl, sym, ap, ◌∙◌}
 use mathlib.Core.Bool.{Bool, true, false, cond, not, ◌||◌, true≢false, or-false}
@@ -96,12 +98,12 @@ module _ (rows : List ℤ) where
   unfolding time_fault
   fault_none k e f = rw (sym e ∙ f)
 
-  pub fault_some : (k : ℕ) {b : Bool} → b ≡ any_of (is_too_large (sheet rows)) (assignment_at (sheet rows) k) → b ≡ true → time_fault rows k ≡ Some (record { number = 6; place = k })
+  pub fault_some : (k : ℕ) {b : Bool} → b ≡ any_of (is_too_large (sheet rows)) (assignment_at (sheet rows) k) → b ≡ true → time_fault rows k ≡ Some (at Stretched k)
   unfolding time_fault
   fault_some k e f = rw (sym e ∙ f)
 
-  pub refused_at : (k n : ℕ) → k < n → n ≡ row_count rows → first (time_fault rows) k ≡ None → time_fault rows k ≡ Some (record { number = 6; place = k })
-      → Some (record { number = 6; place = k }) ≡ time_refusal rows
+  pub refused_at : (k n : ℕ) → k < n → n ≡ row_count rows → first (time_fault rows) k ≡ None → time_fault rows k ≡ Some (at Stretched k)
+      → Some (at Stretched k) ≡ time_refusal rows
   unfolding time_refusal
   refused_at k n l z e f = sym (first_hit (time_fault rows) k (row_count rows) (omega arith) e f)
 

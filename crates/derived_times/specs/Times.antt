@@ -4,7 +4,9 @@ use Rattle.std.specs.Prelude.{Option, None, Some}
 use Rattle.loops.specs.Lists.{any_of, option}
 use Rattle.loops.specs.Search.{first}
 use Rattle.rows.specs.Cells.{row_count}
-use Rattle.refusals.specs.Refusals.{STRETCHED, Refusal, refuse}
+use Rattle.refusals.specs.Refusals.{refuse}
+use Rattle.refusals.specs.declared.Reason.TheVariants.{Stretched}
+use Rattle.refusals.specs.declared.Refusal.{Refusal}
 use Rattle.resource_timing.specs.declared.ActivityDuration.{ActivityDuration}
 use Rattle.resource_timing.specs.Durations.{total_ms}
 use Rattle.model.specs.Sheet.{Sheet, sheet}
@@ -29,7 +31,7 @@ module _ {T : Type 0} (s : Sheet T) where
 -- ---- refusal 6: the first such booking
 
 unfoldable pub time_fault : List ℤ → ℕ → Option Refusal
-time_fault rows k = refuse (any_of (is_too_large (sheet rows)) (assignment_at (sheet rows) k)) STRETCHED k
+time_fault rows k = refuse (any_of (is_too_large (sheet rows)) (assignment_at (sheet rows) k)) Stretched k
 
 unfoldable pub time_refusal : List ℤ → Option Refusal
 time_refusal rows = first (time_fault rows) (row_count rows)

@@ -22,7 +22,7 @@ ghost use Rattle.derived_times.specs.inner.Rows.{columns_of, part_at, timing_of,
 ghost use Rattle.derived_times.specs.Times.{derived, is_too_large, time_refusal};
 ghost use Rattle.derived_times.specs.inner.Needs.{rest_ms, rest_at, Times};
 
-use refusals::Verdict;
+use refusals::{Reason, Verdict};
 use resource_timing::{ActivityDuration, Derived, Piece, ResourceTiming, Timed};
 use sheet::Found;
 
@@ -287,9 +287,9 @@ pub fn refused(rows: &[i64], need: &[u64; 800]) -> Verdict
     let mut k = 0;
     while k < n {
         if is_too_large(rows, need, k) {
-            return Verdict::Refused(refusals::STRETCHED, k);
+            return Err(Reason::Stretched.at(k));
         }
         k += 1;
     }
-    Verdict::Fine
+    Ok(())
 }

@@ -1,4 +1,6 @@
 -- The ways in which the call ends, from what its passes over the checks ensure. Assumes nothing.
+use Rattle.std.specs.Prelude.{Ok}
+use Rattle.std.specs.Prelude.{Result, Err}
 use Prim.Native.Nat.{ℕ, ◌*◌, ◌/◌, ◌^◌, ◌<◌}
 use mathlib.Core.Path.{◌≡◌, refl, ap, ◌∙◌}
 use mathlib.Core.List.{List, ◌++◌, append_assoc}
@@ -14,9 +16,9 @@ use Rattle.line_buffer.specs.declared.Handed.TheVariants.{Over, Full, Longer}
 use Rattle.line_buffer.specs.inner.Handing.{handed, after_handing}
 use Rattle.line_buffer.proofs.Handing.{is_over}
 use Rattle.findings.proofs.SinkLaws.{emit_then}
-use Rattle.refusals.specs.declared.Verdict.{Verdict}
-use Rattle.refusals.specs.declared.Verdict.TheVariants.{Refused}
-use Rattle.refusals.specs.Refusals.{verdict_of}
+use Rattle.refusals.specs.Refusals.{verdict_of, at}
+use Rattle.refusals.specs.declared.Refusal.{Refusal}
+use Rattle.refusals.specs.declared.Reason.TheVariants as refusals
 use Rattle.sheet.specs.Refusals.{refusal_of}
 use Rattle.derived_times.specs.Times.{time_refusal}
 use Rattle.calendar.specs.Clock.{clock}
@@ -24,8 +26,6 @@ use Rattle.model.specs.Sheet.{sheet}
 use Rattle.definition.specs.CheckCapacity.{check_capacity}
 use Rattle.definition.specs.CheckSchedule.{check_schedule, findings}
 use Rattle.feasibility.specs.inner.Order.{before_capacity, after_capacity}
-use Rattle.refusals.specs.declared.Answer.{Answer}
-use Rattle.refusals.specs.declared.Answer.TheVariants.{Accepted as Call-as-Accepted, Refused as Call-as-Refused}
 use Rattle.acceptance.specs.Refusals.{sheet_refusal}
 use Rattle.acceptance.proofs.Order.{by_rows, by_times}
 use Rattle.acceptance.proofs.Ending.{ends_refused, ends_over, ends_full, all_counted, ends_longer}
@@ -51,43 +51,43 @@ pub all_in_turn : (rows : List ℤ) (s s₁ s₂ : Sink) {s₃ : Sink} → s₁ 
 all_in_turn rows s s₁ s₂ p q r = in_turn_3 _ _ _ s s₁ s₂ p q r ∙ ap (emit s) (parts rows)
 
 -- the call on these rows, lent the buffer o, answers so and leaves the buffer o'
-abbrev pub Ends : List ℤ → List ℤ → Answer → List ℤ → Type 0
+abbrev pub Ends : List ℤ → List ℤ → Result ℕ Refusal → List ℤ → Type 0
 Ends rows o answer o' = (answer ≡ check_answer rows (length o / 4)) × (o' ≡ findings_after rows o)
 
 module _ (rows o : List ℤ) where
   -- refused by 1 to 6
-  refused_sheet : {number place : ℕ} → sheet_refusal rows ≡ Some (record { number = number; place = place }) → Ends rows o (Call-as-Refused number place) o
+  refused_sheet : {e : Refusal} → sheet_refusal rows ≡ Some e → Ends rows o (Err e) o
   unfolding refusal check_answer findings_after flat
   refused_sheet h = ends_refused 4 four (omega arith) (λ f. refl) rows (findings rows) o h
 
-  module _ {v : Verdict} {number place : ℕ} where
-    pub rows_answer : verdict_of v ≡ refusal_of rows → v ≡ Refused number place → Call-as-Refused number place ≡ check_answer rows (length o / 4)
-    rows_answer q e = (refused_sheet (by_rows rows q e)).0
+  module _ {v : Result Unit Refusal} {e : Refusal} where
+    pub rows_answer : {a : Result ℕ Refusal} → verdict_of v ≡ refusal_of rows → v ≡ Err e → a ≡ Err e → a ≡ check_answer rows (length o / 4)
+    rows_answer q e b = b ∙ (refused_sheet (by_rows rows q e)).0
 
-    pub rows_left : verdict_of v ≡ refusal_of rows → v ≡ Refused number place → o ≡ findings_after rows o
+    pub rows_left : verdict_of v ≡ refusal_of rows → v ≡ Err e → o ≡ findings_after rows o
     rows_left q e = (refused_sheet (by_rows rows q e)).1
 
-    pub times_answer : verdict_of v ≡ time_refusal rows → refusal_of rows ≡ None → v ≡ Refused number place → Call-as-Refused number place ≡ check_answer rows (length o / 4)
-    times_answer q a e = (refused_sheet (by_times rows a q e)).0
+    pub times_answer : {b : Result ℕ Refusal} → verdict_of v ≡ time_refusal rows → refusal_of rows ≡ None → v ≡ Err e → b ≡ Err e → b ≡ check_answer rows (length o / 4)
+    times_answer q a e b = b ∙ (refused_sheet (by_times rows a q e)).0
 
-    pub times_left : verdict_of v ≡ time_refusal rows → refusal_of rows ≡ None → v ≡ Refused number place → o ≡ findings_after rows o
+    pub times_left : verdict_of v ≡ time_refusal rows → refusal_of rows ≡ None → v ≡ Err e → o ≡ findings_after rows o
     times_left q a e = (refused_sheet (by_times rows a q e)).1
 
   module _ (passed : sheet_refusal rows ≡ None) (o₀ : List ℤ) {x : List ℤ} {k : ℕ} {r : Handed} (short : length o < 2 ^ 60)
       (ran : sink x k ≡ emit (sink o₀ 0) (findings rows)) (told : r ≡ handed (length o / 4) (length x / 4) k) where
     -- the first pass held them all, and they were copied
-    pub accepted_copy : {o' : List ℤ} → length o₀ ≡ 4096 → o' ≡ after_handing r (k * 4) x o → r ≡ Over → Ends rows o (Call-as-Accepted k) o'
+    pub accepted_copy : {o' : List ℤ} → length o₀ ≡ 4096 → o' ≡ after_handing r (k * 4) x o → r ≡ Over → Ends rows o (Ok k) o'
     unfolding refusal check_answer findings_after flat emit
     accepted_copy room left over =
         let all : k ≡ length (findings rows) =
         all_counted 4 four (omega arith) (λ f. refl) rows (findings rows) o passed o₀ ran told short (is_over (length o / 4) (length x / 4) k told over).0 in
         ends_over 4 four (omega arith) (λ f. refl) rows (findings rows) o passed o₀ ran told all (omega arith) left over
 
-    pub refused_full : {o' : List ℤ} → o' ≡ after_handing r (k * 4) x o → r ≡ Full → Ends rows o (Call-as-Refused 7 0) o'
+    pub refused_full : {o' : List ℤ} → o' ≡ after_handing r (k * 4) x o → r ≡ Full → Ends rows o (Err (at refusals.Full 0)) o'
     unfolding refusal check_answer findings_after flat emit
     refused_full left full = ends_full 4 four (omega arith) (λ f. refl) rows (findings rows) o passed o₀ ran told left full
 
     -- it held fewer, and the second one wrote them
-    pub accepted_all : {o₁ o' : List ℤ} {n : ℕ} → o₁ ≡ after_handing r (k * 4) x o → r ≡ Longer → sink o' n ≡ emit (sink o₁ 0) (findings rows) → Ends rows o (Call-as-Accepted n) o'
+    pub accepted_all : {o₁ o' : List ℤ} {n : ℕ} → o₁ ≡ after_handing r (k * 4) x o → r ≡ Longer → sink o' n ≡ emit (sink o₁ 0) (findings rows) → Ends rows o (Ok n) o'
     unfolding refusal check_answer findings_after flat emit
     accepted_all left longer again = ends_longer 4 four (omega arith) (λ f. refl) rows (findings rows) o passed o₀ ran told short left longer again

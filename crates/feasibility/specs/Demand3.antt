@@ -1,11 +1,11 @@
 -- Demand 3: two accepted sheets, the second being the first with one whole number of milliseconds, zero or below too, added to every instant and nothing
 -- else changed, have the same findings, line for line: those of the definition, and those that any two calls write. Assumes nothing.
+use Rattle.std.specs.Prelude.{Ok}
 use Rattle.std.specs.Prelude.{ℕ, ◌*◌, ◌/◌, ◌≡◌, List, ℤ, length, take}
 use Rattle.std.specs.Prelude.{None}
 use Rattle.findings.specs.Findings.{flat}
 use Rattle.definition.specs.CheckSchedule.{findings}
 use Rattle.shift.specs.Shift.{Shifted}
-use Rattle.refusals.specs.declared.Answer.TheVariants.{Accepted}
 use Rattle.acceptance.specs.Refusals.{sheet_refusal}
 use Rattle.feasibility.specs.Call.{check_answer, findings_after}
 
@@ -22,8 +22,8 @@ pub record Alike (a b : List ℤ) : Type 0 where
   pub defined : findings a ≡ findings b
   -- any two calls that accept, whatever space each was lent, have written the same
   pub calls : (before before' : List ℤ) (n m : ℕ)
-      → check_answer a (length before / 4) ≡ Accepted n
-      → check_answer b (length before' / 4) ≡ Accepted m
+      → check_answer a (length before / 4) ≡ Ok n
+      → check_answer b (length before' / 4) ≡ Ok m
       → SameCalls a b n m (findings_after a before) (findings_after b before')
   -- two calls that are lent room for equally many findings answer the same
   pub answers : (room : ℕ) → check_answer a room ≡ check_answer b room

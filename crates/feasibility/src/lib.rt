@@ -14,7 +14,7 @@ ghost use Rattle.acceptance.specs.Refusals.{sheet_refusal};
 ghost use Rattle.feasibility.specs.Call.{check_answer, findings_after};
 
 use line_buffer::Handed;
-use refusals::{Answer, Verdict};
+use refusals::{Answer, Reason};
 
 // Checks 1 to 4.
 fn check_before(
@@ -94,9 +94,9 @@ fn write_findings(
     let count = check_all(rows, kinds, links, owned, held, need, &lacking, &mut first);
     let handed = line_buffer::hand_over(out, 4, count, &first);
     match handed {
-        Handed::Over => Answer::Accepted(count),
-        Handed::Full => Answer::Refused(refusals::FULL, 0),
-        Handed::Longer => Answer::Accepted(check_all(
+        Handed::Over => Ok(count),
+        Handed::Full => Err(Reason::Full.at(0)),
+        Handed::Longer => Ok(check_all(
             rows, kinds, links, owned, held, need, &lacking, out,
         )),
     }
@@ -116,11 +116,8 @@ fn check_times(
 {
     let held = pieces::held_of(rows, kinds, links, owned);
     let need = derived_times::needs_of(rows, links, owned, &held);
-    let verdict = derived_times::refused(rows, &need);
-    match verdict {
-        Verdict::Fine => write_findings(rows, kinds, links, owned, &held, &need, out),
-        Verdict::Refused(number, place) => Answer::Refused(number, place),
-    }
+    derived_times::refused(rows, &need)?;
+    write_findings(rows, kinds, links, owned, &held, &need, out)
 }
 
 // Checks a sheet: any rows, any buffer.
@@ -131,9 +128,6 @@ pub fn check_schedule(rows: &[i64], out: &mut [i64]) -> Answer
     let mut kinds = [0u16; 3680];
     let mut links = [0u16; 1600];
     let mut owned = [0u16; 8810];
-    let verdict = validation::index(rows, &mut kinds, &mut links, &mut owned);
-    match verdict {
-        Verdict::Fine => check_times(rows, &kinds, &links, &owned, out),
-        Verdict::Refused(number, place) => Answer::Refused(number, place),
-    }
+    validation::index(rows, &mut kinds, &mut links, &mut owned)?;
+    check_times(rows, &kinds, &links, &owned, out)
 }

@@ -1,4 +1,6 @@
 -- Laws of the call: its ways out, by what was found. Assumes nothing.
+use Rattle.std.specs.Prelude.{Err}
+use Rattle.std.specs.Prelude.{Result, Ok}
 use Prim.Native.Nat.{ℕ, ◌*◌, ◌/◌, ◌^◌, ◌<◌, ◌≤◌}
 use mathlib.Core.Bool.{Bool, true, false, ◌&&◌, not}
 use mathlib.Core.List.{List, ◌++◌}
@@ -21,12 +23,10 @@ use Rattle.loops.proofs.PlaceLaws.{or_none_right}
 use Rattle.line_buffer.specs.Lines.{flat_lines}
 use Rattle.line_buffer.specs.inner.Sink.{Sink}
 use Rattle.line_buffer.proofs.Whole.{count_fits, flat_length, lines_whole}
-use Rattle.refusals.specs.Refusals.{OUT_OF_RANGE, OVERLONG, Refusal, refuse, verdict_of}
+use Rattle.refusals.specs.Refusals.{refuse, verdict_of, at}
+use Rattle.refusals.specs.declared.Reason.TheVariants.{OutOfRange, Overlong, Malformed}
+use Rattle.refusals.specs.declared.Refusal.{Refusal}
 use Rattle.refusals.specs.Lending.{answered, lent_after}
-use Rattle.refusals.specs.declared.Answer.{Answer}
-use Rattle.refusals.specs.declared.Answer.TheVariants.{Accepted, Refused}
-use Rattle.refusals.specs.declared.Verdict.{Verdict}
-use Rattle.refusals.specs.declared.Verdict.TheVariants.{Fine, Refused as Not}
 use Rattle.rows.specs.Class.{id_c}
 use Rattle.rows.specs.Ranges.{between, in_range, in_class}
 use Rattle.freebusy_lines.specs.Lines.{lines}
@@ -46,33 +46,33 @@ row_long : (resource : ℤ) (c : Closure) → length (closure_row resource c) �
 row_long resource c = refl
 
 -- an answer tells the verdict
-was_fine : (v : Verdict) (n : ℕ) {m : ℕ} → answered (verdict_of v) n ≡ Accepted m → v ≡ Fine
-was_fine Fine n e = refl
+was_fine : (v : Result Unit Refusal) (n : ℕ) {m : ℕ} → answered (verdict_of v) n ≡ Ok m → v ≡ (Ok tt)
+was_fine (Ok tt) n e = refl
 was_fine (Not k p) n e = absurd (let z : ◌≡◌ {A = ℕ} 0 1 = cc in omega arith)
 
-was_refused : (v : Verdict) (n : ℕ) {k p : ℕ} → answered (verdict_of v) n ≡ Refused k p → v ≡ Not k p
-was_refused Fine n e = absurd (let z : ◌≡◌ {A = ℕ} 0 1 = cc in omega arith)
+was_refused : (v : Result Unit Refusal) (n : ℕ) {k p : ℕ} → answered (verdict_of v) n ≡ Refused k p → v ≡ Not k p
+was_refused (Ok tt) n e = absurd (let z : ◌≡◌ {A = ℕ} 0 1 = cc in omega arith)
 was_refused (Not k p) n e = cc
 
 module _ (text : List ℕ) (id : ℕ) (rows : List ℤ) {o o' : List ℤ} {g : Reading} (r : ReadOn (length rows / 10) id o unread (periods_in text) o' g)
-    {a : Answer} (e : a ≡ answered (verdict_of g.refused) g.count) (bytes : length rows * 8 < 2 ^ 63) where
-  refusal_is : {v : Verdict} → g.refused ≡ v → periods_refusal (length rows / 10) 0 (periods_in text) ≡ verdict_of v
+    {a : Result ℕ Refusal} (e : a ≡ answered (verdict_of g.refused) g.count) (bytes : length rows * 8 < 2 ^ 63) where
+  refusal_is : {v : Result Unit Refusal} → g.refused ≡ v → periods_refusal (length rows / 10) 0 (periods_in text) ≡ verdict_of v
   refusal_is e = sym r.refusal ∙ ap verdict_of e
 
-  fits : g.refused ≡ Fine → length (closures text) ≤ length rows / 10
+  fits : g.refused ≡ (Ok tt) → length (closures text) ≤ length rows / 10
   unfolding closures
   fits e = omega (arith, passed_fit (length rows / 10) id (periods_in text) 0 (omega arith) (refusal_is e))
 
   -- the count of the first reading
-  counted : g.refused ≡ Fine → g.count ≡ length (closures text)
+  counted : g.refused ≡ (Ok tt) → g.count ≡ length (closures text)
   unfolding closures
   counted e = omega (arith, fits e, count_fits 10 (closure_row (pos id)) o (each closures_of (periods_in text)) r.numbers)
 
   pub read_answer : a ≡ answered (periods_refusal (length rows / 10) 0 (periods_in text)) (length (closures text))
   read_answer = e ∙ go g.refused refl
     where
-      go : (v : Verdict) → g.refused ≡ v → answered (verdict_of v) g.count ≡ answered (periods_refusal (length rows / 10) 0 (periods_in text)) (length (closures text))
-      go Fine q = rw (refusal_is q, counted q)
+      go : (v : Result Unit Refusal) → g.refused ≡ v → answered (verdict_of v) g.count ≡ answered (periods_refusal (length rows / 10) 0 (periods_in text)) (length (closures text))
+      go (Ok tt) q = rw (refusal_is q, counted q)
       go (Not k p) q = rw (refusal_is q)
 
   -- the first reading is lent none of the rows, and so leaves them as they were
@@ -82,7 +82,7 @@ module _ (text : List ℕ) (id : ℕ) (rows : List ℤ) {o o' : List ℤ} {g : R
     refused_rows q = rw (refusal_is (was_refused g.refused g.count (sym e ∙ q))) (none_ahead None rows z)
 
     -- the second fills them
-    pub read_rows : {n : ℕ} → a ≡ Accepted n → {rows' : List ℤ} {h : Reading} → ReadOn (length rows / 10) id (None ++ rows) unread (periods_in text) rows' h
+    pub read_rows : {n : ℕ} → a ≡ Ok n → {rows' : List ℤ} {h : Reading} → ReadOn (length rows / 10) id (None ++ rows) unread (periods_in text) rows' h
         → rows' ≡ lent_after (periods_refusal (length rows / 10) 0 (periods_in text)) (flat_lines (closure_row (pos id)) (closures text)) rows
     unfolding closures
     read_rows q s =
@@ -99,7 +99,7 @@ module _ (text : List ℕ) (id : ℕ) (rows : List ℤ) {o o' : List ℤ} {g : R
     pub refused_space : {k p : ℕ} → a ≡ Refused k p → space ≡ space_read (periods_refusal (length rows / 10) 0 (periods_in text)) text space₀
     refused_space q = rw (refusal_is (was_refused g.refused g.count (sym e ∙ q))) l
 
-    pub read_space : {n : ℕ} → a ≡ Accepted n → {space' : List ℕ} → space' ≡ space_after text space
+    pub read_space : {n : ℕ} → a ≡ Ok n → {space' : List ℕ} → space' ≡ space_after text space
         → space' ≡ space_read (periods_refusal (length rows / 10) 0 (periods_in text)) text space₀
     read_space q m = rw (refusal_is (was_fine g.refused g.count (sym e ∙ q))) (m ∙ ap (space_after text) l)
 
@@ -107,14 +107,14 @@ module _ (text : List ℕ) (id : ℕ) (rows : List ℤ) {o o' : List ℤ} {g : R
 
 module _ (text : List ℕ) (id : ℕ) (rows : List ℤ) {w : Place} (f : place_of w ≡ wrong_from None 0 (lines text)) where
   module _ {p : ℕ} (q : w ≡ At p) where
-    pub wrong_answer : Refused 11 p ≡ answered (text_refusal text (length rows / 10)) (length (closures text))
+    pub wrong_answer : Err (at Malformed p) ≡ answered (text_refusal text (length rows / 10)) (length (closures text))
     wrong_answer = rw (sym f ∙ ap place_of q)
 
     pub wrong_rows : rows ≡ lent_after (text_refusal text (length rows / 10)) (flat_lines (closure_row (pos id)) (closures text)) rows
     wrong_rows = rw (sym f ∙ ap place_of q)
 
   module _ (q : w ≡ Nowhere) where
-    pub passed_answer : {a : Answer} → a ≡ answered (periods_refusal (length rows / 10) 0 (periods_in text)) (length (closures text))
+    pub passed_answer : {a : Result ℕ Refusal} → a ≡ answered (periods_refusal (length rows / 10) 0 (periods_in text)) (length (closures text))
         → a ≡ answered (text_refusal text (length rows / 10)) (length (closures text))
     passed_answer r = rw (sym f ∙ ap place_of q) r
 
@@ -153,7 +153,7 @@ module _ (z : ℤ) (f : SFits w64 z) where
 
 module _ (text : List ℕ) (resource : ℤ) (rows : List ℤ) where
   -- 8
-  pub long_answer : 65536 < length text → Refused 8 0 ≡ freebusy_answer text resource (length rows / 10)
+  pub long_answer : 65536 < length text → Err (at Overlong 0) ≡ freebusy_answer text resource (length rows / 10)
   unfolding freebusy_answer freebusy_refusal
   long_answer h = rw (lt-ltb 65536 (length text) h)
 
@@ -163,7 +163,7 @@ module _ (text : List ℕ) (resource : ℤ) (rows : List ℤ) where
 
   module _ {b : Bool} (i : b ≡ in_class id_c (to_z w64 (of_z w64 resource))) (fit : SFits w64 resource) (short : length text ≤ 65536) where
     -- 3
-    pub stray_answer : not b ≡ true → Refused 3 0 ≡ freebusy_answer text resource (length rows / 10)
+    pub stray_answer : not b ≡ true → Err (at OutOfRange 0) ≡ freebusy_answer text resource (length rows / 10)
     unfolding freebusy_answer freebusy_refusal
     stray_answer h = rw (le-ltb 65536 (length text) short, is_stray resource fit i h)
 
@@ -173,7 +173,7 @@ module _ (text : List ℕ) (resource : ℤ) (rows : List ℤ) where
 
     -- by line and by period
     module _ (h : not b ≡ false) where
-      pub call_answer : {a : Answer} → a ≡ answered (text_refusal text (length rows / 10)) (length (closures text))
+      pub call_answer : {a : Result ℕ Refusal} → a ≡ answered (text_refusal text (length rows / 10)) (length (closures text))
           → a ≡ freebusy_answer text resource (length rows / 10)
       unfolding freebusy_answer freebusy_refusal
       call_answer r = rw (le-ltb 65536 (length text) short, is_ours resource fit i h) r
@@ -188,21 +188,21 @@ module _ (text : List ℕ) (resource : ℤ) (rows : List ℤ) where
 
 -- the resource that was handed on, as the machine reads it back
 module _ (text : List ℕ) (resource : ℤ) (f : SFits w64 resource) where
-  pub answer_asked : (room : ℕ) {a : Answer} → a ≡ freebusy_answer text (to_z w64 (of_z w64 resource)) room → a ≡ freebusy_answer text resource room
+  pub answer_asked : (room : ℕ) {a : Result ℕ Refusal} → a ≡ freebusy_answer text (to_z w64 (of_z w64 resource)) room → a ≡ freebusy_answer text resource room
   answer_asked room e = rw (to_z-of_z f) at e
 
   pub after_asked : (rows : List ℤ) {rows' : List ℤ} → rows' ≡ freebusy_after text (to_z w64 (of_z w64 resource)) rows → rows' ≡ freebusy_after text resource rows
   after_asked rows e = rw (to_z-of_z f) at e
 
 -- an accepted calendar has no more rows than are lent
-pub accepted_few : (text : List ℕ) (resource : ℤ) (room : ℕ) {n : ℕ} → freebusy_answer text resource room ≡ Accepted n → n ≤ room
+pub accepted_few : (text : List ℕ) (resource : ℤ) (room : ℕ) {n : ℕ} → freebusy_answer text resource room ≡ Ok n → n ≤ room
 unfolding freebusy_answer freebusy_refusal closures
 accepted_few text resource room {n} e = go (freebusy_refusal text resource room) refl e
   where
-    go : (o : Option Refusal) → freebusy_refusal text resource room ≡ o → answered o (length (closures text)) ≡ Accepted n → n ≤ room
+    go : (o : Option Refusal) → freebusy_refusal text resource room ≡ o → answered o (length (closures text)) ≡ Ok n → n ≤ room
     go None p q =
-        let a = or_none_right (refuse (ltb 65536 (length text)) OVERLONG 0) (or_else (refuse (not (in_class id_c resource)) OUT_OF_RANGE 0) (or_else (line_refusal (wrong_from None 0 (lines text))) (periods_refusal room 0 (periods_in text)))) p in
-        let b = or_none_right (refuse (not (in_class id_c resource)) OUT_OF_RANGE 0) (or_else (line_refusal (wrong_from None 0 (lines text))) (periods_refusal room 0 (periods_in text))) a in
+        let a = or_none_right (refuse (ltb 65536 (length text)) Overlong 0) (or_else (refuse (not (in_class id_c resource)) OutOfRange 0) (or_else (line_refusal (wrong_from None 0 (lines text))) (periods_refusal room 0 (periods_in text)))) p in
+        let b = or_none_right (refuse (not (in_class id_c resource)) OutOfRange 0) (or_else (line_refusal (wrong_from None 0 (lines text))) (periods_refusal room 0 (periods_in text))) a in
         let d = or_none_right (line_refusal (wrong_from None 0 (lines text))) (periods_refusal room 0 (periods_in text)) b in
         let k : length (closures text) ≡ n = cc in
         omega (arith, passed_fit room 0 (periods_in text) 0 (omega arith) d)

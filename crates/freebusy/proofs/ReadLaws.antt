@@ -18,7 +18,9 @@ use Rattle.loops.proofs.OrderedLaws.{none_some}
 use Rattle.loops.proofs.PlaceLaws.{or_none_lem, or_assoc, or_none_left, or_none_right}
 use Rattle.line_buffer.specs.inner.Sink.{Sink, sink, more, put_line, put_lines}
 use Rattle.line_buffer.proofs.LineLaws.{more_below, lines_append, lines_none, lines_kept}
-use Rattle.refusals.specs.Refusals.{OVERFULL, Refusal, refuse, verdict_of}
+use Rattle.refusals.specs.Refusals.{refuse, verdict_of}
+use Rattle.refusals.specs.declared.Reason.TheVariants.{Overfull}
+use Rattle.refusals.specs.declared.Refusal.{Refusal}
 use Rattle.freebusy_periods.specs.Period.{window_of}
 use Rattle.freebusy_periods.specs.declared.Window.{Window}
 use Rattle.freebusy_periods.specs.declared.Window.TheVariants.{Span, Wrong}
@@ -34,7 +36,7 @@ passed_one : (room n : ℕ) (b : Busy) → period_refusal room n b ≡ None → 
 unfolding period_refusal closures_of
 passed_one room n b e = go b.free (window_of b.bytes) (ltb n room) refl e
   where
-    go : (f : Bool) (w : Window) (t : Bool) → ltb n room ≡ t → or_else (window_refusal b.place w) (refuse (not f && not t) OVERFULL b.place) ≡ None
+    go : (f : Bool) (w : Window) (t : Bool) → ltb n room ≡ t → or_else (window_refusal b.place w) (refuse (not f && not t) Overfull b.place) ≡ None
         → (cond f [] (window_closures w) ≡ []) ⊎ ((c : Closure) × (cond f [] (window_closures w) ≡ c ∷ []) × (n < room))
     go f (Wrong k) t q e = absurd (none_some (sym e))
     go true (Span a e') t q e = inl refl

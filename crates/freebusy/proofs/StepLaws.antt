@@ -1,4 +1,5 @@
 -- What the steps of the reader come to, by their tests: verdicts, windows, the parts of a value, the lines of a text. Assumes nothing.
+use Rattle.std.specs.Prelude.{Result, Ok}
 use Prim.Native.Nat.{ℕ, ◌+◌, ◌-◌, ◌^◌, ◌≤◌, ◌<◌, min}
 use mathlib.Core.Bool.{Bool, true, false, cond, ◌&&◌, not}
 use mathlib.Core.List.{List, [], ◌∷◌, ◌++◌, map}
@@ -16,11 +17,10 @@ use borrow.Author.Tests.{lt-ltb, le-ltb}
 use Rattle.loops.specs.Search.{or_else}
 use Rattle.line_buffer.specs.inner.Sink.{Sink, sink, put_line}
 use Rattle.line_buffer.proofs.LineLaws.{lines_one, lines_none}
-use Rattle.refusals.specs.Refusals.{OVERFULL, refuse, verdict_of}
+use Rattle.refusals.specs.Refusals.{refuse, verdict_of}
+use Rattle.refusals.specs.declared.Reason.TheVariants.{Overfull}
+use Rattle.refusals.specs.declared.Refusal.{Refusal}
 use Rattle.refusals.specs.Lending.{answered}
-use Rattle.refusals.specs.declared.Answer.TheVariants.{Accepted, Refused}
-use Rattle.refusals.specs.declared.Verdict.{Verdict}
-use Rattle.refusals.specs.declared.Verdict.TheVariants.{Fine, Refused as Not}
 use Rattle.text_fields.specs.Parts.{until_byte, parts}
 use Rattle.loops.proofs.ListLaws.{rest_is}
 use Rattle.text_fields.proofs.PartLaws.{parts_only, parts_more}
@@ -44,35 +44,35 @@ use Rattle.freebusy.proofs.ShortLaws.{short_periods}
 
 -- ---- verdicts
 
-module _ {v : Verdict} where
-  pub answer_fine : (n : ℕ) → v ≡ Fine → Accepted n ≡ answered (verdict_of v) n
+module _ {v : Result Unit Refusal} where
+  pub answer_fine : (n : ℕ) → v ≡ (Ok tt) → Ok n ≡ answered (verdict_of v) n
   answer_fine n e = rw e
 
   pub answer_refused : (n : ℕ) {k p : ℕ} → v ≡ Not k p → Refused k p ≡ answered (verdict_of v) n
   answer_refused n e = rw e
 
-  pub first_kept : (w : Verdict) {k p : ℕ} → v ≡ Not k p → verdict_of (Not k p) ≡ or_else (verdict_of v) (verdict_of w)
+  pub first_kept : (w : Result Unit Refusal) {k p : ℕ} → v ≡ Not k p → verdict_of (Not k p) ≡ or_else (verdict_of v) (verdict_of w)
   first_kept w e = rw e
 
 -- ---- a window
 
 module _ (free : Bool) (p n room : ℕ) {w : Window} where
-  pub judged_wrong : {k : ℕ} → w ≡ Wrong k → verdict_of (Not k p) ≡ or_else (window_refusal p w) (refuse (not free && not (ltb n room)) OVERFULL p)
+  pub judged_wrong : {k : ℕ} → w ≡ Wrong k → verdict_of (Not k p) ≡ or_else (window_refusal p w) (refuse (not free && not (ltb n room)) Overfull p)
   judged_wrong e = rw e
 
   module _ {a e : ℕ} (s : w ≡ Span a e) where
-    pub judged_free : free ≡ true → verdict_of Fine ≡ or_else (window_refusal p w) (refuse (not free && not (ltb n room)) OVERFULL p)
+    pub judged_free : free ≡ true → verdict_of (Ok tt) ≡ or_else (window_refusal p w) (refuse (not free && not (ltb n room)) Overfull p)
     judged_free f = rw (s, f)
 
-    pub judged_fits : free ≡ false → n < room → verdict_of Fine ≡ or_else (window_refusal p w) (refuse (not free && not (ltb n room)) OVERFULL p)
+    pub judged_fits : free ≡ false → n < room → verdict_of (Ok tt) ≡ or_else (window_refusal p w) (refuse (not free && not (ltb n room)) Overfull p)
     judged_fits f h = rw (s, f, lt-ltb n room h)
 
-    pub judged_over : free ≡ false → room ≤ n → verdict_of (Not OVERFULL p) ≡ or_else (window_refusal p w) (refuse (not free && not (ltb n room)) OVERFULL p)
+    pub judged_over : free ≡ false → room ≤ n → verdict_of (Not Overfull p) ≡ or_else (window_refusal p w) (refuse (not free && not (ltb n room)) Overfull p)
     judged_over f h = rw (s, f, le-ltb n room h)
 
 -- one period more
-pub period_read : (room id p : ℕ) (free : Bool) (s : List ℕ) {rows rows' : List ℤ} (from : Reading) {to : Reading} {w : Window} (v : Verdict) → w ≡ window_of s
-    → verdict_of v ≡ or_else (window_refusal p w) (refuse (not free && not (ltb from.count room)) OVERFULL p)
+pub period_read : (room id p : ℕ) (free : Bool) (s : List ℕ) {rows rows' : List ℤ} (from : Reading) {to : Reading} {w : Window} (v : Result Unit Refusal) → w ≡ window_of s
+    → verdict_of v ≡ or_else (window_refusal p w) (refuse (not free && not (ltb from.count room)) Overfull p)
     → verdict_of to.refused ≡ or_else (verdict_of from.refused) (verdict_of v)
     → sink rows' to.count ≡ put_closures id (sink rows from.count) (cond free [] (window_closures w))
     → ReadOn room id rows from (busy p free s ∷ []) rows' to

@@ -1,11 +1,13 @@
 -- The call `read_freebusy`: what it answers for any bytes, any resource number and any lent numbers, and what it leaves in them. Assumes nothing.
+use Rattle.std.specs.Prelude.{Result}
 use Rattle.std.specs.Prelude.{ℕ, ◌+◌, ◌/◌, cond, ◌&&◌, not, List, [], ◌∷◌, ltb, length, ℤ, pos}
 use Rattle.std.specs.Prelude.{Option, None, Some}
 use Rattle.loops.specs.Lists.{each}
 use Rattle.loops.specs.Search.{or_else}
-use Rattle.refusals.specs.Refusals.{OUT_OF_RANGE, OVERLONG, MALFORMED, OVERFULL, Refusal, refuse}
+use Rattle.refusals.specs.Refusals.{refuse}
+use Rattle.refusals.specs.declared.Reason.TheVariants.{OutOfRange, Overlong, Malformed, Overfull}
+use Rattle.refusals.specs.declared.Refusal.{Refusal}
 use Rattle.refusals.specs.Lending.{answered, lent_after}
-use Rattle.refusals.specs.declared.Answer.{Answer}
 use Rattle.rows.specs.Class.{id_c}
 use Rattle.rows.specs.Ranges.{in_class}
 use Rattle.line_buffer.specs.Lines.{flat_lines}
@@ -51,17 +53,17 @@ closure_row resource c =
 -- 11: a line, the least of all
 abbrev pub line_refusal : Option ℕ → Option Refusal
 line_refusal None = None
-line_refusal (Some p) = Some (record { number = MALFORMED; place = p })
+line_refusal (Some p) = Some (at Malformed p)
 
 -- 12, or 11 for an end not after its start, of a period of the line at place p
 abbrev pub window_refusal : ℕ → Window → Option Refusal
 window_refusal p (Span a e) = None
-window_refusal p (Wrong k) = Some (record { number = k; place = p })
+window_refusal p (Wrong k) = Some (at k p)
 
 -- a period, where n rows went before it and `room` rows are lent: its window, then 13 where it has a row and that does not fit
 unfoldable pub period_refusal : ℕ → ℕ → Busy → Option Refusal
 period_refusal room n b =
-    or_else (window_refusal b.place (window_of b.bytes)) (refuse (not b.free && not (ltb n room)) OVERFULL b.place)
+    or_else (window_refusal b.place (window_of b.bytes)) (refuse (not b.free && not (ltb n room)) Overfull b.place)
 
 -- the first of the periods that is refused
 unfoldable pub periods_refusal : ℕ → ℕ → List Busy → Option Refusal
@@ -71,14 +73,14 @@ periods_refusal room n (b ∷ bs) = or_else (period_refusal room n b) (periods_r
 -- 8; 3 for the resource number; 11 by line; then, all lines having passed, by period
 unfoldable pub freebusy_refusal : List ℕ → ℤ → ℕ → Option Refusal
 freebusy_refusal text resource room =
-    or_else (refuse (ltb 65536 (length text)) OVERLONG 0)
-    (or_else (refuse (not (in_class id_c resource)) OUT_OF_RANGE 0)
+    or_else (refuse (ltb 65536 (length text)) Overlong 0)
+    (or_else (refuse (not (in_class id_c resource)) OutOfRange 0)
     (or_else (line_refusal (wrong_from None 0 (lines text))) (periods_refusal room 0 (periods_in text))))
 
 -- ---- the call
 
 -- the answer, where `room` rows are lent: a refusal, or the count of the rows
-unfoldable pub freebusy_answer : List ℕ → ℤ → ℕ → Answer
+unfoldable pub freebusy_answer : List ℕ → ℤ → ℕ → Result ℕ Refusal
 freebusy_answer text resource room = answered (freebusy_refusal text resource room) (length (closures text))
 
 -- the lent numbers after the call: the rows, and what lay after them; a refusal changes none. Of the lent numbers the whole tens count

@@ -19,7 +19,7 @@ ghost use Rattle.freebusy.specs.inner.Reading.{put_closures, ReadOn, unread, spa
 
 use freebusy_components::Place;
 use freebusy_periods::Window;
-use refusals::{Answer, Verdict};
+use refusals::{Answer, Reason, Verdict};
 
 // The class of an id.
 const ID: u8 = 2;
@@ -42,10 +42,7 @@ struct LineRead {
 fn first_refusal(a: Verdict, b: Verdict) -> Verdict
     ensures { verdict_of result ≡ or_else (verdict_of a) (verdict_of b) }
 {
-    match a {
-        Verdict::Fine => b,
-        Verdict::Refused(number, place) => Verdict::Refused(number, place),
-    }
+    a.and(b)
 }
 
 // A period's own refusal, by its window.
@@ -53,15 +50,15 @@ fn judge_window(w: Window, free: bool, p: usize, n: usize, room: usize) -> Verdi
     ensures { verdict_of result ≡ or_else (window_refusal p w) (refuse (not free && not (ltb n room)) OVERFULL p) }
 {
     if let Window::Wrong(k) = w {
-        return Verdict::Refused(k, p);
+        return Err(k.at(p));
     }
     if free {
-        return Verdict::Fine;
+        return Ok(());
     }
     if n < room {
-        return Verdict::Fine;
+        return Ok(());
     }
-    Verdict::Refused(refusals::OVERFULL, p)
+    Err(Reason::Overfull.at(p))
 }
 
 // A row of a closed window.
@@ -221,7 +218,7 @@ fn read_periods(text: &[u8], id: u64, rows: &mut [i64], room: usize, space: &mut
         begun: Place::Nowhere,
         found: Reading {
             count: 0,
-            refused: Verdict::Fine,
+            refused: Ok(()),
         },
     };
     while 0 < rest.len() {
@@ -245,11 +242,8 @@ fn is_id(resource: i64) -> bool
 fn answer_of(found: Reading) -> Answer
     ensures { result ≡ answered (verdict_of found.refused) found.count }
 {
-    let refused = found.refused;
-    match refused {
-        Verdict::Fine => Answer::Accepted(found.count),
-        Verdict::Refused(number, place) => Answer::Refused(number, place),
-    }
+    found.refused?;
+    Ok(found.count)
 }
 
 // The periods of a text whose lines have passed. They are read first with none of the rows lent, so that a refusal changes none.
@@ -262,7 +256,7 @@ fn read_closures(text: &[u8], id: u64, rows: &mut [i64], space: &mut [u8]) -> An
     let room = rows.len() / 10;
     let found = read_periods(text, id, &mut rows[..0], room, space);
     let answer = answer_of(found);
-    if let Answer::Accepted(_) = answer {
+    if let Ok(_) = answer {
         read_periods(text, id, rows, room, space);
     }
     answer
@@ -277,7 +271,7 @@ fn read_calendar(text: &[u8], id: u64, rows: &mut [i64]) -> Answer
     let mut space = [0u8; 65536];
     let wrong = freebusy_components::first_wrong(text, &mut space);
     if let Place::At(p) = wrong {
-        return Answer::Refused(refusals::MALFORMED, p);
+        return Err(Reason::Malformed.at(p));
     }
     read_closures(text, id, rows, &mut space)
 }
@@ -288,10 +282,10 @@ pub fn read_freebusy(text: &[u8], resource: i64, rows: &mut [i64]) -> Answer
     ensures rows_after { rows.new ≡ freebusy_after text.now resource rows.old }
 {
     if 65536 < text.len() {
-        return Answer::Refused(refusals::OVERLONG, 0);
+        return Err(Reason::Overlong.at(0));
     }
     if !is_id(resource) {
-        return Answer::Refused(refusals::OUT_OF_RANGE, 0);
+        return Err(Reason::OutOfRange.at(0));
     }
     read_calendar(text, rows::nat(resource), rows)
 }

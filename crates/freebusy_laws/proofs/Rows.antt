@@ -15,7 +15,8 @@ use Rattle.loops.proofs.BoolLaws.{and_left, and_right}
 use Rattle.loops.proofs.PlaceLaws.{or_none_left, or_none_right}
 use Rattle.loops.proofs.SearchLaws.{none_below}
 use Rattle.line_buffer.specs.Lines.{flat_lines}
-use Rattle.refusals.specs.Refusals.{OUT_OF_RANGE, OVERLONG, refuse}
+use Rattle.refusals.specs.Refusals.{refuse}
+use Rattle.refusals.specs.declared.Reason.TheVariants.{OutOfRange, Overlong}
 use Rattle.refusals.proofs.AnswerLaws.{unrefused, accepted_count}
 use Rattle.rows.specs.Cells.{cell, is}
 use Rattle.rows.specs.Class.{id_c, t_c}
@@ -131,10 +132,10 @@ module _ (resource : ℤ) (rows : List ℤ) (k : ℕ) (i : in_class id_c resourc
 known : (text : List ℕ) (resource : ℤ) (room : ℕ) → freebusy_refusal text resource room ≡ None → in_class id_c resource ≡ true
 unfolding freebusy_refusal
 known text resource room e = go (in_class id_c resource)
-    (or_none_left (refuse (not (in_class id_c resource)) OUT_OF_RANGE 0) (or_else (line_refusal (wrong_from None 0 (lines text))) (periods_refusal room 0 (periods_in text)))
-    (or_none_right (refuse (ltb 65536 (length text)) OVERLONG 0) (or_else (refuse (not (in_class id_c resource)) OUT_OF_RANGE 0) (or_else (line_refusal (wrong_from None 0 (lines text))) (periods_refusal room 0 (periods_in text)))) e))
+    (or_none_left (refuse (not (in_class id_c resource)) OutOfRange 0) (or_else (line_refusal (wrong_from None 0 (lines text))) (periods_refusal room 0 (periods_in text)))
+    (or_none_right (refuse (ltb 65536 (length text)) Overlong 0) (or_else (refuse (not (in_class id_c resource)) OutOfRange 0) (or_else (line_refusal (wrong_from None 0 (lines text))) (periods_refusal room 0 (periods_in text)))) e))
   where
-    go : (b : Bool) → refuse (not b) OUT_OF_RANGE 0 ≡ None → b ≡ true
+    go : (b : Bool) → refuse (not b) OutOfRange 0 ≡ None → b ≡ true
     go true e = refl
     go false e = absurd (let z : ◌≡◌ {A = ℕ} 0 1 = cc in omega arith)
 

@@ -1,6 +1,6 @@
 -- What holds of the call `read_freebusy` as a whole. Assumes nothing.
+use Rattle.std.specs.Prelude.{Ok}
 use Rattle.std.specs.Prelude.{ℕ, ◌/◌, ◌<◌, ◌≤◌, true, false, List, ◌≡◌, ℤ, length}
-use Rattle.refusals.specs.declared.Answer.TheVariants.{Accepted}
 use Rattle.letters.specs.Letters.{capitals}
 use Rattle.freebusy_lines.specs.Folding.{Refolded}
 use Rattle.freebusy.specs.Call.{freebusy_answer, freebusy_after}
@@ -24,5 +24,5 @@ CaseUnseen = (s t : List ℕ) → capitals s ≡ capitals t → Alike s t
 -- each of the rows that are written to the lent numbers has a known kind, and its columns are in their classes: refusals 2 and 3 of a sheet let it pass
 abbrev pub RowsPass : Type 0
 RowsPass =
-    (text : List ℕ) (resource : ℤ) (lent : List ℤ) (n : ℕ) → freebusy_answer text resource (length lent / 10) ≡ Accepted n → (k : ℕ) → k < n
+    (text : List ℕ) (resource : ℤ) (lent : List ℤ) (n : ℕ) → freebusy_answer text resource (length lent / 10) ≡ Ok n → (k : ℕ) → k < n
     → (known_kind (freebusy_after text resource lent) k ≡ true) × (out_of_range (freebusy_after text resource lent) k ≡ false)

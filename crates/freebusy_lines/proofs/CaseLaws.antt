@@ -2,7 +2,7 @@
 use Prim.Native.Nat.{ℕ, ◌<◌}
 use mathlib.Core.Bool.{Bool, true, false, cond, ◌&&◌, ◌||◌, not}
 use mathlib.Core.List.{List, [], ◌∷◌, map}
-use mathlib.Core.Option
+use Rattle.std.specs.Prelude.{option_map}
 use Rattle.std.specs.Prelude.{Some}
 use mathlib.Core.Path.{◌≡◌, refl, ap, ap₂, ◌∙◌}
 use native.Mathlib.Omega.{arith}
@@ -46,12 +46,12 @@ until_capitals b h (x ∷ s) = ap (λ (t : Bool). cond t [] (capital x ∷ until
     go true k = refl
     go false k = ap (λ (l : List ℕ). capital x ∷ l) k
 
-pub after_capitals : (b : ℕ) → b < 65 → (s : List ℕ) → after b (capitals s) ≡ Option.map capitals (after b s)
+pub after_capitals : (b : ℕ) → b < 65 → (s : List ℕ) → after b (capitals s) ≡ option_map capitals (after b s)
 unfolding after
 after_capitals b h [] = refl
 after_capitals b h (x ∷ s) = ap (λ (t : Bool). cond t (Some (capitals s)) (after b (capitals s))) (byte_unseen b h x) ∙ go (eqb x b) (after_capitals b h s)
   where
-    go : (t : Bool) → after b (capitals s) ≡ Option.map capitals (after b s) → cond t (Some (capitals s)) (after b (capitals s)) ≡ Option.map capitals (cond t (Some s) (after b s))
+    go : (t : Bool) → after b (capitals s) ≡ option_map capitals (after b s) → cond t (Some (capitals s)) (after b (capitals s)) ≡ option_map capitals (cond t (Some s) (after b s))
     go true k = refl
     go false k = k
 

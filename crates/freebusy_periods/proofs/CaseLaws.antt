@@ -15,7 +15,7 @@ use Rattle.letters.specs.Letters.{capital, capitals, LETTER_D, LETTER_H, LETTER_
 use Rattle.letters.proofs.LetterLaws.{capital_twice, byte_unseen, digit_unseen, digit_kept}
 use Rattle.dates.specs.DateTime.{date_time, instant}
 use Rattle.dates.proofs.InstantLaws.{date_time_unseen, instant_unseen}
-use Rattle.refusals.specs.Refusals.{MALFORMED, UNDATED}
+use Rattle.refusals.specs.declared.Reason.TheVariants.{Malformed, Undated}
 use Rattle.freebusy_lines.specs.Bytes.{SLASH, PLUS, HYPHEN, after}
 use Rattle.freebusy_lines.proofs.CaseLaws.{until_capitals, after_capitals}
 use Rattle.freebusy_periods.specs.Duration.{Counted, counts, counted_from, counted, then_maybe, amount, nothing_more, dur_second, dur_minute, dur_hour, dur_time, dur_date, dur_week, dur_unsigned, dur_value, is_sign, is_back}
@@ -139,12 +139,12 @@ pub window_unseen : (s : List ℕ) → window_of (capitals s) ≡ window_of s
 unfolding window_of
 window_unseen s =
     ap
-    (λ (o : Option ℕ). option o (Wrong UNDATED) λ a. option (option (after SLASH (capitals s)) None (end_from a)) (Wrong UNDATED) λ e. cond (ltb a e) (Span a e) (Wrong MALFORMED))
+    (λ (o : Option ℕ). option o (Wrong Undated) λ a. option (option (after SLASH (capitals s)) None (end_from a)) (Wrong Undated) λ e. cond (ltb a e) (Span a e) (Wrong Malformed))
     (before_unseen instant instant_unseen s)
     ∙ go (instant (until_byte SLASH s))
   where
     go : (o : Option ℕ)
-        → option o (Wrong UNDATED) (λ a. option (option (after SLASH (capitals s)) None (end_from a)) (Wrong UNDATED) λ e. cond (ltb a e) (Span a e) (Wrong MALFORMED))
-        ≡ option o (Wrong UNDATED) (λ a. option (option (after SLASH s) None (end_from a)) (Wrong UNDATED) λ e. cond (ltb a e) (Span a e) (Wrong MALFORMED))
+        → option o (Wrong Undated) (λ a. option (option (after SLASH (capitals s)) None (end_from a)) (Wrong Undated) λ e. cond (ltb a e) (Span a e) (Wrong Malformed))
+        ≡ option o (Wrong Undated) (λ a. option (option (after SLASH s) None (end_from a)) (Wrong Undated) λ e. cond (ltb a e) (Span a e) (Wrong Malformed))
     go None = refl
-    go (Some a) = ap (λ (o : Option ℕ). option o (Wrong UNDATED) λ e. cond (ltb a e) (Span a e) (Wrong MALFORMED)) (behind_unseen None (end_from a) (end_unseen a) s)
+    go (Some a) = ap (λ (o : Option ℕ). option o (Wrong Undated) λ e. cond (ltb a e) (Span a e) (Wrong Malformed)) (behind_unseen None (end_from a) (end_unseen a) s)

@@ -18,7 +18,7 @@ use Rattle.dates.specs.DateTime.{instant, told, date_time, last_instant}
 use Rattle.dates.specs.declared.Instant.{Instant}
 use Rattle.dates.specs.declared.Instant.TheVariants.{At, Outside}
 use Rattle.dates.proofs.InstantLaws.{instant_most}
-use Rattle.refusals.specs.Refusals.{MALFORMED, UNDATED}
+use Rattle.refusals.specs.declared.Reason.TheVariants.{Malformed, Undated}
 use Rattle.freebusy_lines.specs.Bytes.{SLASH, HYPHEN, after}
 use Rattle.freebusy_lines.proofs.AfterLaws.{nothing_after, rest_after}
 use Rattle.freebusy_periods.specs.Duration.{dur_value, is_back}
@@ -142,7 +142,7 @@ pub span_after : (a b : ℕ) → a < b → Span a b ≡ spanned a b
 unfolding spanned
 span_after a b h = rw (lt-ltb a b)
 
-pub span_not : (a b : ℕ) → b ≤ a → Wrong MALFORMED ≡ spanned a b
+pub span_not : (a b : ℕ) → b ≤ a → Wrong Malformed ≡ spanned a b
 unfolding spanned
 span_not a b h = rw (le-ltb a b)
 
@@ -171,7 +171,7 @@ module _ (s : List ℕ) {f : List ℕ} (e : f ≡ until_byte SLASH s) where
     unfolding period period_explicit period_start ends_period
     period_ends t l q = rw (dated ∙ not-false r t, rest_after SLASH s e l) q
 
-  pub window_early : {i : Instant} → told i ≡ instant f → i ≡ Outside → Wrong UNDATED ≡ window_of s
+  pub window_early : {i : Instant} → told i ≡ instant f → i ≡ Outside → Wrong Undated ≡ window_of s
   unfolding window_of
   window_early q z = let h : instant (until_byte SLASH s) ≡ None = sym (sym (ap told z) ∙ q ∙ ap instant e) in rw h
 
@@ -179,12 +179,12 @@ module _ (s : List ℕ) {f : List ℕ} (e : f ≡ until_byte SLASH s) where
     started : instant (until_byte SLASH s) ≡ Some a
     started = sym (sym (ap told z) ∙ q ∙ ap instant e)
 
-    pub window_alone : length s ≤ length f → Wrong UNDATED ≡ window_of s
+    pub window_alone : length s ≤ length f → Wrong Undated ≡ window_of s
     unfolding window_of
     window_alone l = rw (started, nothing_after SLASH s e l)
 
     module _ (l : length f < length s) {j : Instant} (g : told j ≡ end_from a (rest s f)) where
-      pub window_late : j ≡ Outside → Wrong UNDATED ≡ window_of s
+      pub window_late : j ≡ Outside → Wrong Undated ≡ window_of s
       unfolding window_of
       window_late y = rw (started, rest_after SLASH s e l, sym (sym (ap told y) ∙ g))
 
@@ -228,12 +228,12 @@ pub window_in_range : (s : List ℕ) (a e : ℕ) → window_of s ≡ Span a e �
 unfolding window_of
 window_in_range s a e q = go (instant (until_byte SLASH s)) refl q
   where
-    judged : (b t : ℕ) (c : Bool) → t ≤ 4000000000000 → ltb b t ≡ c → cond c (Span b t) (Wrong MALFORMED) ≡ Span a e → (a < e) × (e ≤ 4000000000000)
+    judged : (b t : ℕ) (c : Bool) → t ≤ 4000000000000 → ltb b t ≡ c → cond c (Span b t) (Wrong Malformed) ≡ Span a e → (a < e) × (e ≤ 4000000000000)
     judged b t true l p q =
         let u : b ≡ a = cc in let v : t ≡ e = cc in let k = ltb-true b t p in (omega arith, omega arith)
     judged b t false l p q = let z : ◌≡◌ {A = ℕ} 0 1 = cc in absurd (omega arith)
 
-    ended : (b : ℕ) (o : Option ℕ) → ((t : ℕ) → o ≡ Some t → t ≤ 4000000000000) → option o (Wrong UNDATED) (λ t. cond (ltb b t) (Span b t) (Wrong MALFORMED)) ≡ Span a e
+    ended : (b : ℕ) (o : Option ℕ) → ((t : ℕ) → o ≡ Some t → t ≤ 4000000000000) → option o (Wrong Undated) (λ t. cond (ltb b t) (Span b t) (Wrong Malformed)) ≡ Span a e
         → (a < e) × (e ≤ 4000000000000)
     ended b None l q = let z : ◌≡◌ {A = ℕ} 0 1 = cc in absurd (omega arith)
     ended b (Some t) l q = judged b t (ltb b t) (l t refl) refl q
@@ -243,7 +243,7 @@ window_in_range s a e q = go (instant (until_byte SLASH s)) refl q
     close b (Some x) l t p = end_most b x t l p
 
     go : (o : Option ℕ) → instant (until_byte SLASH s) ≡ o
-        → option o (Wrong UNDATED) (λ b. option (option (after SLASH s) None (end_from b)) (Wrong UNDATED) λ t. cond (ltb b t) (Span b t) (Wrong MALFORMED)) ≡ Span a e
+        → option o (Wrong Undated) (λ b. option (option (after SLASH s) None (end_from b)) (Wrong Undated) λ t. cond (ltb b t) (Span b t) (Wrong Malformed)) ≡ Span a e
         → (a < e) × (e ≤ 4000000000000)
     go None p q = let z : ◌≡◌ {A = ℕ} 0 1 = cc in absurd (omega arith)
     go (Some b) p q = ended b (option (after SLASH s) None (end_from b)) (close b (after SLASH s) (instant_most (until_byte SLASH s) b (sym p))) q

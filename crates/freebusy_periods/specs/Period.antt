@@ -5,7 +5,7 @@ use Rattle.loops.specs.Lists.{option, is_some}
 use Rattle.loops.specs.Search.{some_if}
 use Rattle.text_fields.specs.Parts.{until_byte}
 use Rattle.dates.specs.DateTime.{date_time, instant, last_instant}
-use Rattle.refusals.specs.Refusals.{MALFORMED, UNDATED}
+use Rattle.refusals.specs.declared.Reason.TheVariants.{Malformed, Undated}
 use Rattle.freebusy_lines.specs.Bytes.{SLASH, after}
 use Rattle.freebusy_periods.specs.Duration.{dur_value, is_back}
 use Rattle.freebusy_periods.specs.declared.Window.{Window}
@@ -41,6 +41,6 @@ end_from a e = cond (date_time e) (instant e) (option (dur_value e) None (λ n. 
 -- 12 for its start or its end, then 11 for an end not after its start
 unfoldable pub window_of : List ℕ → Window
 window_of s =
-    option (instant (before s)) (Wrong UNDATED) λ a.
-    option (option (after SLASH s) None (end_from a)) (Wrong UNDATED) λ e.
-    cond (ltb a e) (Span a e) (Wrong MALFORMED)
+    option (instant (before s)) (Wrong Undated) λ a.
+    option (option (after SLASH s) None (end_from a)) (Wrong Undated) λ e.
+    cond (ltb a e) (Span a e) (Wrong Malformed)

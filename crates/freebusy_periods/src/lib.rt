@@ -8,12 +8,13 @@ ghost use Rattle.freebusy_periods.specs.Period.{period, moved, end_from, window_
 ghost use Rattle.freebusy_periods.specs.inner.Capped.{at_most, capped_count, count_of, capped, seconds_of, added, after_t, after_p, ends_period, spanned};
 
 use dates::Instant;
+use refusals::Reason;
 
-// A period: its window, or the number of its refusal.
+// A period: its window, or the reason of its refusal.
 #[derive(Clone, Copy)]
 pub enum Window {
     Span(u64, u64),
-    Wrong(u64),
+    Wrong(Reason),
 }
 
 // Digits and a letter: whether they are there, their number, the letter as a capital, and the place after it.
@@ -306,10 +307,10 @@ fn span(a: u64, b: u64) -> Window
     if a < b {
         return Window::Span(a, b);
     }
-    Window::Wrong(refusals::MALFORMED)
+    Window::Wrong(Reason::Malformed)
 }
 
-// The window of a period, or the number of its refusal.
+// The window of a period, or the reason of its refusal.
 pub fn window_of(s: &[u8]) -> Window
     ensures { result ≡ window_of s.now }
 {
@@ -317,14 +318,14 @@ pub fn window_of(s: &[u8]) -> Window
     let n = f.len();
     let start = dates::read_instant(f);
     let Instant::At(a) = start else {
-        return Window::Wrong(refusals::UNDATED);
+        return Window::Wrong(Reason::Undated);
     };
     if s.len() <= n {
-        return Window::Wrong(refusals::UNDATED);
+        return Window::Wrong(Reason::Undated);
     }
     let end = end_from(a, &s[n + 1..]);
     let Instant::At(b) = end else {
-        return Window::Wrong(refusals::UNDATED);
+        return Window::Wrong(Reason::Undated);
     };
     span(a, b)
 }

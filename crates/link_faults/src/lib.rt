@@ -12,7 +12,7 @@ ghost use Rattle.refusals.specs.Refusals.{verdict_of};
 ghost use Rattle.sheet.specs.Refusals.{has_members, unowned, owner_fault, repeat_fault};
 ghost use Rattle.sheet.specs.inner.Groups.{group, repeated_by};
 
-use refusals::Verdict;
+use refusals::{Reason, Verdict};
 
 // ---- 4
 
@@ -58,9 +58,9 @@ pub fn owner_fault(rows: &[i64], links: &[u16; 1600], k: usize) -> Verdict
     ensures { verdict_of result ≡ owner_fault rows.now k }
 {
     if is_unowned(rows, links, k) {
-        return Verdict::Refused(refusals::STRAY, k);
+        return Err(Reason::Stray.at(k));
     }
-    Verdict::Fine
+    Ok(())
 }
 
 // ---- 5
@@ -120,7 +120,7 @@ pub fn repeat_fault(rows: &[i64], kinds: &[u16; 3680], k: usize) -> Verdict
     ensures { verdict_of result ≡ repeat_fault rows.now k }
 {
     if is_repeat(rows, kinds, k) {
-        return Verdict::Refused(refusals::TWICE, k);
+        return Err(Reason::Twice.at(k));
     }
-    Verdict::Fine
+    Ok(())
 }

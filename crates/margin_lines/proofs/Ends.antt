@@ -1,4 +1,6 @@
 -- The ways in which the call ends. Assumes nothing.
+use Rattle.std.specs.Prelude.{Ok}
+use Rattle.std.specs.Prelude.{Result, Err}
 use Prim.Native.Nat.{ℕ, ◌*◌, ◌/◌, ◌≤◌}
 use mathlib.Core.Path.{◌≡◌, refl}
 use mathlib.Core.List.{List}
@@ -11,11 +13,9 @@ use lib.ListN.{length}
 use Rattle.loops.specs.Lists.{each}
 use Rattle.loops.specs.Search.{or_else}
 use Rattle.calendar.specs.Clock.{clock}
-use Rattle.refusals.specs.declared.Answer.{Answer}
-use Rattle.refusals.specs.declared.Answer.TheVariants.{Accepted as Call-as-Accepted, Refused as Call-as-Refused}
-use Rattle.refusals.specs.declared.Verdict.{Verdict}
-use Rattle.refusals.specs.declared.Verdict.TheVariants.{Refused}
-use Rattle.refusals.specs.Refusals.{FULL, Refusal, refuse}
+use Rattle.refusals.specs.Refusals.{refuse, at}
+use Rattle.refusals.specs.declared.Refusal.{Refusal}
+use Rattle.refusals.specs.declared.Reason.TheVariants as refusals
 use Rattle.line_buffer.specs.declared.Handed.{Handed}
 use Rattle.line_buffer.specs.declared.Handed.TheVariants.{Over, Full, Longer}
 use Rattle.line_buffer.specs.inner.Handing.{handed, after_handing}
@@ -35,7 +35,7 @@ use Rattle.margin_lines.specs.inner.Sink.{sink, emit_margins}
 use Rattle.margin_lines.proofs.Count.{margins_short}
 
 -- the call on these rows, lent the buffer o, answers so and leaves the buffer o'
-abbrev Ends : List ℤ → List ℤ → Answer → List ℤ → Type 0
+abbrev Ends : List ℤ → List ℤ → Result ℕ Refusal → List ℤ → Type 0
 Ends rows o answer o' = (answer ≡ margins_answer rows (length o / 3)) × (o' ≡ margins_after rows o)
 
 -- each line is of a row, and a sheet has 800 rows at most
@@ -46,19 +46,19 @@ pub room_for_all : RoomForAll
 unfolding margins_refusal call_refusal
 room_for_all rows room l = go (sheet_refusal rows) refl
   where
-    go : (o : Option Refusal) → sheet_refusal rows ≡ o → or_else o (refuse (ltb room (length (margins rows))) FULL 0) ≡ o
+    go : (o : Option Refusal) → sheet_refusal rows ≡ o → or_else o (refuse (ltb room (length (margins rows))) refusals.Full 0) ≡ o
     go None e = let h : length (margins rows) ≤ room = omega (arith, few_margins rows e) in rw (le-ltb room (length (margins rows)) h)
     go (Some x) e = refl
 
 -- ---- refused by 1 to 6
 
-module _ (rows o : List ℤ) {v : Verdict} {number place : ℕ} {k₀ l₀ p₀ k l p : List ℕ} (a : Accepting rows k₀ l₀ p₀ v k l p) (e : v ≡ Refused number place) where
-  refused_sheet : Ends rows o (Call-as-Refused number place) o
+module _ (rows o : List ℤ) {v : Result Unit Refusal} {x : Refusal} {k₀ l₀ p₀ k l p : List ℕ} (a : Accepting rows k₀ l₀ p₀ v k l p) (e : v ≡ Err x) where
+  refused_sheet : Ends rows o (Err x) o
   unfolding margins_refusal margins_answer margins_after flat_margins
   refused_sheet = ends_refused 3 three (omega arith) (λ m. refl) rows (margins rows) o (refused_by rows a e)
 
-  pub refused_answer : Call-as-Refused number place ≡ margins_answer rows (length o / 3)
-  refused_answer = refused_sheet.0
+  pub refused_answer : {b : Result ℕ Refusal} → b ≡ Err x → b ≡ margins_answer rows (length o / 3)
+  refused_answer b = b ∙ refused_sheet.0
 
   pub refused_left : o ≡ margins_after rows o
   refused_left = refused_sheet.1
@@ -77,22 +77,22 @@ module _ (rows o o₀ : List ℤ) {x y : List ℤ} {n k : ℕ} {r : Handed} (pas
   counted = omega (arith, count_fits 3 three o₀ (margins rows) ran, few_margins rows passed)
 
   module _ {o' : List ℤ} (left : o' ≡ after_handing r (k * 3) y o) where
-    ends_copied : r ≡ Over → Ends rows o (Call-as-Accepted k) o'
+    ends_copied : r ≡ Over → Ends rows o (Ok k) o'
     unfolding margins_refusal margins_answer margins_after flat_margins
     ends_copied over = ends_over 3 three (omega arith) (λ m. refl) rows (margins rows) o passed o₀ ran told counted (omega arith) left over
 
-    ends_refused_full : r ≡ Full → Ends rows o (Call-as-Refused 7 0) o'
+    ends_refused_full : r ≡ Full → Ends rows o (Err (at refusals.Full 0)) o'
     unfolding margins_refusal margins_answer margins_after flat_margins
     ends_refused_full full = ends_full 3 three (omega arith) (λ m. refl) rows (margins rows) o passed o₀ ran told left full
 
-    pub over_answer : r ≡ Over → Call-as-Accepted k ≡ margins_answer rows (length o / 3)
+    pub over_answer : r ≡ Over → Ok k ≡ margins_answer rows (length o / 3)
     over_answer over = (ends_copied over).0
 
     pub over_left : r ≡ Over → o' ≡ margins_after rows o
     over_left over = (ends_copied over).1
 
-    pub full_answer : r ≡ Full → Call-as-Refused 7 0 ≡ margins_answer rows (length o / 3)
-    full_answer full = (ends_refused_full full).0
+    pub full_answer : {e : Refusal} → e ≡ at refusals.Full 0 → r ≡ Full → Err e ≡ margins_answer rows (length o / 3)
+    full_answer a full = rw a (ends_refused_full full).0
 
     pub full_left : r ≡ Full → o' ≡ margins_after rows o
     full_left full = (ends_refused_full full).1
@@ -103,7 +103,7 @@ module _ (rows o o₀ : List ℤ) {x y : List ℤ} {n k : ℕ} {r : Handed} (pas
         let held : length y ≡ length o₀ = lines_kept 3 three o₀ 0 (margins rows) ran in
         not_longer (length o / 3) (length y / 3) k (omega (arith, counted, few_margins rows passed)) told longer
 
-    pub longer_answer : r ≡ Longer → Call-as-Refused 7 0 ≡ margins_answer rows (length o / 3)
+    pub longer_answer : {e : Refusal} → r ≡ Longer → Err e ≡ margins_answer rows (length o / 3)
     longer_answer longer = absurd (all_held longer)
 
     pub longer_left : r ≡ Longer → o' ≡ margins_after rows o

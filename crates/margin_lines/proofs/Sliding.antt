@@ -1,4 +1,5 @@
 -- Two accepted sheets, the second being the first with one number of milliseconds added to every instant, have the same margins. Assumes nothing.
+use Rattle.std.specs.Prelude.{Ok}
 use Prim.Native.Nat.{ℕ, ◌*◌, ◌/◌}
 use mathlib.Core.Path.{◌≡◌, refl, sym, ◌∙◌, ap, ap₂}
 use mathlib.Core.Bool.{Bool, true, false}
@@ -19,7 +20,6 @@ use Rattle.shift.specs.inner.InClass.{InClass}
 use Rattle.shift.proofs.Bare.{Bare, no_booking, no_completion}
 use Rattle.shift.proofs.Moved.{far, bare, bare'}
 use Rattle.shift.proofs.Shift.{same_by_clock}
-use Rattle.refusals.specs.declared.Answer.TheVariants.{Accepted}
 use Rattle.refusals.specs.Lending.{answered}
 use Rattle.refusals.proofs.AnswerLaws.{accepted_lines}
 use Rattle.acceptance.specs.Refusals.{sheet_refusal}
@@ -70,13 +70,13 @@ unfolding flat_margins
 margins_length l = omega (arith, flat_length 3 three (omega arith) (λ m. refl) l)
 
 -- what stands in the buffer after a call that accepts
-first_lines : (rows before : List ℤ) (n : ℕ) → margins_answer rows (length before / 3) ≡ Accepted n
+first_lines : (rows before : List ℤ) (n : ℕ) → margins_answer rows (length before / 3) ≡ Ok n
     → (n ≡ length (margins rows)) × (take (3 * n) (margins_after rows before) ≡ flat_margins (margins rows))
 unfolding margins_answer margins_after
 first_lines rows before n e = accepted_lines 3 (margins_refusal rows (length before / 3)) (flat_margins (margins rows)) before (margins_length (margins rows)) e
 
-same_calls : (a b : List ℤ) → margins a ≡ margins b → (before before' : List ℤ) (n m : ℕ) → margins_answer a (length before / 3) ≡ Accepted n
-    → margins_answer b (length before' / 3) ≡ Accepted m → (n ≡ m) × (take (3 * n) (margins_after a before) ≡ take (3 * m) (margins_after b before'))
+same_calls : (a b : List ℤ) → margins a ≡ margins b → (before before' : List ℤ) (n m : ℕ) → margins_answer a (length before / 3) ≡ Ok n
+    → margins_answer b (length before' / 3) ≡ Ok m → (n ≡ m) × (take (3 * n) (margins_after a before) ≡ take (3 * m) (margins_after b before'))
 same_calls a b same before before' n m p q =
     let x = first_lines a before n p in
     let y = first_lines b before' m q in

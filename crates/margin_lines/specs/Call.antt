@@ -1,8 +1,8 @@
 -- The call `margins`: what it answers for any rows and any lent buffer, and what it leaves in the buffer. Assumes nothing.
+use Rattle.std.specs.Prelude.{Result}
 use Rattle.std.specs.Prelude.{ℕ, ◌/◌, ◌≤◌, ◌≡◌, List, ℤ, length}
 use Rattle.std.specs.Prelude.{Option}
-use Rattle.refusals.specs.declared.Answer.{Answer}
-use Rattle.refusals.specs.Refusals.{Refusal}
+use Rattle.refusals.specs.declared.Refusal.{Refusal}
 use Rattle.refusals.specs.Lending.{answered, lent_after}
 use Rattle.acceptance.specs.Refusals.{sheet_refusal, call_refusal}
 use Rattle.margin_lines.specs.Margins.{margins, flat_margins}
@@ -12,7 +12,7 @@ unfoldable pub margins_refusal : List ℤ → ℕ → Option Refusal
 margins_refusal rows room = call_refusal rows (length (margins rows)) room
 
 -- the answer, where the buffer has room for so many lines: a refusal, or the count of the lines
-unfoldable pub margins_answer : List ℤ → ℕ → Answer
+unfoldable pub margins_answer : List ℤ → ℕ → Result ℕ Refusal
 margins_answer rows room = answered (margins_refusal rows room) (length (margins rows))
 
 -- the buffer after the call: the lines, and what lay after them; a refusal changes no number. It has room for its whole threes

@@ -19,7 +19,7 @@ ghost use Rattle.margin_lines.specs.Call.{margins_answer, margins_after};
 ghost use Rattle.margin_lines.specs.inner.Sink.{sink, emit_margins};
 
 use line_buffer::Handed;
-use refusals::{Answer, Verdict};
+use refusals::{Answer, Reason};
 use spans::Instant;
 
 // What a margin is of.
@@ -163,9 +163,9 @@ fn write_margins(
     let count = put_resources(rows, kinds, links, owned, &mut lines, n);
     let handed = line_buffer::hand_over(out, 3, count, &lines);
     match handed {
-        Handed::Over => Answer::Accepted(count),
-        Handed::Full => Answer::Refused(refusals::FULL, 0),
-        Handed::Longer => Answer::Refused(refusals::FULL, 0), // never: a line is of a row, and 800 lines are held
+        Handed::Over => Ok(count),
+        Handed::Full => Err(Reason::Full.at(0)),
+        Handed::Longer => Err(Reason::Full.at(0)), // never: a line is of a row, and 800 lines are held
     }
 }
 
@@ -177,9 +177,6 @@ pub fn margins(rows: &[i64], out: &mut [i64]) -> Answer
     let mut kinds = [0u16; 3680];
     let mut links = [0u16; 1600];
     let mut owned = [0u16; 8810];
-    let verdict = acceptance::accept(rows, &mut kinds, &mut links, &mut owned);
-    match verdict {
-        Verdict::Fine => write_margins(rows, &kinds, &links, &owned, out),
-        Verdict::Refused(number, place) => Answer::Refused(number, place),
-    }
+    acceptance::accept(rows, &mut kinds, &mut links, &mut owned)?;
+    write_margins(rows, &kinds, &links, &owned, out)
 }

@@ -1,4 +1,5 @@
 -- What stands in the buffer after the margins of a sheet were printed. Assumes nothing.
+use Rattle.std.specs.Prelude.{Result, Ok, Err}
 use Prim.Native.Nat.{ℕ, ◌/◌, ◌^◌, ◌<◌, ◌≤◌}
 use mathlib.Core.Path.{◌≡◌, refl, sym, ap₂, ◌∙◌}
 use mathlib.Core.List.{List, ◌++◌}
@@ -7,9 +8,7 @@ use native.Mathlib.Omega.{arith}
 use lib.IntN.{ℤ}
 use lib.ListN.{length, take, drop}
 use Rattle.loops.specs.inner.Wrote.{Wrote}
-use Rattle.refusals.specs.declared.Answer.{Answer}
-use Rattle.refusals.specs.declared.Answer.TheVariants.{Accepted, Refused}
-use Rattle.refusals.specs.Refusals.{Refusal}
+use Rattle.refusals.specs.declared.Refusal.{Refusal}
 use Rattle.refusals.specs.Lending.{answered, lent_after}
 use Rattle.refusals.proofs.AnswerLaws.{no_accept, same_count}
 use Rattle.acceptance.proofs.Ending.{had_room}
@@ -22,7 +21,7 @@ use Rattle.margins.specs.Program.{printed_margins}
 use Rattle.margins.specs.inner.Bytes.{lines_bytes}
 use Rattle.margins.proofs.Lines.{lines_length, lines_are}
 
-module _ (rows before : List ℤ) (room : 2400 ≡ length before) {a : Answer} (told : a ≡ margins_answer rows (length before / 3)) where
+module _ (rows before : List ℤ) (room : 2400 ≡ length before) {a : Result ℕ Refusal} (told : a ≡ margins_answer rows (length before / 3)) where
   eight_hundred : length before / 3 ≡ 800
   eight_hundred = omega arith
 
@@ -35,7 +34,7 @@ module _ (rows before : List ℤ) (room : 2400 ≡ length before) {a : Answer} (
     few : n ≤ 800
     first : numbers ≡ flat_margins (margins rows) ++ drop (length (flat_margins (margins rows))) before
 
-  found_by : (o : Option Refusal) {n : ℕ} → margins_refusal rows 800 ≡ o → answered o (length (margins rows)) ≡ Accepted n
+  found_by : (o : Option Refusal) {n : ℕ} → margins_refusal rows 800 ≡ o → answered o (length (margins rows)) ≡ Ok n
       → Found (lent_after o (flat_margins (margins rows)) before) n
   unfolding margins_refusal
   found_by None {n = n} e q =
@@ -43,15 +42,15 @@ module _ (rows before : List ℤ) (room : 2400 ≡ length before) {a : Answer} (
       record { all = all; few = omega (arith, had_room rows (length (margins rows)) 800 e); first = refl }
   found_by (Some x) e q = absurd (no_accept q)
 
-  found_is : {n : ℕ} → a ≡ Accepted n → Found (lent_after (margins_refusal rows 800) (flat_margins (margins rows)) before) n
+  found_is : {n : ℕ} → a ≡ Ok n → Found (lent_after (margins_refusal rows 800) (flat_margins (margins rows)) before) n
   unfolding margins_answer
   found_is q = found_by (margins_refusal rows 800) refl (sym answer_is ∙ q)
 
-  pub few_lines : {n : ℕ} → a ≡ Accepted n → n ≤ 800
+  pub few_lines : {n : ℕ} → a ≡ Ok n → n ≤ 800
   few_lines q = (found_is q).few
 
   -- the call's buffer, lent, is handed on as the numbers
-  module _ {o o' : List ℕ} {r n : ℕ} (lent numbers : List ℤ) (w : Wrote o 0 o' r (lines_bytes numbers n)) (long : length o ≡ 40800) (q : a ≡ Accepted n)
+  module _ {o o' : List ℕ} {r n : ℕ} (lent numbers : List ℤ) (w : Wrote o 0 o' r (lines_bytes numbers n)) (long : length o ≡ 40800) (q : a ≡ Ok n)
       (same : numbers ≡ lent) (e : lent ≡ margins_after rows before) (small : Small numbers) where
     left : numbers ≡ lent_after (margins_refusal rows 800) (flat_margins (margins rows)) before
     unfolding margins_after
@@ -66,11 +65,11 @@ module _ (rows before : List ℤ) (room : 2400 ≡ length before) {a : Answer} (
     pub lines_printed : take r o' ≡ printed_margins rows
     unfolding printed_margins
     lines_printed =
-        let z : margins_answer rows 800 ≡ Accepted n = sym answer_is ∙ q in
+        let z : margins_answer rows 800 ≡ Ok n = sym answer_is ∙ q in
         stood.1 ∙ ap₂ lines_bytes (left ∙ (found_is q).first) (found_is q).all ∙ lines_are (margins rows) _ ∙ rw z
 
-  pub refusal_printed : {o o' : List ℕ} {r number place : ℕ} → Wrote o 0 o' r (printed_refused number place) → length o ≡ 40800 → a ≡ Refused number place
+  pub refusal_printed : {o o' : List ℕ} {r number place : ℕ} → Wrote o 0 o' r (printed_refused number place) → length o ≡ 40800 → a ≡ Err e
       → number < 2 ^ 64 → place < 2 ^ 64 → take r o' ≡ printed_margins rows
   unfolding printed_margins
   refusal_printed {number = number} {place = place} w long q h l =
-      let z : margins_answer rows 800 ≡ Refused number place = sym answer_is ∙ q in rw z (refused_first w long (omega arith) h l)
+      let z : margins_answer rows 800 ≡ Err e = sym answer_is ∙ q in rw z (refused_first w long (omega arith) h l)

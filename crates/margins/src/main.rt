@@ -8,7 +8,6 @@ ghost use Rattle.margins.specs.Program.{word_of, printed_margins};
 ghost use Rattle.margins.specs.inner.Bytes.{line_bytes, lines_bytes};
 
 use program_io::Input;
-use refusals::Answer;
 
 // 800 lines.
 fn no_lines() -> [i64; 2400]
@@ -77,8 +76,8 @@ fn print_margins(rows: &[i64], out: &mut [u8]) -> usize
     let answer = margin_lines::margins(rows, &mut lines);
     let lines = kept(lines);
     match answer {
-        Answer::Accepted(n) => put_margins(out, &lines, n),
-        Answer::Refused(number, place) => printing::put_refused(out, number, place as u64),
+        Ok(n) => put_margins(out, &lines, n),
+        Err(e) => printing::put_refused(out, e),
     }
 }
 
@@ -91,11 +90,11 @@ fn print_text(text: &[u8], out: &mut [u8]) -> usize
     let mut rows = text_program::no_rows();
     let read = text::read_text(text, &mut rows);
     match read {
-        Answer::Accepted(n) => {
+        Ok(n) => {
             let end = 10 * n;
             print_margins(&rows[..end], out)
         }
-        Answer::Refused(number, place) => printing::put_refused(out, number, place as u64),
+        Err(e) => printing::put_refused(out, e),
     }
 }
 

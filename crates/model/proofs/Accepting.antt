@@ -23,7 +23,9 @@ use Rattle.rows.specs.Ranges.{range, between, is_none, in_range, in_class}
 use Rattle.rows.proofs.Signs.{cell_past, cell_wide}
 use Rattle.rows.proofs.Tables.{class_wide}
 use Rattle.sheet.specs.Places.{named, place_of}
-use Rattle.refusals.specs.Refusals.{Refusal, refuse}
+use Rattle.refusals.specs.Refusals.{refuse}
+use Rattle.refusals.specs.declared.Reason.TheVariants.{Misshapen, UnknownKind, OutOfRange}
+use Rattle.refusals.specs.declared.Refusal.{Refusal}
 use Rattle.sheet.specs.Refusals.{misshapen, known_kind, bad_cell, half_part, out_of_range, absent_at, lacks, unowned, repeats, repeated, column_fault, owner_fault, repeat_fault, refusal_of}
 use Rattle.sheet.specs.inner.Groups.{once}
 use Rattle.sheet.specs.inner.Accepted.{Accepted}
@@ -39,7 +41,7 @@ record Passed (rows : List ℤ) : Type 0 where
 passed : (rows : List ℤ) → refusal_of rows ≡ None → Passed rows
 unfolding refusal_of
 passed rows h =
-    let a : Option Refusal = refuse (misshapen (length rows)) 1 0 in
+    let a : Option Refusal = refuse (misshapen (length rows)) Misshapen 0 in
     let b : Option Refusal = first (column_fault rows) (row_count rows) in
     let d : Option Refusal = first (owner_fault rows) (row_count rows) in
     let e : Option Refusal = first (repeat_fault rows) (row_count rows) in
@@ -75,11 +77,11 @@ module _ (rows : List ℤ) (p : Passed rows) where
 
   known : (k : ℕ) → k < row_count rows → known_kind rows k ≡ true
   unfolding column_fault
-  known k h = not-false _ (if_none (not (known_kind rows k)) _ (or_none_left (refuse (not (known_kind rows k)) 2 k) (refuse (out_of_range rows k) 3 k) (p.columns k h)))
+  known k h = not-false _ (if_none (not (known_kind rows k)) _ (or_none_left (refuse (not (known_kind rows k)) UnknownKind k) (refuse (out_of_range rows k) OutOfRange k) (p.columns k h)))
 
   in_order_lem : (k : ℕ) → k < row_count rows → out_of_range rows k ≡ false
   unfolding column_fault
-  in_order_lem k h = if_none (out_of_range rows k) _ (or_none_right (refuse (not (known_kind rows k)) 2 k) (refuse (out_of_range rows k) 3 k) (p.columns k h))
+  in_order_lem k h = if_none (out_of_range rows k) _ (or_none_right (refuse (not (known_kind rows k)) UnknownKind k) (refuse (out_of_range rows k) OutOfRange k) (p.columns k h))
 
   cells_in : (k c : ℕ) → k < row_count rows → c < 10 → in_class (class_of (num rows k 0) c) (cell rows k c) ≡ true
   unfolding out_of_range bad_cell

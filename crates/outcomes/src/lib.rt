@@ -7,6 +7,7 @@ ghost use Rattle.work_end_inquiry.specs.Inquiry.{outcome_of};
 ghost use Rattle.outcomes.specs.Outcome.{of_answer, of_refusal, of_inquiry};
 
 use refusals::{Answer, Verdict};
+use work_end_inquiry::{Ends, InquiryAnswer};
 
 // A refusal by number and place, or, with number 0, acceptance and a count in the place.
 #[repr(C)]
@@ -29,8 +30,8 @@ pub fn of_answer(answer: Answer) -> Outcome
     ensures { result ≡ of_answer answer }
 {
     match answer {
-        Answer::Accepted(n) => numbered(0, n as u64),
-        Answer::Refused(number, place) => numbered(number, place as u64),
+        Ok(n) => numbered(0, n as u64),
+        Err(e) => numbered(e.reason.number(), e.place as u64),
     }
 }
 
@@ -38,8 +39,8 @@ pub fn of_verdict(v: Verdict) -> Outcome
     ensures { result ≡ of_refusal (verdict_of v) }
 {
     match v {
-        Verdict::Fine => numbered(0, 0),
-        Verdict::Refused(number, place) => numbered(number, place as u64),
+        Ok(()) => numbered(0, 0),
+        Err(e) => numbered(e.reason.number(), e.place as u64),
     }
 }
 
@@ -64,16 +65,16 @@ fn accepted(outcome: u64, instant: u64) -> WorkEndOutcome
     }
 }
 
-pub fn of_inquiry(a: work_end_inquiry::InquiryAnswer) -> WorkEndOutcome
+pub fn of_inquiry(a: InquiryAnswer) -> WorkEndOutcome
     ensures { result ≡ of_inquiry (outcome_of a) }
 {
     match a {
-        work_end_inquiry::InquiryAnswer::End(e) => accepted(0, e),
-        work_end_inquiry::InquiryAnswer::Pause => accepted(1, 0),
-        work_end_inquiry::InquiryAnswer::Never => accepted(2, 0),
-        work_end_inquiry::InquiryAnswer::Refused(k, p) => WorkEndOutcome {
-            number: k,
-            place: p as u64,
+        Ok(Ends::End(e)) => accepted(0, e),
+        Ok(Ends::Pause) => accepted(1, 0),
+        Ok(Ends::Never) => accepted(2, 0),
+        Err(e) => WorkEndOutcome {
+            number: e.reason.number(),
+            place: e.place as u64,
             outcome: 0,
             instant: 0,
         },

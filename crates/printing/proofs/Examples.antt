@@ -1,4 +1,8 @@
 -- Worked examples of the definitions. Assumes nothing.
+use Rattle.std.specs.Prelude.{Err}
+use Rattle.refusals.specs.Refusals.{at}
+use Rattle.refusals.specs.declared.Reason.TheVariants.{Crowded}
+use Rattle.std.specs.Prelude.{Ok}
 use Prim.Native.Nat.{ℕ}
 use mathlib.Core.List.{List, [], ◌∷◌, ◌++◌}
 use mathlib.Core.Path.{◌≡◌, refl, ap}
@@ -6,25 +10,24 @@ use native.Mathlib.Omega.{arith}
 use lib.IntN.{pos, negsuc}
 use Rattle.loops.specs.Numbers.{minus}
 use Rattle.loops.specs.Range.{collect}
-use Rattle.refusals.specs.declared.Answer.TheVariants.{Accepted, Refused}
 use Rattle.printing.specs.Decimal.{decimal_in, decimal, spelling}
 use Rattle.printing.specs.NumberLines.{field, number_line, line_at, number_lines}
 use Rattle.printing.specs.Printed.{printed_refused, printed_accepted, printed}
 use Rattle.printing.proofs.DecimalLaws.{decimal_in_lem}
 
 -- the rules' example: "accepted,1" and "8,1,1,80"
-one_finding : printed (Accepted 1) (pos 8 ∷ pos 1 ∷ pos 1 ∷ pos 80 ∷ pos 7 ∷ [])
+one_finding : printed (Ok 1) (pos 8 ∷ pos 1 ∷ pos 1 ∷ pos 80 ∷ pos 7 ∷ [])
     ≡ (97 ∷ 99 ∷ 99 ∷ 101 ∷ 112 ∷ 116 ∷ 101 ∷ 100 ∷ 44 ∷ 49 ∷ 10 ∷ []) ++ (56 ∷ 44 ∷ 49 ∷ 44 ∷ 49 ∷ 44 ∷ 56 ∷ 48 ∷ 10 ∷ [])
 unfolding decimal_in decimal spelling collect field number_line line_at number_lines printed_accepted
 one_finding = refl
 
 -- with deadline 110: "accepted,0"
-no_finding : printed (Accepted 0) [] ≡ 97 ∷ 99 ∷ 99 ∷ 101 ∷ 112 ∷ 116 ∷ 101 ∷ 100 ∷ 44 ∷ 48 ∷ 10 ∷ []
+no_finding : printed (Ok 0) [] ≡ 97 ∷ 99 ∷ 99 ∷ 101 ∷ 112 ∷ 116 ∷ 101 ∷ 100 ∷ 44 ∷ 48 ∷ 10 ∷ []
 unfolding decimal_in decimal collect number_lines printed_accepted
 no_finding = refl
 
 -- "refused,10,800"
-crowded : printed (Refused 10 800) [] ≡ 114 ∷ 101 ∷ 102 ∷ 117 ∷ 115 ∷ 101 ∷ 100 ∷ 44 ∷ 49 ∷ 48 ∷ 44 ∷ 56 ∷ 48 ∷ 48 ∷ 10 ∷ []
+crowded : printed (Err (at Crowded 800)) [] ≡ 114 ∷ 101 ∷ 102 ∷ 117 ∷ 115 ∷ 101 ∷ 100 ∷ 44 ∷ 49 ∷ 48 ∷ 44 ∷ 56 ∷ 48 ∷ 48 ∷ 10 ∷ []
 unfolding decimal_in decimal printed_refused
 crowded = refl
 

@@ -2,6 +2,7 @@
 // after what it wrote, or the buffer's end.
 #![tactic(auto)]
 
+ghost use Rattle.refusals.specs.Refusals.{number_of};
 ghost use Rattle.std.specs.Prelude.{◌≡◌, [], ◌∷◌, ◌+◌, ◌<◌, ◌≤◌, min, nat_abs, length, take};
 ghost use Rattle.std.proofs.lemmas.List.Edits.{sets};
 ghost use Rattle.loops.specs.inner.Wrote.{Wrote};
@@ -9,7 +10,7 @@ ghost use Rattle.printing.specs.Decimal.{decimal, spelling};
 ghost use Rattle.printing.specs.NumberLines.{field, number_line, number_lines};
 ghost use Rattle.printing.specs.Printed.{printed_refused, printed_accepted, printed};
 
-use refusals::Answer;
+use refusals::{Answer, Refusal};
 
 fn put(out: &mut [u8], at: usize, x: u8) -> usize
     requires { at ≤ length out.old }
@@ -131,13 +132,13 @@ fn put_lines(out: &mut [u8], from: usize, numbers: &[i64], w: usize, n: usize) -
 }
 
 // A refusal, from the start of the buffer on.
-pub fn put_refused(out: &mut [u8], number: u64, place: u64) -> usize
-    ensures { Wrote out.old 0 out.new result (printed_refused number place) }
+pub fn put_refused(out: &mut [u8], e: Refusal) -> usize
+    ensures { Wrote out.old 0 out.new result (printed_refused (number_of e.reason) e.place) }
 {
     let mut at = put_bytes(out, 0, b"refused,");
-    at = put_decimal(out, at, number);
+    at = put_decimal(out, at, e.reason.number());
     at = put(out, at, b',');
-    at = put_decimal(out, at, place);
+    at = put_decimal(out, at, e.place as u64);
     put(out, at, b'\n')
 }
 
@@ -157,7 +158,7 @@ pub fn print_answer(answer: Answer, found: &[i64], out: &mut [u8]) -> usize
     ensures out_after { out.new ≡ sets out.old 0 (printed answer found.now) }
 {
     match answer {
-        Answer::Accepted(n) => put_accepted(out, found, n),
-        Answer::Refused(k, p) => put_refused(out, k, p as u64),
+        Ok(n) => put_accepted(out, found, n),
+        Err(e) => put_refused(out, e),
     }
 }

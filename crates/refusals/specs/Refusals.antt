@@ -1,64 +1,39 @@
--- How a call refuses: with a number and a place, that of a row or a line, counted from 0. The numbers bear the trade's words; docs/RULES.md says when each
--- is given, and the pages that define the calls in what order. Each request adds its own numbers here. Assumes nothing.
-use Rattle.std.specs.Prelude.{ℕ, Bool}
-use Rattle.std.specs.Prelude.{Option, None, Some}
+-- How a call refuses: for a reason, at the place of a row or a line, counted from 0. The reasons bear the trade's words, and each has its number for those
+-- who call; docs/RULES.md says when each is given, and the pages that define the calls in what order. Each request adds its own reasons. Assumes nothing.
+use Rattle.std.specs.Prelude.{ℕ, Bool, Option, None, Some, Result, Ok, Err}
 use Rattle.loops.specs.Search.{some_if}
-use Rattle.refusals.specs.declared.Verdict.{Verdict}
-use Rattle.refusals.specs.declared.Verdict.TheVariants.{Fine, Refused}
+use Rattle.refusals.specs.declared.Reason.{Reason}
+use Rattle.refusals.specs.declared.Reason.TheVariants.{Misshapen, UnknownKind, OutOfRange, Stray, Twice, Stretched, Full, Overlong, Misspelt, Crowded, Malformed, Undated, Overfull}
+use Rattle.refusals.specs.declared.Refusal.{Refusal}
 
+abbrev pub number_of : Reason → ℕ
 -- of the rows
-abbrev pub MISSHAPEN : ℕ
-MISSHAPEN = 1
-
-abbrev pub UNKNOWN_KIND : ℕ
-UNKNOWN_KIND = 2
-
-abbrev pub OUT_OF_RANGE : ℕ
-OUT_OF_RANGE = 3
-
-abbrev pub STRAY : ℕ
-STRAY = 4
-
-abbrev pub TWICE : ℕ
-TWICE = 5
-
+number_of Misshapen = 1
+number_of UnknownKind = 2
+number_of OutOfRange = 3
+number_of Stray = 4
+number_of Twice = 5
 -- of a booking's derived time
-abbrev pub STRETCHED : ℕ
-STRETCHED = 6
-
+number_of Stretched = 6
 -- of the findings
-abbrev pub FULL : ℕ
-FULL = 7
-
+number_of Full = 7
 -- of a text
-abbrev pub OVERLONG : ℕ
-OVERLONG = 8
-
-abbrev pub MISSPELT : ℕ
-MISSPELT = 9
-
-abbrev pub CROWDED : ℕ
-CROWDED = 10
-
+number_of Overlong = 8
+number_of Misspelt = 9
+number_of Crowded = 10
 -- of an office calendar
-abbrev pub MALFORMED : ℕ
-MALFORMED = 11
+number_of Malformed = 11
+number_of Undated = 12
+number_of Overfull = 13
 
-abbrev pub UNDATED : ℕ
-UNDATED = 12
-
-abbrev pub OVERFULL : ℕ
-OVERFULL = 13
-
-pub record Refusal : Type 0 where
-  pub number : ℕ
-  pub place : ℕ
+abbrev pub at : Reason → ℕ → Refusal
+at reason place = record { reason = reason; place = place }
 
 -- that refusal where the test holds, else none
-abbrev pub refuse : Bool → ℕ → ℕ → Option Refusal
-refuse test number place = some_if test (record { number = number; place = place })
+abbrev pub refuse : Bool → Reason → ℕ → Option Refusal
+refuse test reason place = some_if test (at reason place)
 
 -- what a verdict says
-abbrev pub verdict_of : Verdict → Option Refusal
-verdict_of Fine = None
-verdict_of (Refused number place) = Some (record { number = number; place = place })
+abbrev pub verdict_of : Result Unit Refusal → Option Refusal
+verdict_of (Ok _) = None
+verdict_of (Err e) = Some e

@@ -1,47 +1,73 @@
-// How calls answer: accepted, or refused with a number and a place. The numbers by the trade's words; each request adds its own.
+// How calls answer: accepted, or refused with a number and a place.
 #![tactic(auto)]
 
-// Rows of a sheet.
-pub const MISSHAPEN: u64 = 1;
+ghost use Rattle.std.specs.Prelude.{◌≡◌};
+ghost use Rattle.refusals.specs.Refusals.{number_of, at};
 
-pub const UNKNOWN_KIND: u64 = 2;
-
-pub const OUT_OF_RANGE: u64 = 3;
-
-pub const STRAY: u64 = 4;
-
-pub const TWICE: u64 = 5;
-
-// A booking's derived time.
-pub const STRETCHED: u64 = 6;
-
-// The findings.
-pub const FULL: u64 = 7;
-
-// A text.
-pub const OVERLONG: u64 = 8;
-
-pub const MISSPELT: u64 = 9;
-
-pub const CROWDED: u64 = 10;
-
-// An office calendar.
-pub const MALFORMED: u64 = 11;
-
-pub const UNDATED: u64 = 12;
-
-pub const OVERFULL: u64 = 13;
-
-// Whether something is refused, and with which number at which place.
-#[derive(Clone, Copy)]
-pub enum Verdict {
-    Fine,
-    Refused(u64, usize),
+// Why something is refused; each request adds its own.
+#[derive(Clone, Copy, PartialEq, Eq)]
+pub enum Reason {
+    // Rows of a sheet.
+    Misshapen,
+    UnknownKind,
+    OutOfRange,
+    Stray,
+    Twice,
+    // A booking's derived time.
+    Stretched,
+    // The findings.
+    Full,
+    // A text.
+    Overlong,
+    Misspelt,
+    Crowded,
+    // An office calendar.
+    Malformed,
+    Undated,
+    Overfull,
 }
 
-// What a call answers: accepted with a count (of findings, of rows), or refused with a number and a place.
-#[derive(Clone, Copy)]
-pub enum Answer {
-    Accepted(usize),
-    Refused(u64, usize),
+// Why, and at the place of which row or line, counted from 0.
+#[derive(Clone, Copy, PartialEq, Eq)]
+pub struct Refusal {
+    pub reason: Reason,
+    pub place: usize,
+}
+
+// Whether something is refused.
+pub type Verdict = Result<(), Refusal>;
+
+// What a call answers: accepted with a count (of findings, of rows), or refused.
+pub type Answer = Result<usize, Refusal>;
+
+impl Reason {
+    // The number by which those who call know it.
+    pub fn number(self) -> u64
+        ensures { result ≡ number_of self }
+    {
+        match self {
+            Reason::Misshapen => 1,
+            Reason::UnknownKind => 2,
+            Reason::OutOfRange => 3,
+            Reason::Stray => 4,
+            Reason::Twice => 5,
+            Reason::Stretched => 6,
+            Reason::Full => 7,
+            Reason::Overlong => 8,
+            Reason::Misspelt => 9,
+            Reason::Crowded => 10,
+            Reason::Malformed => 11,
+            Reason::Undated => 12,
+            Reason::Overfull => 13,
+        }
+    }
+
+    pub fn at(self, place: usize) -> Refusal
+        ensures { result ≡ at self place }
+    {
+        Refusal {
+            reason: self,
+            place,
+        }
+    }
 }

@@ -132,8 +132,8 @@ fn derived_all(
 
 fn is_verdict(v: Verdict, number: u64, place: u64) -> bool {
     match v {
-        Verdict::Fine => number == 0,
-        Verdict::Refused(n, k) => number == n && place == k as u64,
+        Ok(()) => number == 0,
+        Err(e) => number == e.reason.number() && place == e.place as u64,
     }
 }
 
@@ -142,7 +142,7 @@ fn times_pass(rows: &[i64], expected: &[i64], m: usize, number: u64, place: u64)
     let mut kinds = [0u16; 3680];
     let mut links = [0u16; 1600];
     let mut owned = [0u16; 8810];
-    let Verdict::Fine = validation::index(rows, &mut kinds, &mut links, &mut owned) else {
+    let Ok(()) = validation::index(rows, &mut kinds, &mut links, &mut owned) else {
         return false;
     };
     let mut found = stored_run::sevens();

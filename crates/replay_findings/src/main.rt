@@ -3,7 +3,6 @@
 
 ghost use Rattle.std.specs.Prelude.{◌≤◌, length};
 
-use refusals::Answer;
 use std::io;
 use std::rt::Files;
 use stored_numbers::Gathered;
@@ -92,8 +91,10 @@ fn call_passes(
     }
     let answer = feasibility::check_schedule(rows, &mut found[..room]);
     match answer {
-        Answer::Accepted(n) => number == 0 && place == n as u64 && all_pass(found, expected, m, n),
-        Answer::Refused(k, p) => number == k && place == p as u64 && unchanged(found, 0),
+        Ok(n) => number == 0 && place == n as u64 && all_pass(found, expected, m, n),
+        Err(e) => {
+            number == e.reason.number() && place == e.place as u64 && unchanged(found, 0)
+        }
     }
 }
 

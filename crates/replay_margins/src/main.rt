@@ -11,8 +11,8 @@ use stored_run::Run;
 // Whether m numbers are the lines that the call counted, three to a line; none where it refused.
 fn are_lines(answer: Answer, m: usize) -> bool {
     match answer {
-        Answer::Accepted(n) => n < 2800 && m == 3 * n,
-        Answer::Refused(_, _) => m == 0,
+        Ok(n) => n < 2800 && m == 3 * n,
+        Err(_) => m == 0,
     }
 }
 

@@ -4,7 +4,6 @@
 
 ghost use Rattle.std.specs.Prelude.{◌≤◌, length};
 
-use refusals::Verdict;
 use std::io;
 use stored_numbers::Gathered;
 use stored_run::Run;
@@ -47,8 +46,8 @@ fn text_case(given: &[i64; 16], bytes: &[u8], n: usize, rows: &[i64], numbers: u
 fn rows_pass(rows: &[i64], number: u64, place: u64) -> bool {
     let found = validation::validate(rows);
     match found {
-        Verdict::Fine => number == 0 && place == 0,
-        Verdict::Refused(k, p) => number == k && place == p as u64,
+        Ok(()) => number == 0 && place == 0,
+        Err(e) => number == e.reason.number() && place == e.place as u64,
     }
 }
 

@@ -4,7 +4,9 @@ use Rattle.std.specs.Bool.{beq}
 use Rattle.std.specs.Prelude.{Option, None, Some}
 use Rattle.loops.specs.Lists.{all_of, among}
 use Rattle.loops.specs.Search.{or_else, first, any_below}
-use Rattle.refusals.specs.Refusals.{MISSHAPEN, UNKNOWN_KIND, OUT_OF_RANGE, STRAY, TWICE, Refusal, refuse}
+use Rattle.refusals.specs.Refusals.{refuse}
+use Rattle.refusals.specs.declared.Reason.TheVariants.{Misshapen, UnknownKind, OutOfRange, Stray, Twice}
+use Rattle.refusals.specs.declared.Refusal.{Refusal}
 use Rattle.rows.specs.Cells.{row_count, cell, num, is}
 use Rattle.rows.specs.Class.{Class, blank_c, kind_c, id_c, n_c, u_c, t_c, m_c, g_c, f_c, share_c, speed_c, n?_c, t?_c, m?_c, task_c, activity_c, resource_c, requirement_c, constraint_c}
 use Rattle.rows.specs.Table.{class_of}
@@ -96,16 +98,16 @@ repeated rows k = any_below (repeats rows k) k
 -- ---- the order: 1; row by row 2 before 3; 4 over all rows; 5 over all rows
 
 unfoldable pub column_fault : List ℤ → ℕ → Option Refusal
-column_fault rows k = or_else (refuse (not (known_kind rows k)) UNKNOWN_KIND k) (refuse (out_of_range rows k) OUT_OF_RANGE k)
+column_fault rows k = or_else (refuse (not (known_kind rows k)) UnknownKind k) (refuse (out_of_range rows k) OutOfRange k)
 
 unfoldable pub owner_fault : List ℤ → ℕ → Option Refusal
-owner_fault rows k = refuse (unowned rows k) STRAY k
+owner_fault rows k = refuse (unowned rows k) Stray k
 
 unfoldable pub repeat_fault : List ℤ → ℕ → Option Refusal
-repeat_fault rows k = refuse (repeated rows k) TWICE k
+repeat_fault rows k = refuse (repeated rows k) Twice k
 
 unfoldable pub refusal_of : List ℤ → Option Refusal
 refusal_of rows =
-    or_else (refuse (misshapen (length rows)) MISSHAPEN 0)
+    or_else (refuse (misshapen (length rows)) Misshapen 0)
     (or_else (first (column_fault rows) (row_count rows))
     (or_else (first (owner_fault rows) (row_count rows)) (first (repeat_fault rows) (row_count rows))))

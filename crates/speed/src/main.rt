@@ -12,7 +12,7 @@ ghost use Rattle.model.specs.inner.Indexed.{Indexed};
 ghost use Rattle.pieces.specs.inner.Held.{Held};
 ghost use Rattle.derived_times.specs.inner.Needs.{Needs};
 
-use refusals::{Answer, Verdict};
+use refusals::Verdict;
 use std::io;
 use std::io::Read;
 use text_fields::Number;
@@ -69,8 +69,8 @@ fn check_calendars(
 
 fn one_if_fine(v: Verdict) -> usize {
     match v {
-        Verdict::Fine => 1,
-        Verdict::Refused(_, _) => 0,
+        Ok(()) => 1,
+        Err(_) => 0,
     }
 }
 
@@ -178,7 +178,7 @@ fn found_of(rows: &[i64], part: u64, count: u64) -> usize {
     let mut kinds = [0u16; 3680];
     let mut links = [0u16; 1600];
     let mut owned = [0u16; 8810];
-    let Verdict::Fine = validation::index(rows, &mut kinds, &mut links, &mut owned) else {
+    let Ok(()) = validation::index(rows, &mut kinds, &mut links, &mut owned) else {
         return 0;
     };
     timed(rows, &kinds, &links, &owned, part, count)
@@ -197,7 +197,7 @@ fn timed(
     let held = pieces::held_of(rows, kinds, links, owned);
     let need = derived_times::needs_of(rows, links, owned, &held);
     let verdict = derived_times::refused(rows, &need);
-    let Verdict::Fine = verdict else {
+    let Ok(()) = verdict else {
         return 0;
     };
     let mut out = no_findings();
@@ -210,13 +210,13 @@ fn timed(
 fn found_in(text: &[u8], part: u64, count: u64) -> usize {
     let mut rows = no_rows();
     match text::read_text(text, &mut rows) {
-        Answer::Accepted(n) => {
+        Ok(n) => {
             if n <= 800 {
                 return found_of(&rows[..10 * n], part, count);
             }
             0
         }
-        Answer::Refused(_, _) => 0,
+        Err(_) => 0,
     }
 }
 

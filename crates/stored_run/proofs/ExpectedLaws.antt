@@ -1,4 +1,7 @@
 -- Laws of the loop that compares the lent numbers with those expected. Assumes nothing.
+use Rattle.std.specs.Prelude.{Result, Ok}
+use Rattle.refusals.specs.Refusals.{number_of}
+use Rattle.refusals.specs.declared.Refusal.{Refusal}
 use Prim.Native.Nat.{ℕ, ◌+◌, ◌<◌, ◌≤◌}
 use mathlib.Core.Bool.{Bool, true, false, not, ◌&&◌}
 use mathlib.Core.List.{List}
@@ -13,8 +16,6 @@ use mir.Val.{SFits, to_z, of_z}
 use borrow.Author.Tests.{lt-ltb, le-ltb}
 use Rattle.loops.specs.Search.{any_below}
 use Rattle.loops.proofs.SearchLaws.{any_zero, any_miss, any_hit, any_done}
-use Rattle.refusals.specs.declared.Answer.{Answer}
-use Rattle.refusals.specs.declared.Answer.TheVariants.{Accepted, Refused}
 use Rattle.stored_run.specs.inner.Expected.{expected_at, differs_at, as_expected, passes}
 
 module _ (gathered : List ℤ) (n i : ℕ) where
@@ -55,11 +56,11 @@ module _ (lent gathered : List ℤ) (n : ℕ) where
 
 -- ---- the call
 
-module _ (lent gathered : List ℤ) (n number place : ℕ) {a : Answer} {r s t : Bool} where
-  pub accepted_passes : {k : ℕ} → a ≡ Accepted k → r ≡ (s && t) → s ≡ (eqb number 0 && eqb place k) → t ≡ as_expected lent gathered n
+module _ (lent gathered : List ℤ) (n number place : ℕ) {a : Result ℕ Refusal} {r s t : Bool} where
+  pub accepted_passes : {k : ℕ} → a ≡ Ok k → r ≡ (s && t) → s ≡ (eqb number 0 && eqb place k) → t ≡ as_expected lent gathered n
       → r ≡ passes a lent gathered n number place
   accepted_passes e b p q = rw e (b ∙ ap₂ ◌&&◌ p q)
 
-  pub refused_passes : {k p : ℕ} → a ≡ Refused k p → r ≡ (s && t) → s ≡ (eqb number k && eqb place p) → t ≡ as_expected lent gathered 0
+  pub refused_passes : {e : Refusal} {m : ℕ} → m ≡ number_of e.reason → a ≡ Err e → r ≡ (s && t) → s ≡ (eqb number m && eqb place e.place) → t ≡ as_expected lent gathered 0
       → r ≡ passes a lent gathered n number place
-  refused_passes e b p q = rw e (b ∙ ap₂ ◌&&◌ p q)
+  refused_passes {e = x} m e b p q = rw e (b ∙ ap₂ ◌&&◌ (p ∙ ap (λ k. eqb number k && eqb place x.place) m) q)

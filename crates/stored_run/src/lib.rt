@@ -186,15 +186,15 @@ pub fn came_out(
     ensures { result ≡ passes answer lent.now gathered.now n number place }
 {
     match answer {
-        Answer::Accepted(k) => {
+        Ok(k) => {
             both(
                 same(number, place, 0, k as u64),
                 as_expected(lent, gathered, n),
             )
         }
-        Answer::Refused(k, p) => {
+        Err(e) => {
             both(
-                same(number, place, k, p as u64),
+                same(number, place, e.reason.number(), e.place as u64),
                 as_expected(lent, gathered, 0),
             )
         }

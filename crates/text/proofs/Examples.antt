@@ -1,4 +1,8 @@
 -- Worked examples of the definitions. Assumes nothing.
+use Rattle.std.specs.Prelude.{Err}
+use Rattle.refusals.specs.Refusals.{at}
+use Rattle.refusals.specs.declared.Reason.TheVariants.{Crowded, Misspelt, UnknownKind}
+use Rattle.std.specs.Prelude.{Ok}
 use Prim.Native.Nat.{ℕ}
 use mathlib.Core.List.{List, [], ◌∷◌, ◌++◌}
 use mathlib.Core.Path.{◌≡◌, refl}
@@ -10,7 +14,6 @@ use Rattle.text_fields.specs.Parts.{parts}
 use Rattle.text_fields.specs.Spelling.{digits_from, digits_of, number_of}
 use Rattle.text_line.specs.Line.{spelled, line_of, row_of}
 use Rattle.text.specs.Text.{answer_from, rows_of, answer_of, rows_after}
-use Rattle.refusals.specs.declared.Answer.TheVariants.{Accepted, Refused}
 
 -- the text of five lines in the rules, and its rows
 unfoldable sample : List ℕ
@@ -29,7 +32,7 @@ sample_rows =
     pos 11 ∷ pos 5 ∷ pos 7 ∷ pos 1 ∷ pos 0 ∷ pos 0 ∷ pos 0 ∷ pos 0 ∷ pos 0 ∷ pos 0 ∷
     pos 23 ∷ pos 10 ∷ pos 1 ∷ pos 5 ∷ pos 50 ∷ pos 110 ∷ pos 0 ∷ negsuc 9223372036854775807 ∷ negsuc 9223372036854775807 ∷ pos 0 ∷ []
 
-five_rows : answer_of sample 800 ≡ Accepted 5
+five_rows : answer_of sample 800 ≡ Ok 5
 unfolding sample width parts all_of digits_from digits_of number_of spelled line_of answer_from answer_of
 five_rows = refl
 
@@ -42,19 +45,19 @@ lent_after_lem : (lent : List ℤ) → rows_after (answer_of sample 800) sample 
 lent_after_lem lent = rw (five_rows, their_numbers)
 
 -- with four rows lent, the fifth line is too many
-four_lent : answer_of sample 4 ≡ Refused 10 4
+four_lent : answer_of sample 4 ≡ Err (at Crowded 4)
 unfolding sample width parts all_of digits_from digits_of number_of spelled line_of answer_from answer_of
 four_lent = refl
 
-empty_text : answer_of [] 0 ≡ Accepted 0
+empty_text : answer_of [] 0 ≡ Ok 0
 unfolding parts answer_from answer_of
 empty_text = refl
 
 -- `25` without a line feed is misspelt before its kind is looked at, and with one it is of an unknown kind
-not_ended : answer_of (50 ∷ 53 ∷ []) 800 ≡ Refused 9 0
+not_ended : answer_of (50 ∷ 53 ∷ []) 800 ≡ Err (at Misspelt 0)
 unfolding width parts all_of digits_from digits_of number_of spelled line_of answer_from answer_of
 not_ended = refl
 
-unknown_kind : answer_of (50 ∷ 53 ∷ 10 ∷ []) 800 ≡ Refused 2 0
+unknown_kind : answer_of (50 ∷ 53 ∷ 10 ∷ []) 800 ≡ Err (at UnknownKind 0)
 unfolding width parts all_of digits_from digits_of number_of spelled line_of answer_from answer_of
 unknown_kind = refl

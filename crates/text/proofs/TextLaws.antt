@@ -1,4 +1,9 @@
 -- Laws of reading a text's lines one after the other. Assumes nothing.
+use Rattle.std.specs.Prelude.{Result, Ok, Err}
+use Rattle.refusals.specs.Refusals.{at}
+use Rattle.refusals.specs.declared.Reason.{Reason}
+use Rattle.refusals.specs.declared.Reason.TheVariants.{UnknownKind, Crowded, Misspelt, Overlong}
+use Rattle.refusals.specs.declared.Refusal.{Refusal}
 use Prim.Native.Nat.{ℕ, suc, ◌+◌, ◌*◌, ◌-◌, ◌/◌, ◌≤◌, ◌<◌}
 use mathlib.Core.Bool.{Bool, true, false, cond, ◌&&◌, not}
 use mathlib.Core.List.{List, [], ◌∷◌, ◌++◌, append-nil}
@@ -17,10 +22,6 @@ use Rattle.text_fields.specs.Parts.{until_byte, parts}
 use Rattle.text_line.specs.Line.{by_kind, fields_of, spelled, value_of, line_of, row_of}
 use Rattle.text.specs.inner.Stored.{rows_read, on_row}
 use Rattle.text.specs.Text.{answer_from, rows_of, rows_after, after_line, answer_of}
-use Rattle.text_line.specs.declared.Line.{Line}
-use Rattle.text_line.specs.declared.Line.TheVariants.{Row, Wrong}
-use Rattle.refusals.specs.declared.Answer.{Answer}
-use Rattle.refusals.specs.declared.Answer.TheVariants.{Accepted, Refused}
 use Rattle.refusals.proofs.AnswerLaws.{no_accept, same_count}
 use Rattle.rows.proofs.Tables.{width_most}
 use Rattle.text_line.proofs.LineLaws.{no_row}
@@ -30,23 +31,23 @@ use Rattle.text_fields.proofs.PartLaws.{parts_only, parts_more, parts_first}
 
 -- ---- a row has ten numbers
 
-some_columns : (k n : ℕ) → by_kind k n ≡ Row → n ≤ 10
+some_columns : (k n : ℕ) → by_kind k n ≡ (Ok tt) → n ≤ 10
 some_columns k n e = go (ltb 0 k && ltb k 25) (eqb n (suc (width k))) refl e
   where
-    go : (a t : Bool) → eqb n (suc (width k)) ≡ t → cond a (cond t Row (Wrong 9)) (Wrong 2) ≡ Row → n ≤ 10
+    go : (a t : Bool) → eqb n (suc (width k)) ≡ t → ◌≡◌ {A = Result Unit Reason} (cond a (cond t (Ok tt) (Err Misspelt)) (Err UnknownKind)) (Ok tt) → n ≤ 10
     go true true q e = omega (arith, width_most k, eqb-true n (suc (width k)) q)
     go true false q e = absurd (no_row e)
     go false t q e = absurd (no_row e)
 
-few_fields : (l : List ℕ) → line_of l ≡ Row → length (fields_of l) ≤ 10
+few_fields : (l : List ℕ) → line_of l ≡ (Ok tt) → length (fields_of l) ≤ 10
 unfolding line_of
 few_fields l e = go (spelled (fields_of l) && not (is_empty (get_or (fields_of l) 0 []))) e
   where
-    go : (t : Bool) → cond t (by_kind (to_nat (value_of (get_or (fields_of l) 0 []))) (length (fields_of l))) (Wrong 9) ≡ Row → length (fields_of l) ≤ 10
+    go : (t : Bool) → cond t (by_kind (to_nat (value_of (get_or (fields_of l) 0 []))) (length (fields_of l))) (Err Misspelt) ≡ (Ok tt) → length (fields_of l) ≤ 10
     go true q = some_columns (to_nat (value_of (get_or (fields_of l) 0 []))) (length (fields_of l)) q
     go false q = absurd (no_row q)
 
-pub row_long : (l : List ℕ) → line_of l ≡ Row → length (row_of l) ≡ 10
+pub row_long : (l : List ℕ) → line_of l ≡ (Ok tt) → length (row_of l) ≡ 10
 unfolding row_of
 row_long l e = simp (length-append, length-map, length-replicate) (omega (arith, few_fields l e))
 
@@ -68,7 +69,7 @@ nil_of (x ∷ xs) h = absurd (omega arith)
 
 module _ (text : List ℕ) (lent : ℕ) (rows₀ rows : List ℤ) (rest : List ℕ) (place : ℕ) (w : LinesRead text lent rows₀ rows rest place) where
   -- nothing is left
-  pub end_answer : length rest ≤ 0 → Accepted place ≡ answer_from lent 0 (parts 10 text)
+  pub end_answer : length rest ≤ 0 → Ok place ≡ answer_from lent 0 (parts 10 text)
   unfolding answer_from parts
   end_answer h = rw (nil_of rest h) at w.answer
 
@@ -78,9 +79,9 @@ module _ (text : List ℕ) (lent : ℕ) (rows₀ rows : List ℤ) (rest : List �
 
   module _ (l : List ℕ) (e : l ≡ until_byte 10 rest) where
     -- no line feed
-    pub open_answer : 0 < length rest → length rest ≤ length l → Refused 9 place ≡ answer_from lent 0 (parts 10 text)
+    pub open_answer : {e : Refusal} → e ≡ at Misspelt place → 0 < length rest → length rest ≤ length l → Err e ≡ answer_from lent 0 (parts 10 text)
     unfolding answer_from
-    open_answer h k = rw (parts_only 10 rest l e k, not_empty l (omega arith)) at w.answer
+    open_answer a h k = rw a (rw (parts_only 10 rest l e k, not_empty l (omega arith)) at w.answer)
 
     pub open_rows : length rest ≤ length l → rows ≡ sets rows₀ 0 (rows_read lent 0 (parts 10 text))
     unfolding rows_read
@@ -94,25 +95,25 @@ module _ (text : List ℕ) (lent : ℕ) (rows₀ rows : List ℤ) (rest : List �
           let p = parts_first 10 (drop (length l + 1) rest) in
           (p.0, o ∙ ap (λ (ps : List (List ℕ)). l ∷ ps) p.1, p.1)
 
-      module _ {x : Line} (j : x ≡ line_of l) where
-        pub wrong_answer : (k : ℕ) → x ≡ Wrong k → Refused k place ≡ answer_from lent 0 (parts 10 text)
+      module _ {x : Result Unit Reason} (j : x ≡ line_of l) where
+        pub wrong_answer : (k : Reason) {e : Refusal} → e ≡ at k place → x ≡ Err k → Err e ≡ answer_from lent 0 (parts 10 text)
         unfolding answer_from
-        wrong_answer k q = rw (opened.1, sym j ∙ q) at w.answer
+        wrong_answer k a q = rw a (rw (opened.1, sym j ∙ q) at w.answer)
 
-        pub full_answer : x ≡ Row → lent ≤ place → Refused 10 place ≡ answer_from lent 0 (parts 10 text)
+        pub full_answer : {e : Refusal} → e ≡ at Crowded place → x ≡ Ok tt → lent ≤ place → Err e ≡ answer_from lent 0 (parts 10 text)
         unfolding answer_from
-        full_answer q k = rw (opened.1, sym j ∙ q, le-ltb place lent k) at w.answer
+        full_answer a q k = rw a (rw (opened.1, sym j ∙ q, le-ltb place lent k) at w.answer)
 
         module _ {rows' : List ℤ} (s : rows' ≡ sets rows (place * 10) (row_of l)) where
-          pub wrong_rows : (k : ℕ) → x ≡ Wrong k → rows' ≡ sets rows₀ 0 (rows_read lent 0 (parts 10 text))
+          pub wrong_rows : (k : Reason) → x ≡ Err k → rows' ≡ sets rows₀ 0 (rows_read lent 0 (parts 10 text))
           unfolding rows_read
           wrong_rows k q = s ∙ (rw (opened.1, sym j ∙ q, append-nil (row_of l)) at w.stores)
 
-          pub full_rows : x ≡ Row → lent ≤ place → rows' ≡ sets rows₀ 0 (rows_read lent 0 (parts 10 text))
+          pub full_rows : x ≡ (Ok tt) → lent ≤ place → rows' ≡ sets rows₀ 0 (rows_read lent 0 (parts 10 text))
           unfolding rows_read
           full_rows q k = s ∙ (rw (opened.1, sym j ∙ q, le-ltb place lent k, append-nil (row_of l)) at w.stores)
 
-          pub lines_more : x ≡ Row → place < lent → LinesRead text lent rows₀ rows' (take (length rest - (length l + 1)) (drop (length l + 1) rest)) (place + 1)
+          pub lines_more : x ≡ (Ok tt) → place < lent → LinesRead text lent rows₀ rows' (take (length rest - (length l + 1)) (drop (length l + 1) rest)) (place + 1)
           unfolding answer_from rows_read
           lines_more q k =
               let r = row_of l in
@@ -131,28 +132,28 @@ module _ (text : List ℕ) (lent : ℕ) (rows₀ rows : List ℤ) (rest : List �
 -- ---- an accepted text
 
 -- all of its rows are read, and they are as many as the answer says
-pub accepted_rows : (lent p : ℕ) (ps : List (List ℕ)) (n : ℕ) → p ≤ lent → answer_from lent p ps ≡ Accepted n
+pub accepted_rows : (lent p : ℕ) (ps : List (List ℕ)) (n : ℕ) → p ≤ lent → answer_from lent p ps ≡ Ok n
     → (p * 10 + length (rows_of ps) ≡ n * 10) × (n ≤ lent) × (rows_read lent p ps ≡ rows_of ps)
 unfolding answer_from rows_of rows_read
 accepted_rows lent p [] n h e = let q = same_count e in (omega arith, omega arith, refl)
 accepted_rows lent p (l ∷ []) n h e = go (is_empty l) e
   where
-    go : (t : Bool) → cond t (Accepted p) (Refused 9 p) ≡ Accepted n → (p * 10 + 0 ≡ n * 10) × (n ≤ lent) × (◌≡◌ {A = List ℤ} [] [])
+    go : (t : Bool) → cond t (Ok p) (Err (at Misspelt p)) ≡ Ok n → (p * 10 + 0 ≡ n * 10) × (n ≤ lent) × (◌≡◌ {A = List ℤ} [] [])
     go true e = let q = same_count e in (omega arith, omega arith, refl)
     go false e = absurd (no_accept e)
 accepted_rows lent p (l ∷ m ∷ ls) n h e = go (line_of l) refl (ltb p lent) refl e (accepted_rows lent (suc p) (m ∷ ls) n)
   where
-    go : (x : Line) → line_of l ≡ x → (t : Bool) → ltb p lent ≡ t → after_line x p (cond t (answer_from lent (suc p) (m ∷ ls)) (Refused 10 p)) ≡ Accepted n
-        → (suc p ≤ lent → answer_from lent (suc p) (m ∷ ls) ≡ Accepted n → (suc p * 10 + length (rows_of (m ∷ ls)) ≡ n * 10) × (n ≤ lent) × (rows_read lent (suc p) (m ∷ ls) ≡ rows_of (m ∷ ls)))
+    go : (x : Result Unit Reason) → line_of l ≡ x → (t : Bool) → ltb p lent ≡ t → after_line x p (cond t (answer_from lent (suc p) (m ∷ ls)) (Err (at Crowded p))) ≡ Ok n
+        → (suc p ≤ lent → answer_from lent (suc p) (m ∷ ls) ≡ Ok n → (suc p * 10 + length (rows_of (m ∷ ls)) ≡ n * 10) × (n ≤ lent) × (rows_read lent (suc p) (m ∷ ls) ≡ rows_of (m ∷ ls)))
         → (p * 10 + length (row_of l ++ rows_of (m ∷ ls)) ≡ n * 10) × (n ≤ lent)
         × (row_of l ++ on_row x (cond t (rows_read lent (suc p) (m ∷ ls)) []) ≡ row_of l ++ rows_of (m ∷ ls))
-    go Row q true t e k =
+    go (Ok tt) q true t e k =
         let w = k (ltb-true p lent t) e in
         (simp length-append (omega (arith, row_long l q, w.0)), w.1, ap (λ (zs : List ℤ). row_of l ++ zs) w.2)
-    go Row q false t e k = absurd (no_accept e)
-    go (Wrong i) q t u e k = absurd (no_accept e)
+    go (Ok tt) q false t e k = absurd (no_accept e)
+    go (Err i) q t u e k = absurd (no_accept e)
 
-accepted_stored : (rows : List ℤ) (ps : List (List ℕ)) (n : ℕ) → answer_from (length rows / 10) 0 ps ≡ Accepted n
+accepted_stored : (rows : List ℤ) (ps : List (List ℕ)) (n : ℕ) → answer_from (length rows / 10) 0 ps ≡ Ok n
     → sets rows 0 (rows_read (length rows / 10) 0 ps) ≡ rows_of ps ++ drop (10 * n) rows
 accepted_stored rows ps n e =
     let w = accepted_rows (length rows / 10) 0 ps n (omega arith) e in
@@ -161,25 +162,25 @@ accepted_stored rows ps n e =
 
 -- ---- the two readings
 
-pub long_text : (text : List ℕ) (lent : ℕ) → 65536 < length text → Refused 8 0 ≡ answer_of text lent
+pub long_text : (text : List ℕ) (lent : ℕ) {e : Refusal} → e ≡ at Overlong 0 → 65536 < length text → Err e ≡ answer_of text lent
 unfolding answer_of
-long_text text lent h = rw (lt-ltb 65536 (length text))
+long_text text lent a h = rw (a, lt-ltb 65536 (length text))
 
 pub long_rows : (text : List ℕ) (lent : ℕ) (rows : List ℤ) → 65536 < length text → rows ≡ rows_after (answer_of text lent) text rows
-long_rows text lent rows h = ap (λ (a : Answer). rows_after a text rows) (long_text text lent h)
+long_rows text lent rows h = ap (λ (a : Result ℕ Refusal). rows_after a text rows) (long_text text lent refl h)
 
-module _ (text : List ℕ) (rows : List ℤ) (h : length text ≤ 65536) {a : Answer} (e : a ≡ answer_from (length rows / 10) 0 (parts 10 text)) where
+module _ (text : List ℕ) (rows : List ℤ) (h : length text ≤ 65536) {a : Result ℕ Refusal} (e : a ≡ answer_from (length rows / 10) 0 (parts 10 text)) where
   pub short_answer : a ≡ answer_of text (length rows / 10)
   unfolding answer_of
   short_answer = rw (le-ltb 65536 (length text)) e
 
   -- the first reading is lent none of the rows, and so leaves them as they were
   module _ (none : List ℤ) (n : length none ≡ 0) where
-    pub refused_rows : (k p : ℕ) → a ≡ Refused k p → none ++ rows ≡ rows_after (answer_of text (length rows / 10)) text rows
-    refused_rows k p r = none_ahead none rows n ∙ ap (λ (a : Answer). rows_after a text rows) (sym r ∙ short_answer)
+    pub refused_rows : (e : Refusal) → a ≡ Err e → none ++ rows ≡ rows_after (answer_of text (length rows / 10)) text rows
+    refused_rows k r = none_ahead none rows n ∙ ap (λ (a : Result ℕ Refusal). rows_after a text rows) (sym r ∙ short_answer)
 
-    pub read_rows : (m : ℕ) → a ≡ Accepted m → {rows' : List ℤ} → rows' ≡ sets (none ++ rows) 0 (rows_read (length rows / 10) 0 (parts 10 text))
+    pub read_rows : (m : ℕ) → a ≡ Ok m → {rows' : List ℤ} → rows' ≡ sets (none ++ rows) 0 (rows_read (length rows / 10) 0 (parts 10 text))
         → rows' ≡ rows_after (answer_of text (length rows / 10)) text rows
     read_rows m r s =
         s ∙ ap (λ (l : List ℤ). sets l 0 (rows_read (length rows / 10) 0 (parts 10 text))) (none_ahead none rows n)
-        ∙ accepted_stored rows (parts 10 text) m (sym e ∙ r) ∙ ap (λ (a : Answer). rows_after a text rows) (sym r ∙ short_answer)
+        ∙ accepted_stored rows (parts 10 text) m (sym e ∙ r) ∙ ap (λ (a : Result ℕ Refusal). rows_after a text rows) (sym r ∙ short_answer)

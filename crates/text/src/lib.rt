@@ -8,8 +8,7 @@ ghost use Rattle.text_fields.specs.Parts.{parts};
 ghost use Rattle.text.specs.Text.{answer_from, answer_of, rows_after};
 ghost use Rattle.text.specs.inner.Stored.{rows_read};
 
-use refusals::Answer;
-use text_line::Line;
+use refusals::{Answer, Reason};
 
 // Reads a text's lines, where `lent` rows are lent. The rows' numbers go to `rows`, as far as they lie within it.
 fn read_lines(text: &[u8], rows: &mut [i64], lent: usize, classes: &[[u8; 9]; 25]) -> Answer
@@ -23,18 +22,18 @@ fn read_lines(text: &[u8], rows: &mut [i64], lent: usize, classes: &[[u8; 9]; 25
         let line = text_fields::first_part(rest, b'\n');
         let n = line.len();
         if rest.len() <= n {
-            return Answer::Refused(refusals::MISSPELT, place);
+            return Err(Reason::Misspelt.at(place));
         }
-        if let Line::Wrong(k) = text_line::read_line(line, rows, place * 10, classes) {
-            return Answer::Refused(k, place);
+        if let Err(reason) = text_line::read_line(line, rows, place * 10, classes) {
+            return Err(reason.at(place));
         }
         if lent <= place {
-            return Answer::Refused(refusals::CROWDED, place);
+            return Err(Reason::Crowded.at(place));
         }
         place += 1;
         rest = &rest[n + 1..];
     }
-    Answer::Accepted(place)
+    Ok(place)
 }
 
 // Reads a text to the lent rows. A text that is refused changes no number of them: it is read first with none of them lent.
@@ -43,13 +42,10 @@ pub fn read_text(text: &[u8], rows: &mut [i64]) -> Answer
     ensures rows_after { rows.new ≡ rows_after (answer_of text.now (length rows.old / 10)) text.now rows.old }
 {
     if 65536 < text.len() {
-        return Answer::Refused(refusals::OVERLONG, 0);
+        return Err(Reason::Overlong.at(0));
     }
     let lent = rows.len() / 10;
     let classes = rows::class_table();
-    let found = read_lines(text, &mut rows[..0], lent, &classes);
-    if let Answer::Accepted(_) = found {
-        read_lines(text, rows, lent, &classes);
-    }
-    found
+    read_lines(text, &mut rows[..0], lent, &classes)?;
+    read_lines(text, rows, lent, &classes)
 }

@@ -1,5 +1,7 @@
 -- Laws of a field that was read, of a line's kind and of its row. Assumes nothing.
-use Rattle.text_line.specs.declared.Line.{Line}
+use Rattle.std.specs.Prelude.{Result, Ok, Err}
+use Rattle.refusals.specs.declared.Reason.{Reason}
+use Rattle.refusals.specs.declared.Reason.TheVariants.{Misspelt, UnknownKind}
 use Rattle.text_fields.specs.declared.Number.TheVariants.{Value, Misspelt}
 use Prim.Native.Nat.{ℕ, suc, ◌+◌, ◌-◌, ◌≤◌, ◌<◌, ◌^◌}
 use mathlib.Core.Bool.{Bool, true, false, cond, not, and-false, false≢true, ◌&&◌, and-true}
@@ -23,14 +25,13 @@ use Rattle.text_fields.specs.Parts.{until_byte}
 use Rattle.text_fields.specs.Spelling.{number_of}
 use Rattle.text_fields.specs.declared.Number.{Number}
 use Rattle.text_fields.proofs.PartLaws.{parts_first, parts_count}
-use Rattle.text_line.specs.declared.Line.TheVariants.{Row, Wrong}
 
 -- a line that is misspelt, or whose kind is empty
-pub fields_bad : (good : Bool) (kind : List ℕ) (n : ℕ) → not good ≡ true → Wrong 9 ≡ by_fields good kind n
+pub fields_bad : (good : Bool) (kind : List ℕ) (n : ℕ) → not good ≡ true → Err Misspelt ≡ by_fields good kind n
 fields_bad true kind n e = absurd (false≢true e)
 fields_bad false kind n e = refl
 
-pub fields_empty : (good : Bool) (kind : List ℕ) (n : ℕ) → length kind ≡ 0 → Wrong 9 ≡ by_fields good kind n
+pub fields_empty : (good : Bool) (kind : List ℕ) (n : ℕ) → length kind ≡ 0 → Err Misspelt ≡ by_fields good kind n
 fields_empty true [] n e = refl
 fields_empty false [] n e = refl
 fields_empty good (x ∷ kind) n e = absurd (omega arith)
@@ -46,22 +47,22 @@ module _ (good : Bool) (kind : List ℕ) (n : ℕ) {k : ℕ} {v : ℤ} {m : Numb
   by_kind_lem : by_kind k n ≡ by_fields good kind n
   by_kind_lem = ap (λ (k : ℕ). by_kind k n) ((rw (to_z-of_z f) at e) ∙ ap to_nat (q ∙ ap held r)) ∙ fields_kind good kind n g h
 
-  pub kind_low : k < 1 → Wrong 2 ≡ by_fields good kind n
+  pub kind_low : k < 1 → Err UnknownKind ≡ by_fields good kind n
   kind_low l = sym (rw (le-ltb 0 k (omega arith))) ∙ by_kind_lem
 
-  pub kind_high : 24 < k → Wrong 2 ≡ by_fields good kind n
+  pub kind_high : 24 < k → Err UnknownKind ≡ by_fields good kind n
   kind_high l = sym (rw (le-ltb k 25 (omega arith), and-false (ltb 0 k))) ∙ by_kind_lem
 
 -- and so does w, whether the line has its columns; the rarest premise stands first, so that a search ends where it is not found
 module _ (good : Bool) (kind : List ℕ) (n : ℕ) {w : Bool} {k : ℕ} (u : w ≡ eqb n (suc (width k))) {v : ℤ} (e : k ≡ to_nat (to_z w64 (of_z w64 v)))
     {m : Number} (q : v ≡ held m) (r : m ≡ number_of kind) (f : SFits w64 v) (g : not good ≡ false) (h : length kind ≡ 0 → ⊥) (a : 1 ≤ k) (b : k ≤ 24) where
-  counted : cond w Row (Wrong 9) ≡ by_fields good kind n
+  counted : cond w (Ok tt) (Err Misspelt) ≡ by_fields good kind n
   counted = rw u (sym (rw (lt-ltb 0 k (omega arith), lt-ltb k 25 (omega arith))) ∙ by_kind_lem good kind n g h f e q r)
 
-  pub kind_row : w ≡ true → Row ≡ by_fields good kind n
+  pub kind_row : w ≡ true → (Ok tt) ≡ by_fields good kind n
   kind_row t = rw t at counted
 
-  pub kind_count : w ≡ false → Wrong 9 ≡ by_fields good kind n
+  pub kind_count : w ≡ false → Err Misspelt ≡ by_fields good kind n
   kind_count t = rw t at counted
 
 -- a field by what was read of it: what it holds, and whether it is spelled right as those before it are
@@ -86,7 +87,7 @@ module _ {all : List ℤ} (rows : List ℤ) (i to : ℕ) (now : sets rows i (rep
   zero_end h = let e : to - i ≡ 0 = omega arith in rw e at now
 
 -- a line by its first field
-pub line_judged : {v : Line} (l f : List ℕ) (good : Bool) (n : ℕ) → good ≡ spelled (fields_of l) → f ≡ until_byte 44 l → n ≡ length (fields_of l) → v ≡ by_fields good f n
+pub line_judged : {v : Result Unit Reason} (l f : List ℕ) (good : Bool) (n : ℕ) → good ≡ spelled (fields_of l) → f ≡ until_byte 44 l → n ≡ length (fields_of l) → v ≡ by_fields good f n
     → v ≡ line_of l
 unfolding line_of
 line_judged l f good n s e q j =
@@ -94,7 +95,7 @@ line_judged l f good n s e q j =
     let k : f ≡ get_or (fields_of l) 0 [] = rw p.1 e in
     rw (← s, ← k, ← q) j
 
-pub no_row : {ℓ : ℕ} → Wrong ℓ ≡ Row → ⊥
+pub no_row : {e : Reason} → ◌≡◌ {A = Result Unit Reason} (Err e) (Ok tt) → ⊥
 no_row e = let z : ◌≡◌ {A = ℕ} 0 1 = cc in omega arith
 
 -- the fields' numbers and then zeros are the row, and lie where machine numbers reach

@@ -3,26 +3,26 @@
 use Rattle.std.specs.Prelude.{ℕ, suc, ◌-◌, Bool, true, false, cond, ◌&&◌, not, List, [], ◌++◌, map, eqb, ltb, length, get_or, replicate, ℤ, pos}
 use Rattle.loops.specs.Lists.{all_of, is_empty}
 use Rattle.loops.specs.Numbers.{to_nat}
-use Rattle.refusals.specs.Refusals.{UNKNOWN_KIND, MISSPELT}
+use Rattle.refusals.specs.declared.Reason.{Reason}
+use Rattle.refusals.specs.declared.Reason.TheVariants.{UnknownKind, Misspelt}
 use Rattle.rows.specs.Table.{width}
 use Rattle.text_fields.specs.Parts.{parts}
 use Rattle.text_fields.specs.Spelling.{number_of}
 use Rattle.text_fields.specs.declared.Number.{Number}
-use Rattle.text_fields.specs.declared.Number.TheVariants.{Value, Misspelt}
-use Rattle.text_line.specs.declared.Line.{Line}
-use Rattle.text_line.specs.declared.Line.TheVariants.{Row, Wrong}
+use Rattle.text_fields.specs.declared.Number.TheVariants as number
+use Rattle.std.specs.Prelude.{Result, Ok, Err}
 
 abbrev pub fields_of : List ℕ → List (List ℕ)
 fields_of l = parts 44 l
 
 -- whether a field is a number or none, and what it holds
 abbrev pub is_number : Number → Bool
-is_number (Value z) = true
-is_number Misspelt = false
+is_number (number.Value z) = true
+is_number number.Misspelt = false
 
 abbrev pub held : Number → ℤ
-held (Value z) = z
-held Misspelt = pos 0
+held (number.Value z) = z
+held number.Misspelt = pos 0
 
 abbrev pub value_of : List ℕ → ℤ
 value_of f = held (number_of f)
@@ -32,14 +32,14 @@ unfoldable pub spelled : List (List ℕ) → Bool
 spelled fs = all_of (λ f. is_number (number_of f)) fs
 
 -- kind k with n fields in all, its own among them. The kinds are 1 to 24
-abbrev pub by_kind : ℕ → ℕ → Line
-by_kind k n = cond (ltb 0 k && ltb k 25) (cond (eqb n (suc (width k))) Row (Wrong MISSPELT)) (Wrong UNKNOWN_KIND)
+abbrev pub by_kind : ℕ → ℕ → Result Unit Reason
+by_kind k n = cond (ltb 0 k && ltb k 25) (cond (eqb n (suc (width k))) (Ok tt) (Err Misspelt)) (Err UnknownKind)
 
 -- a line of n fields, the first of them the kind's; a negative kind is no kind, as 0 is none
-abbrev pub by_fields : Bool → List ℕ → ℕ → Line
-by_fields good kind n = cond (good && not (is_empty kind)) (by_kind (to_nat (value_of kind)) n) (Wrong MISSPELT)
+abbrev pub by_fields : Bool → List ℕ → ℕ → Result Unit Reason
+by_fields good kind n = cond (good && not (is_empty kind)) (by_kind (to_nat (value_of kind)) n) (Err Misspelt)
 
-unfoldable pub line_of : List ℕ → Line
+unfoldable pub line_of : List ℕ → Result Unit Reason
 line_of l = by_fields (spelled (fields_of l)) (get_or (fields_of l) 0 []) (length (fields_of l))
 
 -- the ten numbers of a row: the kind, its columns, and zeros

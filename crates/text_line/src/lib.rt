@@ -6,6 +6,7 @@ ghost use Rattle.std.proofs.lemmas.List.Edits.{sets};
 ghost use Rattle.rows.specs.inner.Codes.{class_table};
 ghost use Rattle.text_line.specs.Line.{is_number, held, fields_of, spelled, value_of, by_fields, line_of, row_of};
 
+use refusals::Reason;
 use text_fields::Number;
 
 // The fields of a line: whether all are spelled right, and how many there are.
@@ -13,13 +14,6 @@ use text_fields::Number;
 struct Fields {
     pub good: bool,
     pub count: usize,
-}
-
-// A line: a row, or the number of its refusal.
-#[derive(Clone, Copy)]
-pub enum Line {
-    Row,
-    Wrong(u64),
 }
 
 // Stores a number where it lies within the rows.
@@ -75,27 +69,27 @@ fn read_fields(line: &[u8], rows: &mut [i64], base: usize) -> Fields
 }
 
 // What becomes of a line of n fields, good where all are spelled right, the first of them the kind's.
-fn judge_line(kind: &[u8], good: bool, n: usize, classes: &[[u8; 9]; 25]) -> Line
+fn judge_line(kind: &[u8], good: bool, n: usize, classes: &[[u8; 9]; 25]) -> Result<(), Reason>
     requires { classes.now ≡ class_table }
     ensures { result ≡ by_fields good kind.now n }
 {
     if !good {
-        return Line::Wrong(refusals::MISSPELT);
+        return Err(Reason::Misspelt);
     }
     if kind.len() == 0 {
-        return Line::Wrong(refusals::MISSPELT);
+        return Err(Reason::Misspelt);
     }
     let k = rows::nat(held_by(text_fields::read_number(kind)));
     if k < 1 {
-        return Line::Wrong(refusals::UNKNOWN_KIND);
+        return Err(Reason::UnknownKind);
     }
     if 24 < k {
-        return Line::Wrong(refusals::UNKNOWN_KIND);
+        return Err(Reason::UnknownKind);
     }
     if rows::has_width(classes, k, n) {
-        Line::Row
+        Ok(())
     } else {
-        Line::Wrong(refusals::MISSPELT)
+        Err(Reason::Misspelt)
     }
 }
 
@@ -111,7 +105,7 @@ fn fill_zeros(rows: &mut [i64], from: usize, to: usize)
 }
 
 // Reads a line to the ten numbers of the rows from `base` on, as far as they lie within the rows.
-pub fn read_line(line: &[u8], rows: &mut [i64], base: usize, classes: &[[u8; 9]; 25]) -> Line
+pub fn read_line(line: &[u8], rows: &mut [i64], base: usize, classes: &[[u8; 9]; 25]) -> Result<(), Reason>
     requires { (base + length line.now < 2 ^ 32) × (classes.now ≡ class_table) }
     ensures value { result ≡ line_of line.now }
     ensures rows_after { rows.new ≡ sets rows.old base (row_of line.now) }

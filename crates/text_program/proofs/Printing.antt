@@ -1,4 +1,8 @@
 -- What stands in a program's buffer of bytes after it has printed a text; the parts of the buffers that it lends. Assumes nothing.
+use Rattle.std.specs.Prelude.{Result, Ok, Err}
+use Rattle.refusals.specs.Refusals.{at}
+use Rattle.refusals.specs.declared.Reason.TheVariants.{Overlong}
+use Rattle.refusals.specs.declared.Refusal.{Refusal}
 use Prim.Native.Nat.{ℕ, zero, suc, ◌+◌, ◌*◌, ◌/◌, ◌^◌, ◌<◌, ◌≤◌}
 use mathlib.Core.Path.{◌≡◌, sym, ap, ◌∙◌}
 use mathlib.Core.Bool.{Bool, true, false, cond}
@@ -18,8 +22,6 @@ use Rattle.loops.specs.inner.Wrote.{Wrote}
 use Rattle.text_fields.specs.Parts.{parts}
 use Rattle.text.specs.Text.{answer_from, answer_of, rows_of, rows_after}
 use Rattle.text.proofs.TextLaws.{accepted_rows}
-use Rattle.refusals.specs.declared.Answer.{Answer}
-use Rattle.refusals.specs.declared.Answer.TheVariants.{Accepted, Refused}
 use Rattle.refusals.proofs.AnswerLaws.{no_accept}
 use Rattle.printing.specs.Printed.{printed_refused}
 use Rattle.printing.proofs.FitLaws.{Small, refused_fits}
@@ -42,9 +44,9 @@ pub small_numbers : (xs : List ℤ) (us : List Val) → shadow (each ℤ (SInt w
 small_numbers xs us p i = each_small xs us i p
 
 -- what an answer of the code holds
-abbrev pub Bounded : Answer → Type 0
-Bounded (Accepted n) = Unit {0}
-Bounded (Refused number place) = (number < 2 ^ 64) × (place < 2 ^ 64)
+abbrev pub Bounded : Result ℕ Refusal → Type 0
+Bounded (Ok n) = Unit {0}
+Bounded (Err e) = (number < 2 ^ 64) × (place < 2 ^ 64)
 
 -- ---- the buffer
 
@@ -79,21 +81,21 @@ printed_first n o h l = sym (length-take-le n o (omega arith))
 
 -- ---- a text
 
-module _ (text : List ℕ) (lent : List ℤ) (room : 8000 ≡ length lent) {a : Answer} (told : a ≡ answer_of text (length lent / 10)) where
+module _ (text : List ℕ) (lent : List ℤ) (room : 8000 ≡ length lent) {a : Result ℕ Refusal} (told : a ≡ answer_of text (length lent / 10)) where
   answer_is : a ≡ answer_of text 800
   answer_is = let e : length lent / 10 ≡ 800 = omega arith in rw e at told
 
   -- the rows of an accepted text
-  rows_are : (n : ℕ) → answer_of text 800 ≡ Accepted n → (length (rows_of (parts 10 text)) ≡ 10 * n) × (n ≤ 800)
+  rows_are : (n : ℕ) → answer_of text 800 ≡ Ok n → (length (rows_of (parts 10 text)) ≡ 10 * n) × (n ≤ 800)
   unfolding answer_of
   rows_are n e = go (ltb 65536 (length text)) e
     where
-      go : (t : Bool) → cond t (Refused 8 0) (answer_from 800 0 (parts 10 text)) ≡ Accepted n → (length (rows_of (parts 10 text)) ≡ 10 * n) × (n ≤ 800)
+      go : (t : Bool) → cond t (Err (at Overlong 0)) (answer_from 800 0 (parts 10 text)) ≡ Ok n → (length (rows_of (parts 10 text)) ≡ 10 * n) × (n ≤ 800)
       go true e = absurd (no_accept e)
       go false e = let w = accepted_rows 800 0 (parts 10 text) n (omega arith) e in (omega (arith, w.0), w.1)
 
   -- up to ten numbers of each of them lie within the rows lent
-  module _ {n : ℕ} (q : a ≡ Accepted n) (m : ℕ) (h : m ≤ 10) where
+  module _ {n : ℕ} (q : a ≡ Ok n) (m : ℕ) (h : m ≤ 10) where
     few_numbers : m * n ≤ 8000
     few_numbers = omega (arith, mul-le-mul_right n h, (rows_are n (sym answer_is ∙ q)).1)
 
@@ -109,16 +111,16 @@ module _ (text : List ℕ) (lent : List ℤ) (room : 8000 ≡ length lent) {a : 
   -- what is printed of it, where rows are printed so
   module _ (ofRows : List ℤ → List ℕ) where
     pub text_refused : {o o' : List ℕ} {r number place most : ℕ} → Wrote o 0 o' r (printed_refused number place) → length o ≡ most → 50 ≤ most
-        → a ≡ Refused number place → number < 2 ^ 64 → place < 2 ^ 64 → take r o' ≡ printed_text ofRows text
+        → a ≡ Err e → number < 2 ^ 64 → place < 2 ^ 64 → take r o' ≡ printed_text ofRows text
     unfolding printed_text
     text_refused {number = number} {place = place} w long wide e h l =
-        let z : answer_of text 800 ≡ Refused number place = sym answer_is ∙ e in rw z (refused_first w long wide h l)
+        let z : answer_of text 800 ≡ Err e = sym answer_is ∙ e in rw z (refused_first w long wide h l)
 
-    pub text_accepted : {rows : List ℤ} {n : ℕ} (bytes : List ℕ) → rows ≡ rows_after (answer_of text (length lent / 10)) text lent → a ≡ Accepted n
+    pub text_accepted : {rows : List ℤ} {n : ℕ} (bytes : List ℕ) → rows ≡ rows_after (answer_of text (length lent / 10)) text lent → a ≡ Ok n
         → bytes ≡ ofRows (take (10 * n) rows) → bytes ≡ printed_text ofRows text
     unfolding printed_text
     text_accepted {n = n} bytes e q p =
-        let z : answer_of text 800 ≡ Accepted n = sym answer_is ∙ q in
-        let w : answer_of text (length lent / 10) ≡ Accepted n = sym told ∙ q in
+        let z : answer_of text 800 ≡ Ok n = sym answer_is ∙ q in
+        let w : answer_of text (length lent / 10) ≡ Ok n = sym told ∙ q in
         let first : take (10 * n) _ ≡ rows_of (parts 10 text) = ap (take (10 * n)) (rw w at e) ∙ take_at (rows_of (parts 10 text)) _ (10 * n) (rows_are n z).0 in
         rw z (p ∙ ap ofRows first)

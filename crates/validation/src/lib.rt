@@ -10,7 +10,7 @@ ghost use Rattle.refusals.specs.Refusals.{verdict_of};
 ghost use Rattle.sheet.specs.Refusals.{misshapen, column_fault, owner_fault, repeat_fault, refusal_of};
 ghost use Rattle.validation.specs.inner.Answer.{shape_refusal, link_refusal, Indexing};
 
-use refusals::Verdict;
+use refusals::{Reason, Verdict};
 
 // ---- 1 to 3, of the rows by themselves
 
@@ -26,16 +26,10 @@ fn first_column_fault(rows: &[i64]) -> Verdict
 {
     let classes = rows::class_table();
     let ranges = rows::range_table();
-    let n = rows::row_count(rows);
-    let mut k = 0;
-    while k < n {
-        let v = column_faults::column_fault(&classes, &ranges, rows, k);
-        let Verdict::Fine = v else {
-            return v;
-        };
-        k += 1;
+    for k in 0..rows::row_count(rows) {
+        column_faults::column_fault(&classes, &ranges, rows, k)?;
     }
-    Verdict::Fine
+    Ok(())
 }
 
 // Refusals 1 to 3.
@@ -43,7 +37,7 @@ fn shape_fault(rows: &[i64]) -> Verdict
     ensures { verdict_of result ≡ shape_refusal rows.now }
 {
     if is_misshapen(rows.len()) {
-        return Verdict::Refused(refusals::MISSHAPEN, 0);
+        return Err(Reason::Misshapen.at(0));
     }
     first_column_fault(rows)
 }
@@ -55,16 +49,10 @@ fn first_owner_fault(rows: &[i64], links: &[u16; 1600]) -> Verdict
     requires { Linked rows.now links.now }
     ensures { verdict_of result ≡ first (owner_fault rows.now) (row_count rows.now) }
 {
-    let n = rows::row_count(rows);
-    let mut k = 0;
-    while k < n {
-        let v = link_faults::owner_fault(rows, links, k);
-        let Verdict::Fine = v else {
-            return v;
-        };
-        k += 1;
+    for k in 0..rows::row_count(rows) {
+        link_faults::owner_fault(rows, links, k)?;
     }
-    Verdict::Fine
+    Ok(())
 }
 
 // The first row that 5 refuses.
@@ -72,16 +60,10 @@ fn first_repeat_fault(rows: &[i64], kinds: &[u16; 3680]) -> Verdict
     requires { Kinds rows.now kinds.now }
     ensures { verdict_of result ≡ first (repeat_fault rows.now) (row_count rows.now) }
 {
-    let n = rows::row_count(rows);
-    let mut k = 0;
-    while k < n {
-        let v = link_faults::repeat_fault(rows, kinds, k);
-        let Verdict::Fine = v else {
-            return v;
-        };
-        k += 1;
+    for k in 0..rows::row_count(rows) {
+        link_faults::repeat_fault(rows, kinds, k)?;
     }
-    Verdict::Fine
+    Ok(())
 }
 
 // Refusals 4 and 5.
@@ -89,10 +71,7 @@ fn link_fault(rows: &[i64], kinds: &[u16; 3680], links: &[u16; 1600]) -> Verdict
     requires { Kinds rows.now kinds.now × Linked rows.now links.now }
     ensures { verdict_of result ≡ link_refusal rows.now }
 {
-    let v = first_owner_fault(rows, links);
-    let Verdict::Fine = v else {
-        return v;
-    };
+    first_owner_fault(rows, links)?;
     first_repeat_fault(rows, kinds)
 }
 
@@ -108,10 +87,7 @@ pub fn index(
     requires { (length kinds.old ≡ 3680) × (length links.old ≡ 1600) × (length owned.old ≡ 8810) }
     ensures { Indexing rows.now kinds.old links.old owned.old result kinds.new links.new owned.new }
 {
-    let shape = shape_fault(rows);
-    let Verdict::Fine = shape else {
-        return shape;
-    };
+    shape_fault(rows)?;
     sheet::kinds_into(rows, kinds);
     owners::links_into(rows, kinds, links);
     owners::owned_into(rows, links, owned);

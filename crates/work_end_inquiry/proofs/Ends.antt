@@ -1,4 +1,5 @@
 -- Work that is started in a sheet ends, if it does, within the numbers of 64 bits. Assumes nothing.
+use Rattle.std.specs.Prelude.{Result, Ok, Err}
 use Prim.Native.Nat.{ℕ, zero, suc, ◌+◌, ◌^◌, ◌<◌, ◌≤◌, max, min}
 use mathlib.Core.Path.{◌≡◌, refl, sym, ap, subst, ◌∙◌}
 use mathlib.Core.Bool.{Bool, true, false, cond, ◌&&◌, ◌||◌, true≢false}
@@ -26,10 +27,10 @@ use Rattle.calendar.specs.Layout as layout
 use Rattle.rows.specs.Class.{id_c, t_c, g_c}
 use Rattle.rows.specs.Ranges.{between, is_none, in_range, in_class}
 use Rattle.rows.specs.Cells.{row_count, num, is}
-use Rattle.refusals.specs.Refusals.{verdict_of}
+use Rattle.refusals.specs.Refusals.{verdict_of, at}
+use Rattle.refusals.specs.declared.Reason.TheVariants.{OutOfRange}
+use Rattle.refusals.specs.declared.Refusal.{Refusal}
 use Rattle.sheet.specs.Refusals.{refusal_of}
-use Rattle.refusals.specs.declared.Verdict.{Verdict}
-use Rattle.refusals.specs.declared.Verdict.TheVariants as verdict
 use Rattle.sheet.specs.Places.{place_of}
 use Rattle.sheet.specs.declared.Found.{Found}
 use Rattle.sheet.specs.declared.Found.TheVariants.{At, Nothing}
@@ -47,8 +48,8 @@ use Rattle.window_rows.specs.inner.Laid.{Holder, calendar_numbers, Laid}
 use Rattle.window_rows.proofs.WindowRows.{window_row, window_naming, resource_windows, windows_none}
 use Rattle.calendar.specs.declared.WorkEnd as calendar
 use Rattle.calendar.specs.declared.WorkEnd.TheVariants as ending
-use Rattle.work_end_inquiry.specs.declared.InquiryAnswer.{InquiryAnswer}
-use Rattle.work_end_inquiry.specs.declared.InquiryAnswer.TheVariants as answer
+use Rattle.work_end_inquiry.specs.declared.Ends as inquiry_end
+use Rattle.work_end_inquiry.specs.declared.Ends.TheVariants as ending_of
 use Rattle.work_end_inquiry.specs.inner.Said.{said}
 use Rattle.work_end_inquiry.specs.Inquiry.{InquiryOutcome, ends, refused, outcome_of, in_order, inquiry_refusal, inquired_calendar, inquiry}
 
@@ -155,7 +156,7 @@ module _ (start work : ℤ) {a : Bool} (e : a ≡ in_class t_c (read start)) (p 
   unfolding in_order
   order_no f = ap (λ c. c && in_class g_c work) (sym f ∙ rw (to_z-of_z p) at e)
 
-pub said_end : {a : calendar.WorkEnd} {e : ℕ} → a ≡ ending.End e → answer.End e ≡ said a
+pub said_end : {a : calendar.WorkEnd} {e : ℕ} → a ≡ ending.End e → Ok (ending_of.End e) ≡ said a
 said_end h = sym (ap said h)
 
 -- no places, no windows
@@ -220,36 +221,36 @@ module _ (rows : List ℤ) (resource start work : ℤ) (ok : refusal_of rows ≡
       ∙ said_as_is (joint_work_end clock (inquired_calendar rows resource ∷ []) (pos (to_nat start)) work) fits_inquiry
       ∙ ap (λ x. ends (joint_work_end clock (inquired_calendar rows resource ∷ []) x work)) same_start
 
-  pub ending_said : {r : InquiryAnswer} {a : calendar.WorkEnd} {s m : ℕ} {w₀ w : List ℕ} → Laid w₀ w 0 m (inquired_calendar rows (read resource)) → s ≡ to_nat (read start)
+  pub ending_said : {r : Result inquiry_end.Ends Refusal} {a : calendar.WorkEnd} {s m : ℕ} {w₀ w : List ℕ} → Laid w₀ w 0 m (inquired_calendar rows (read resource)) → s ≡ to_nat (read start)
       → a ≡ layout.saying (joint_work_end clock (layout.calendars_of w (0 ∷ m ∷ [])) (pos s) (read work)) → r ≡ said a → SFits w64 resource → SFits w64 start → SFits w64 work
       → outcome_of r ≡ ends (joint_work_end clock (inquired_calendar rows resource ∷ []) start work)
   ending_said {m = m} {w = w} l h e f o p q =
       ap outcome_of (f ∙ ap said (rw (to_z-of_z q, h, to_z-of_z p) at e)) ∙ ending_is w m (l.calendar ∙ ap (inquired_calendar rows) (to_z-of_z o))
 
-module _ (rows : List ℤ) {v : Verdict} where
-  pub no_refusal : verdict_of v ≡ refusal_of rows → v ≡ verdict.Fine → refusal_of rows ≡ None
+module _ (rows : List ℤ) {v : Result Unit Refusal} where
+  pub no_refusal : verdict_of v ≡ refusal_of rows → v ≡ Ok tt → refusal_of rows ≡ None
   no_refusal e f = sym e ∙ ap verdict_of f
 
-  module _ {k₀ l₀ o₀ k l o : List ℕ} (i : Indexing rows k₀ l₀ o₀ v k l o) (f : v ≡ verdict.Fine) where
+  module _ {k₀ l₀ o₀ k l o : List ℕ} (i : Indexing rows k₀ l₀ o₀ v k l o) (f : v ≡ Ok tt) where
     pub kinds_of : Kinds rows k
     kinds_of = (tables_of rows i (no_refusal i.verdict f)).kinds
 
     pub owned_of : Owned rows o
     owned_of = (tables_of rows i (no_refusal i.verdict f)).owned
 
-  pub inquiry_refused : (resource start work : ℤ) {n k : ℕ} → verdict_of v ≡ refusal_of rows → v ≡ verdict.Refused n k
-      → refused (record { number = n; place = k }) ≡ inquiry rows resource start work
+  pub inquiry_refused : (resource start work : ℤ) {x : Refusal} {a : Result inquiry_end.Ends Refusal} → verdict_of v ≡ refusal_of rows → v ≡ Err x → a ≡ Err x
+      → outcome_of a ≡ inquiry rows resource start work
   unfolding inquiry inquiry_refusal
-  inquiry_refused resource start work e f = rw (sym e ∙ ap verdict_of f)
+  inquiry_refused resource start work e f b = rw (b, sym e ∙ ap verdict_of f)
 
-  module _ (resource start work : ℤ) {a : Bool} (h : a ≡ in_order (read start) (read work)) (e : verdict_of v ≡ refusal_of rows) (f : v ≡ verdict.Fine)
+  module _ (resource start work : ℤ) {a : Bool} (h : a ≡ in_order (read start) (read work)) (e : verdict_of v ≡ refusal_of rows) (f : v ≡ Ok tt)
       (p : SFits w64 start) (q : SFits w64 work) where
     in_order_lem : in_order start work ≡ a
     in_order_lem = sym (rw (to_z-of_z p, to_z-of_z q) at h)
 
-    pub inquiry_own : a ≡ false → refused (record { number = 3; place = 0 }) ≡ inquiry rows resource start work
+    pub inquiry_own : {x : Refusal} → x ≡ at OutOfRange 0 → a ≡ false → refused x ≡ inquiry rows resource start work
     unfolding inquiry inquiry_refusal
-    inquiry_own i = rw (no_refusal e f, in_order_lem ∙ i)
+    inquiry_own j i = rw (j, no_refusal e f, in_order_lem ∙ i)
 
     pub inquiry_ends : {r : InquiryOutcome} → r ≡ ends (joint_work_end clock (inquired_calendar rows (read resource) ∷ []) (read start) (read work)) → a ≡ true → SFits w64 resource
         → r ≡ inquiry rows resource start work

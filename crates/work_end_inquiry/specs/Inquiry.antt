@@ -9,23 +9,26 @@ use Rattle.calendar.specs.Calendar.{Calendar}
 use Rattle.calendar.specs.WorkEnd.{Ending, ends_at, pauses, never, joint_work_end}
 use Rattle.rows.specs.Class.{id_c, t_c, g_c}
 use Rattle.rows.specs.Ranges.{in_class}
-use Rattle.refusals.specs.Refusals.{OUT_OF_RANGE, Refusal, refuse}
+use Rattle.refusals.specs.Refusals.{refuse}
+use Rattle.refusals.specs.declared.Reason.TheVariants.{OutOfRange}
+use Rattle.refusals.specs.declared.Refusal.{Refusal}
 use Rattle.sheet.specs.Refusals.{refusal_of}
 use Rattle.model.specs.Sheet.{sheet}
 use Rattle.model.specs.Resource.{resource_calendar}
-use Rattle.work_end_inquiry.specs.declared.InquiryAnswer.{InquiryAnswer}
-use Rattle.work_end_inquiry.specs.declared.InquiryAnswer.TheVariants.{End, Pause, Never, Refused}
+use Rattle.std.specs.Prelude.{Result, Ok, Err}
+use Rattle.work_end_inquiry.specs.declared.Ends.{Ends}
+use Rattle.work_end_inquiry.specs.declared.Ends.TheVariants.{End, Pause, Never}
 
 pub data InquiryOutcome : Type 0 where
   refused : Refusal → InquiryOutcome
   ends : Ending ℤ → InquiryOutcome
 
 -- what an answer says
-abbrev pub outcome_of : InquiryAnswer → InquiryOutcome
-outcome_of (End e) = ends (ends_at (pos e))
-outcome_of Pause = ends pauses
-outcome_of Never = ends never
-outcome_of (Refused n k) = refused (record { number = n; place = k })
+abbrev pub outcome_of : Result Ends Refusal → InquiryOutcome
+outcome_of (Ok (End e)) = ends (ends_at (pos e))
+outcome_of (Ok Pause) = ends pauses
+outcome_of (Ok Never) = ends never
+outcome_of (Err e) = refused e
 
 -- a start of class t and work of class g
 unfoldable pub in_order : ℤ → ℤ → Bool
@@ -33,7 +36,7 @@ in_order start work = in_class t_c start && in_class g_c work
 
 -- by 1 to 5 on the rows, then by 3 with place 0 for its own start and work
 unfoldable pub inquiry_refusal : List ℤ → ℤ → ℤ → Option Refusal
-inquiry_refusal rows start work = or_else (refusal_of rows) (refuse (not (in_order start work)) OUT_OF_RANGE 0)
+inquiry_refusal rows start work = or_else (refusal_of rows) (refuse (not (in_order start work)) OutOfRange 0)
 
 -- the calendar of a resource: none where it is not in the sheet, and so where its number is no id
 unfoldable pub inquired_calendar : List ℤ → ℤ → Calendar ℤ

@@ -14,7 +14,7 @@ ghost use Rattle.window_rows.specs.inner.Laid.{Laid};
 ghost use Rattle.work_end_inquiry.specs.Inquiry.{ends, outcome_of, in_order, inquired_calendar, inquiry};
 ghost use Rattle.work_end_inquiry.specs.inner.Said.{said};
 
-use refusals::Verdict;
+use refusals::{Reason, Refusal};
 use sheet::Found;
 
 // The classes of an id, of an instant and of an amount that may be negative.
@@ -24,14 +24,15 @@ const T: u8 = 5;
 
 const G: u8 = 7;
 
-// The work ends at an instant; or the start is no working time; or too little working time follows; or a refusal by number and place.
-#[derive(Clone, Copy)]
-pub enum InquiryAnswer {
+// The work ends at an instant; or the start is no working time; or too little working time follows.
+#[derive(Clone, Copy, PartialEq, Eq)]
+pub enum Ends {
     End(u64),
     Pause,
     Never,
-    Refused(u64, usize),
 }
+
+pub type InquiryAnswer = Result<Ends, Refusal>;
 
 fn in_order(start: i64, work: i64) -> bool
     ensures { result ≡ in_order start work }
@@ -84,10 +85,10 @@ fn answer_of(a: calendar::WorkEnd) -> InquiryAnswer
     ensures { result ≡ said a }
 {
     match a {
-        calendar::WorkEnd::End(e) => InquiryAnswer::End(e),
-        calendar::WorkEnd::Pause => InquiryAnswer::Pause,
-        calendar::WorkEnd::Never => InquiryAnswer::Never,
-        calendar::WorkEnd::Beyond => InquiryAnswer::Never,
+        calendar::WorkEnd::End(e) => Ok(Ends::End(e)),
+        calendar::WorkEnd::Pause => Ok(Ends::Pause),
+        calendar::WorkEnd::Never => Ok(Ends::Never),
+        calendar::WorkEnd::Beyond => Ok(Ends::Never),
     }
 }
 
@@ -114,14 +115,9 @@ pub fn work_end(rows: &[i64], resource: i64, start: i64, work: i64) -> InquiryAn
     let mut kinds = [0u16; 3680];
     let mut links = [0u16; 1600];
     let mut owned = [0u16; 8810];
-    let v = validation::index(rows, &mut kinds, &mut links, &mut owned);
-    match v {
-        Verdict::Refused(n, k) => InquiryAnswer::Refused(n, k),
-        Verdict::Fine => {
-            if in_order(start, work) {
-                return ending(rows, &kinds, &owned, resource, start, work);
-            }
-            InquiryAnswer::Refused(refusals::OUT_OF_RANGE, 0)
-        }
+    validation::index(rows, &mut kinds, &mut links, &mut owned)?;
+    if !in_order(start, work) {
+        return Err(Reason::OutOfRange.at(0));
     }
+    ending(rows, &kinds, &owned, resource, start, work)
 }

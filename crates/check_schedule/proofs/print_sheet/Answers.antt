@@ -1,16 +1,16 @@
+use Rattle.std.specs.Prelude.{Result, Ok, Err}
+use Rattle.refusals.specs.declared.Refusal.{Refusal}
 use borrow.Author.Rules.{rules}
 use contract.Lifetimes.{Lfts}
-use Rattle.refusals.specs.declared.Answer.{Answer}
-use Rattle.refusals.specs.declared.Answer.TheVariants.{Accepted, Refused}
 use Rattle.text_program.proofs.Printing.{Bounded, small_numbers}
 use Rattle.check_schedule.proofs.Printing.{sheet_printed, sheet_within}
 use Rattle.check_schedule.proofs.print_sheet.Lts as lts
 use Rattle.check_schedule.proofs.print_sheet.Goals as goal
 
 -- the answer's numbers are of 64 bits
-bounded : (κs : Lfts 2) (a : Answer) → (lts.r-1).is.Ok κs a → Bounded a
-bounded κs (Accepted n) h = tt
-bounded κs (Refused number place) h = search rules
+bounded : (κs : Lfts 2) (a : Result ℕ Refusal) → (lts.r-1).is.Ok κs a → Bounded a
+bounded κs (Ok n) h = tt
+bounded κs (Err e) h = search rules
 
 pub returns : goal.returns
 returns c =

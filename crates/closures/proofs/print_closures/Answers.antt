@@ -5,22 +5,22 @@ use Rattle.std.proofs.Common.{rules, arith}
 use Rattle.closures.proofs.print_closures.Goals as goal
 
 pub put_rows-requires : goal.put_rows-requires
-put_rows-requires c = (few_rows c.args.text.now c.args.resource c.no_rows-rows.result c.no_rows-rows.ensures.value c.read_freebusy-answer.ensures.value c.ranges.resource c.in-Accepted.is, search rules)
+put_rows-requires c = (few_rows c.args.text.now c.args.resource c.no_rows-rows.result c.no_rows-rows.ensures.value c.read_freebusy-answer.ensures.value c.ranges.resource c.in-Ok.is, search rules)
 
-pub returns-in-Accepted : goal.returns-in-Accepted
-returns-in-Accepted c =
+pub returns-in-Ok : goal.returns-in-Ok
+returns-in-Ok c =
     let small : Small c.kept-rows.result = small_numbers _ c.kept-rows.type_inv.0 c.kept-rows.type_inv.1.1 in
     record {
       upper_bound = rows_within c.args.text.now c.args.resource c.no_rows-rows.result c.no_rows-rows.ensures.value c.read_freebusy-answer.ensures.value c.ranges.resource
-          c.read_freebusy-answer.new.rows c.kept-rows.result c.put_rows.ensures c.requires c.in-Accepted.is c.kept-rows.ensures c.read_freebusy-answer.ensures.rows_after small;
+          c.read_freebusy-answer.new.rows c.kept-rows.result c.put_rows.ensures c.requires c.in-Ok.is c.kept-rows.ensures c.read_freebusy-answer.ensures.rows_after small;
       out_after = rows_printed c.args.text.now c.args.resource c.no_rows-rows.result c.no_rows-rows.ensures.value c.read_freebusy-answer.ensures.value c.ranges.resource
-          c.read_freebusy-answer.new.rows c.kept-rows.result c.put_rows.ensures c.requires c.in-Accepted.is c.kept-rows.ensures c.read_freebusy-answer.ensures.rows_after small;
+          c.read_freebusy-answer.new.rows c.kept-rows.result c.put_rows.ensures c.requires c.in-Ok.is c.kept-rows.ensures c.read_freebusy-answer.ensures.rows_after small;
     }
 
-pub returns-in-Refused : goal.returns-in-Refused
-returns-in-Refused c =
+pub returns-in-Err : goal.returns-in-Err
+returns-in-Err c =
     record {
       upper_bound = refused_within c.put_refused.ensures c.requires (omega arith) (search rules) (search rules);
       out_after = refusal_printed c.args.text.now c.args.resource c.no_rows-rows.result c.no_rows-rows.ensures.value c.read_freebusy-answer.ensures.value c.ranges.resource
-          c.put_refused.ensures c.requires c.in-Refused.is (search rules) (search rules);
+          c.put_refused.ensures c.requires c.in-Err.is (search rules) (search rules);
     }

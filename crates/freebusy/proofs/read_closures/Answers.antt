@@ -1,8 +1,8 @@
 use Rattle.freebusy.proofs.CallLaws.{read_answer, read_rows, read_space, refused_rows, refused_space}
 use Rattle.freebusy.proofs.read_closures.Goals as goal
 
-pub returns-in-Accepted : goal.returns-in-Accepted
-returns-in-Accepted c =
+pub returns-in-Ok : goal.returns-in-Ok
+returns-in-Ok c =
     record {
       value = search read_answer;
       rows_after = search read_rows;

@@ -1,11 +1,12 @@
 -- What reading some periods comes to, where others went before them: the public promises do not speak of it. Assumes nothing.
+use Rattle.std.specs.Prelude.{Ok}
 use Rattle.std.specs.Prelude.{ℕ, ◌≤◌, List, ◌≡◌, ℤ, pos}
 use Rattle.std.specs.Prelude.{Option, None, Some}
 use Rattle.loops.specs.Lists.{each}
 use Rattle.loops.specs.Search.{or_else}
 use Rattle.line_buffer.specs.inner.Sink.{Sink, sink, put_lines}
-use Rattle.refusals.specs.Refusals.{Refusal, verdict_of}
-use Rattle.refusals.specs.declared.Verdict.TheVariants.{Fine}
+use Rattle.refusals.specs.Refusals.{verdict_of}
+use Rattle.refusals.specs.declared.Refusal.{Refusal}
 use Rattle.freebusy_periods.specs.declared.Window.{Window}
 use Rattle.freebusy_periods.specs.declared.Window.TheVariants.{Span, Wrong}
 use Rattle.freebusy_lines.specs.Lines.{lines}
@@ -25,7 +26,7 @@ pub record ReadOn (room id : ℕ) (rows : List ℤ) (from : Reading) (bs : List 
 
 -- no period was read yet
 abbrev pub unread : Reading
-unread = record { count = 0; refused = Fine }
+unread = record { count = 0; refused = Ok tt }
 
 -- the lent space after a text was read for its refusal, and where it has none once more for its rows
 abbrev pub space_read : Option Refusal → List ℕ → List ℕ → List ℕ

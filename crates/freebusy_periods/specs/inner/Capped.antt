@@ -6,7 +6,7 @@ use Rattle.loops.specs.Search.{or_else}
 use Rattle.letters.specs.Letters.{is_letter}
 use Rattle.dates.specs.DateTime.{date_time}
 use Rattle.freebusy_periods.specs.Duration.{Counted, counts, dur_second, dur_minute, dur_hour, dur_time, dur_date, dur_week, dur_value}
-use Rattle.refusals.specs.Refusals.{MALFORMED}
+use Rattle.refusals.specs.declared.Reason.TheVariants.{Malformed}
 use Rattle.freebusy_periods.specs.declared.Amount.{Amount}
 use Rattle.freebusy_periods.specs.declared.Seconds.{Seconds}
 use Rattle.freebusy_periods.specs.declared.Seconds.TheVariants.{Is, Not}
@@ -56,4 +56,4 @@ ends_period e = date_time e || is_some (dur_value e)
 
 -- from a to b, where b is after a
 unfoldable pub spanned : ℕ → ℕ → Window
-spanned a b = cond (ltb a b) (Span a b) (Wrong MALFORMED)
+spanned a b = cond (ltb a b) (Span a b) (Wrong Malformed)

@@ -4,30 +4,30 @@ use Rattle.margins.specs.Program.{printed_margins}
 use Rattle.margins.proofs.print_text.Goals as goal
 
 pub overflow_mul-end : goal.overflow_mul-end
-overflow_mul-end c = rows_fit c.args.text.now c.no_rows-rows.result c.no_rows-rows.ensures.value c.read_text-read.ensures.value c.in-Accepted.is _ (omega arith)
+overflow_mul-end c = rows_fit c.args.text.now c.no_rows-rows.result c.no_rows-rows.ensures.value c.read_text-read.ensures.value c.in-Ok.is _ (omega arith)
 
 pub slice_bounds-rows-end : goal.slice_bounds-rows-end
 slice_bounds-rows-end c =
-    rows_within c.args.text.now c.no_rows-rows.result c.no_rows-rows.ensures.value c.read_text-read.ensures.value c.in-Accepted.is _ (omega arith) c.read_text-read.new.rows (search rules)
+    rows_within c.args.text.now c.no_rows-rows.result c.no_rows-rows.ensures.value c.read_text-read.ensures.value c.in-Ok.is _ (omega arith) c.read_text-read.new.rows (search rules)
 
 pub slice_bounds-print_margins-end : goal.slice_bounds-print_margins-end
 slice_bounds-print_margins-end c =
-    rows_first c.args.text.now c.no_rows-rows.result c.no_rows-rows.ensures.value c.read_text-read.ensures.value c.in-Accepted.is _ (omega arith) c.read_text-read.new.rows (search rules)
+    rows_first c.args.text.now c.no_rows-rows.result c.no_rows-rows.ensures.value c.read_text-read.ensures.value c.in-Ok.is _ (omega arith) c.read_text-read.new.rows (search rules)
 
-pub returns-in-Accepted : goal.returns-in-Accepted
-returns-in-Accepted c =
+pub returns-in-Ok : goal.returns-in-Ok
+returns-in-Ok c =
     record {
       upper_bound = c.print_margins.ensures.upper_bound;
       out_after =
-          text_accepted c.args.text.now c.no_rows-rows.result c.no_rows-rows.ensures.value c.read_text-read.ensures.value printed_margins _ c.read_text-read.ensures.rows_after c.in-Accepted.is
+          text_accepted c.args.text.now c.no_rows-rows.result c.no_rows-rows.ensures.value c.read_text-read.ensures.value printed_margins _ c.read_text-read.ensures.rows_after c.in-Ok.is
           c.print_margins.ensures.out_after;
     }
 
-pub returns-in-Refused : goal.returns-in-Refused
-returns-in-Refused c =
+pub returns-in-Err : goal.returns-in-Err
+returns-in-Err c =
     record {
       upper_bound = refused_within c.put_refused.ensures c.requires (omega arith) (search rules) (search rules);
       out_after =
-          text_refused c.args.text.now c.no_rows-rows.result c.no_rows-rows.ensures.value c.read_text-read.ensures.value printed_margins c.put_refused.ensures c.requires (omega arith) c.in-Refused.is
+          text_refused c.args.text.now c.no_rows-rows.result c.no_rows-rows.ensures.value c.read_text-read.ensures.value printed_margins c.put_refused.ensures c.requires (omega arith) c.in-Err.is
           (search rules) (search rules);
     }

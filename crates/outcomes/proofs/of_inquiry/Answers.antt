@@ -13,5 +13,5 @@ returns-in-Pause c = search (rules, by_case (λ a. of_inquiry (outcome_of a)))
 pub returns-in-Never : goal.returns-in-Never
 returns-in-Never c = search (rules, by_case (λ a. of_inquiry (outcome_of a)))
 
-pub returns-in-Refused : goal.returns-in-Refused
-returns-in-Refused c = search (rules, by_case (λ a. of_inquiry (outcome_of a)))
+pub returns-in-Err : goal.returns-in-Err
+returns-in-Err c = search (rules, by_case (λ a. of_inquiry (outcome_of a)))

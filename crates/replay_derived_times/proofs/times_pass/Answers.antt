@@ -1,7 +1,6 @@
+use Rattle.std.specs.Prelude.{Result, Ok}
 use Rattle.validation.specs.inner.Answer.{Indexing}
 use Rattle.sheet.specs.inner.Accepted.{Accepted}
-use Rattle.refusals.specs.declared.Verdict.TheVariants.{Fine}
-use Rattle.refusals.specs.declared.Verdict.{Verdict}
 use Rattle.sheet.specs.Refusals.{refusal_of}
 use Rattle.owners.specs.inner.Owners.{Linked, Owned}
 use Rattle.sheet.specs.inner.Index.{Kinds}
@@ -11,13 +10,14 @@ use Rattle.std.specs.Prelude.{None}
 use mathlib.Core.List.{List}
 use mathlib.Core.Path.{sym, ap, ◌∙◌, ◌≡◌}
 use Rattle.refusals.specs.Refusals.{verdict_of}
+use Rattle.refusals.specs.declared.Refusal.{Refusal}
 use Rattle.validation.proofs.Order.{tables_of}
 use Rattle.model.proofs.Accepting.{accepted}
 use borrow.Author.Rules.{rules}
 use Rattle.replay_derived_times.proofs.times_pass.Goals as goal
 
 -- an accepted sheet's tables, as its index gives them
-module _ {rows : List ℤ} {k₀ l₀ o₀ k l o : List ℕ} {v : Verdict} (i : Indexing rows k₀ l₀ o₀ v k l o) (e : v ≡ Fine) where
+module _ {rows : List ℤ} {k₀ l₀ o₀ k l o : List ℕ} {v : Result Unit Refusal} (i : Indexing rows k₀ l₀ o₀ v k l o) (e : v ≡ (Ok tt)) where
   fine : refusal_of rows ≡ None
   fine = sym i.verdict ∙ ap verdict_of e
 
@@ -38,8 +38,8 @@ held_of-held-requires c = search (rules, accepted_of, kinds_of, links_of, owned_
 
 pub derived_all-requires : goal.derived_all-requires
 derived_all-requires c =
-    (accepted_of c.index.ensures c.in-Fine.is, links_of c.index.ensures c.in-Fine.is, owned_of c.index.ensures c.in-Fine.is, c.held_of-held.ensures)
+    (accepted_of c.index.ensures c.in-Ok.is, links_of c.index.ensures c.in-Ok.is, owned_of c.index.ensures c.in-Ok.is, c.held_of-held.ensures)
 
 pub needs_of-need-requires : goal.needs_of-need-requires
 needs_of-need-requires c =
-    (accepted_of c.index.ensures c.in-Fine.is, links_of c.index.ensures c.in-Fine.is, owned_of c.index.ensures c.in-Fine.is, c.held_of-held.ensures)
+    (accepted_of c.index.ensures c.in-Ok.is, links_of c.index.ensures c.in-Ok.is, owned_of c.index.ensures c.in-Ok.is, c.held_of-held.ensures)

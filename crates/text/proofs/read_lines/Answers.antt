@@ -13,8 +13,8 @@ returns-then-rest-n c = search (rules, open_answer, open_rows)
 pub read_line-requires : goal.read_line-requires
 read_line-requires c = (omega arith, search rules)
 
-pub returns-in-Wrong : goal.returns-in-Wrong
-returns-in-Wrong c = search (rules, wrong_answer, wrong_rows)
+pub returns-in-Err : goal.returns-in-Err
+returns-in-Err c = search (rules, wrong_answer, wrong_rows)
 
 pub returns-then-lent-place : goal.returns-then-lent-place
 returns-then-lent-place c = search (rules, full_answer, full_rows)

@@ -1,13 +1,15 @@
 -- What the validation of a sheet answers. Assumes nothing.
+use Rattle.std.specs.Prelude.{Result}
 use Rattle.std.specs.Prelude.{ℕ, ◌≡◌, List, ℤ, length}
 use Rattle.std.specs.Prelude.{Option, None}
 use Rattle.loops.specs.Search.{or_else, first}
 use Rattle.rows.specs.Cells.{row_count}
 use Rattle.sheet.specs.inner.Index.{Kinds}
 use Rattle.owners.specs.inner.Owners.{Linked, Owned}
-use Rattle.refusals.specs.Refusals.{MISSHAPEN, Refusal, refuse, verdict_of}
+use Rattle.refusals.specs.Refusals.{refuse, verdict_of}
+use Rattle.refusals.specs.declared.Reason.TheVariants.{Misshapen}
+use Rattle.refusals.specs.declared.Refusal.{Refusal}
 use Rattle.sheet.specs.Refusals.{misshapen, column_fault, owner_fault, repeat_fault, refusal_of}
-use Rattle.refusals.specs.declared.Verdict.{Verdict}
 
 -- the tables of a sheet's rows
 pub record Tables (rows : List ℤ) (k l o : List ℕ) : Type 0 where
@@ -18,13 +20,13 @@ pub record Tables (rows : List ℤ) (k l o : List ℕ) : Type 0 where
 -- ---- refusals in two steps: those of a row by itself, then those that look at other rows
 
 unfoldable pub shape_refusal : List ℤ → Option Refusal
-shape_refusal rows = or_else (refuse (misshapen (length rows)) MISSHAPEN 0) (first (column_fault rows) (row_count rows))
+shape_refusal rows = or_else (refuse (misshapen (length rows)) Misshapen 0) (first (column_fault rows) (row_count rows))
 
 unfoldable pub link_refusal : List ℤ → Option Refusal
 link_refusal rows = or_else (first (owner_fault rows) (row_count rows)) (first (repeat_fault rows) (row_count rows))
 
 -- what `index` answers and leaves: the verdict; the tables of the rows, if none of 1 to 3 refuses the sheet, and else what was lent
-pub record Indexing (rows : List ℤ) (k₀ l₀ o₀ : List ℕ) (v : Verdict) (k l o : List ℕ) : Type 0 where
+pub record Indexing (rows : List ℤ) (k₀ l₀ o₀ : List ℕ) (v : Result Unit Refusal) (k l o : List ℕ) : Type 0 where
   pub verdict : verdict_of v ≡ refusal_of rows
   pub tables : shape_refusal rows ≡ None → Tables rows k l o
   pub kept : (shape_refusal rows ≡ None → ⊥) → (k ≡ k₀) × (l ≡ l₀) × (o ≡ o₀)
