@@ -14,7 +14,7 @@ use Rattle.calendar.specs.declared.Standing.{Standing}
 use Rattle.calendar.specs.declared.Fit.{Fit}
 use Rattle.calendar.specs.Clock.{clock}
 use Rattle.calendar.specs.Calendar.{Window, Calendar, opens, closes, is_open, is_closed, contains, covers, hits, is_working_time, interval_fits}
-use Rattle.calendar.specs.Layout.{window_of, windows_of}
+use Rattle.calendar.specs.Layout.{window_of, windows_of, lists_of, calendars_of}
 use Rattle.calendar.specs.Fit.{standing_of, fit_of}
 use Rattle.calendar.specs.inner.Scan.{nearer, next_stop}
 
@@ -53,6 +53,11 @@ slice_is w from to {m} {n} e f =
     let g : m + (n - m) ≡ min to (length w) = omega arith in
     let h : m ≡ min from (length (take to w)) = omega (arith, length-take to w) in
     sym (drop-take m (n - m) w) ∙ ap (λ (i : ℕ). drop m (take i w)) g ∙ ap (drop m) (take_min to w) ∙ ap (λ (i : ℕ). drop i (take to w)) h ∙ drop_min from (take to w)
+
+-- one calendar alone
+pub one_calendar : (w : List TimeWindow) → calendars_of w (record { from = 0; to = length w } ∷ []) ≡ map window_of w ∷ []
+unfolding calendars_of lists_of windows_of
+one_calendar w = ap (λ v. map window_of v ∷ []) (take_all (length w) w (omega arith))
 
 -- the next window of a slice
 module _ (w : List TimeWindow) (i : ℕ) (d : TimeWindow) (l : i < length w) where

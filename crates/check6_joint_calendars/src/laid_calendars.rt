@@ -6,6 +6,7 @@ use calendar::{Calendars, Places};
 use window_rows::WindowList;
 
 // Their windows, and the places of each among these. As many calendars as a sheet has rows have room: the library has no heap.
+#[derive(Drop)]
 pub struct LaidCalendars {
     windows: WindowList,
     places: [Places; 800],

@@ -6,6 +6,7 @@ ghost use Rattle.std.specs.Prelude.{◌≡◌, ◌≤◌, ◌<◌, [], ◌∷◌
 use calendar::{TimeWindow, WindowKind};
 
 // As many windows as a sheet has rows have room: the library has no heap.
+#[derive(Drop)]
 pub struct WindowList {
     windows: [TimeWindow; 800],
     count: usize,
