@@ -48,11 +48,11 @@ row_long resource c = refl
 -- an answer tells the verdict
 was_fine : (v : Result Unit Refusal) (n : ℕ) {m : ℕ} → answered (verdict_of v) n ≡ Ok m → v ≡ (Ok tt)
 was_fine (Ok tt) n e = refl
-was_fine (Not k p) n e = absurd (let z : ◌≡◌ {A = ℕ} 0 1 = cc in omega arith)
+was_fine (Err x) n e = absurd (let z : ◌≡◌ {A = ℕ} 0 1 = cc in omega arith)
 
-was_refused : (v : Result Unit Refusal) (n : ℕ) {k p : ℕ} → answered (verdict_of v) n ≡ Refused k p → v ≡ Not k p
+was_refused : (v : Result Unit Refusal) (n : ℕ) {x : Refusal} → answered (verdict_of v) n ≡ Err x → v ≡ Err x
 was_refused (Ok tt) n e = absurd (let z : ◌≡◌ {A = ℕ} 0 1 = cc in omega arith)
-was_refused (Not k p) n e = cc
+was_refused (Err x) n e = cc
 
 module _ (text : List ℕ) (id : ℕ) (rows : List ℤ) {o o' : List ℤ} {g : Reading} (r : ReadOn (length rows / 10) id o unread (periods_in text) o' g)
     {a : Result ℕ Refusal} (e : a ≡ answered (verdict_of g.refused) g.count) (bytes : length rows * 8 < 2 ^ 63) where
@@ -73,16 +73,16 @@ module _ (text : List ℕ) (id : ℕ) (rows : List ℤ) {o o' : List ℤ} {g : R
     where
       go : (v : Result Unit Refusal) → g.refused ≡ v → answered (verdict_of v) g.count ≡ answered (periods_refusal (length rows / 10) 0 (periods_in text)) (length (closures text))
       go (Ok tt) q = rw (refusal_is q, counted q)
-      go (Not k p) q = rw (refusal_is q)
+      go (Err x) q = rw (refusal_is q)
 
   -- the first reading is lent none of the rows, and so leaves them as they were
-  module _ (None : List ℤ) (z : length None ≡ 0) where
-    pub refused_rows : {k p : ℕ} → a ≡ Refused k p
-        → None ++ rows ≡ lent_after (periods_refusal (length rows / 10) 0 (periods_in text)) (flat_lines (closure_row (pos id)) (closures text)) rows
-    refused_rows q = rw (refusal_is (was_refused g.refused g.count (sym e ∙ q))) (none_ahead None rows z)
+  module _ (none : List ℤ) (z : length none ≡ 0) where
+    pub refused_rows : {x : Refusal} → a ≡ Err x
+        → none ++ rows ≡ lent_after (periods_refusal (length rows / 10) 0 (periods_in text)) (flat_lines (closure_row (pos id)) (closures text)) rows
+    refused_rows q = rw (refusal_is (was_refused g.refused g.count (sym e ∙ q))) (none_ahead none rows z)
 
     -- the second fills them
-    pub read_rows : {n : ℕ} → a ≡ Ok n → {rows' : List ℤ} {h : Reading} → ReadOn (length rows / 10) id (None ++ rows) unread (periods_in text) rows' h
+    pub read_rows : {n : ℕ} → a ≡ Ok n → {rows' : List ℤ} {h : Reading} → ReadOn (length rows / 10) id (none ++ rows) unread (periods_in text) rows' h
         → rows' ≡ lent_after (periods_refusal (length rows / 10) 0 (periods_in text)) (flat_lines (closure_row (pos id)) (closures text)) rows
     unfolding closures
     read_rows q s =
@@ -90,13 +90,13 @@ module _ (text : List ℕ) (id : ℕ) (rows : List ℤ) {o o' : List ℤ} {g : R
         let cs = each closures_of (periods_in text) in
         let m = flat_length 10 (closure_row (pos id)) (omega arith) (row_long (pos id)) cs in
         rw (refusal_is f)
-        (ap (λ (k : Sink). k.buf) ((rw (none_ahead None rows z) at s.numbers)
+        (ap (λ (k : Sink). k.buf) ((rw (none_ahead none rows z) at s.numbers)
         ∙ lines_whole 10 (closure_row (pos id)) (omega arith) (row_long (pos id)) rows cs (omega (arith, fits f)) (omega arith))
         ∙ ap (λ (n : ℕ). flat_lines (closure_row (pos id)) cs ++ drop n rows) (sym m))
 
   -- each reading unfolds in the space
   module _ (space₀ : List ℕ) {space : List ℕ} (l : space ≡ space_after text space₀) where
-    pub refused_space : {k p : ℕ} → a ≡ Refused k p → space ≡ space_read (periods_refusal (length rows / 10) 0 (periods_in text)) text space₀
+    pub refused_space : {x : Refusal} → a ≡ Err x → space ≡ space_read (periods_refusal (length rows / 10) 0 (periods_in text)) text space₀
     refused_space q = rw (refusal_is (was_refused g.refused g.count (sym e ∙ q))) l
 
     pub read_space : {n : ℕ} → a ≡ Ok n → {space' : List ℕ} → space' ≡ space_after text space
@@ -107,8 +107,8 @@ module _ (text : List ℕ) (id : ℕ) (rows : List ℤ) {o o' : List ℤ} {g : R
 
 module _ (text : List ℕ) (id : ℕ) (rows : List ℤ) {w : Place} (f : place_of w ≡ wrong_from None 0 (lines text)) where
   module _ {p : ℕ} (q : w ≡ At p) where
-    pub wrong_answer : Err (at Malformed p) ≡ answered (text_refusal text (length rows / 10)) (length (closures text))
-    wrong_answer = rw (sym f ∙ ap place_of q)
+    pub wrong_answer : {x : Refusal} → x ≡ at Malformed p → Err x ≡ answered (text_refusal text (length rows / 10)) (length (closures text))
+    wrong_answer a = rw (a, sym f ∙ ap place_of q)
 
     pub wrong_rows : rows ≡ lent_after (text_refusal text (length rows / 10)) (flat_lines (closure_row (pos id)) (closures text)) rows
     wrong_rows = rw (sym f ∙ ap place_of q)
@@ -153,9 +153,9 @@ module _ (z : ℤ) (f : SFits w64 z) where
 
 module _ (text : List ℕ) (resource : ℤ) (rows : List ℤ) where
   -- 8
-  pub long_answer : 65536 < length text → Err (at Overlong 0) ≡ freebusy_answer text resource (length rows / 10)
+  pub long_answer : {x : Refusal} → x ≡ at Overlong 0 → 65536 < length text → Err x ≡ freebusy_answer text resource (length rows / 10)
   unfolding freebusy_answer freebusy_refusal
-  long_answer h = rw (lt-ltb 65536 (length text) h)
+  long_answer a h = rw (a, lt-ltb 65536 (length text) h)
 
   pub long_rows : 65536 < length text → rows ≡ freebusy_after text resource rows
   unfolding freebusy_after freebusy_refusal
@@ -163,9 +163,9 @@ module _ (text : List ℕ) (resource : ℤ) (rows : List ℤ) where
 
   module _ {b : Bool} (i : b ≡ in_class Id (to_z w64 (of_z w64 resource))) (fit : SFits w64 resource) (short : length text ≤ 65536) where
     -- 3
-    pub stray_answer : not b ≡ true → Err (at OutOfRange 0) ≡ freebusy_answer text resource (length rows / 10)
+    pub stray_answer : {x : Refusal} → x ≡ at OutOfRange 0 → not b ≡ true → Err x ≡ freebusy_answer text resource (length rows / 10)
     unfolding freebusy_answer freebusy_refusal
-    stray_answer h = rw (le-ltb 65536 (length text) short, is_stray resource fit i h)
+    stray_answer a h = rw (a, le-ltb 65536 (length text) short, is_stray resource fit i h)
 
     pub stray_rows : not b ≡ true → rows ≡ freebusy_after text resource rows
     unfolding freebusy_after freebusy_refusal

@@ -1,5 +1,5 @@
 -- What the steps of the reader come to, by their tests: verdicts, windows, the parts of a value, the lines of a text. Assumes nothing.
-use Rattle.std.specs.Prelude.{Result, Ok}
+use Rattle.std.specs.Prelude.{Result, Ok, Err}
 use Prim.Native.Nat.{ℕ, ◌+◌, ◌-◌, ◌^◌, ◌≤◌, ◌<◌, min}
 use mathlib.Core.Bool.{Bool, true, false, cond, ◌&&◌, not}
 use mathlib.Core.List.{List, [], ◌∷◌, ◌++◌, map}
@@ -17,7 +17,8 @@ use borrow.Author.Tests.{lt-ltb, le-ltb}
 use Rattle.loops.specs.Search.{or_else}
 use Rattle.line_buffer.specs.inner.Sink.{Sink, sink, put_line}
 use Rattle.line_buffer.proofs.LineLaws.{lines_one, lines_none}
-use Rattle.refusals.specs.Refusals.{refuse, verdict_of}
+use Rattle.refusals.specs.Refusals.{refuse, verdict_of, at}
+use Rattle.refusals.specs.declared.Reason.{Reason}
 use Rattle.refusals.specs.declared.Reason.TheVariants.{Overfull}
 use Rattle.refusals.specs.declared.Refusal.{Refusal}
 use Rattle.refusals.specs.Lending.{answered}
@@ -48,17 +49,14 @@ module _ {v : Result Unit Refusal} where
   pub answer_fine : (n : ℕ) → v ≡ (Ok tt) → Ok n ≡ answered (verdict_of v) n
   answer_fine n e = rw e
 
-  pub answer_refused : (n : ℕ) {k p : ℕ} → v ≡ Not k p → Refused k p ≡ answered (verdict_of v) n
+  pub answer_refused : (n : ℕ) {x : Refusal} → v ≡ Err x → Err x ≡ answered (verdict_of v) n
   answer_refused n e = rw e
-
-  pub first_kept : (w : Result Unit Refusal) {k p : ℕ} → v ≡ Not k p → verdict_of (Not k p) ≡ or_else (verdict_of v) (verdict_of w)
-  first_kept w e = rw e
 
 -- ---- a window
 
 module _ (free : Bool) (p n room : ℕ) {w : Window} where
-  pub judged_wrong : {k : ℕ} → w ≡ Wrong k → verdict_of (Not k p) ≡ or_else (window_refusal p w) (refuse (not free && not (ltb n room)) Overfull p)
-  judged_wrong e = rw e
+  pub judged_wrong : {k : Reason} {x : Refusal} → w ≡ Wrong k → x ≡ at k p → verdict_of (Err x) ≡ or_else (window_refusal p w) (refuse (not free && not (ltb n room)) Overfull p)
+  judged_wrong e a = rw (e, a)
 
   module _ {a e : ℕ} (s : w ≡ Span a e) where
     pub judged_free : free ≡ true → verdict_of (Ok tt) ≡ or_else (window_refusal p w) (refuse (not free && not (ltb n room)) Overfull p)
@@ -67,8 +65,8 @@ module _ (free : Bool) (p n room : ℕ) {w : Window} where
     pub judged_fits : free ≡ false → n < room → verdict_of (Ok tt) ≡ or_else (window_refusal p w) (refuse (not free && not (ltb n room)) Overfull p)
     judged_fits f h = rw (s, f, lt-ltb n room h)
 
-    pub judged_over : free ≡ false → room ≤ n → verdict_of (Not Overfull p) ≡ or_else (window_refusal p w) (refuse (not free && not (ltb n room)) Overfull p)
-    judged_over f h = rw (s, f, le-ltb n room h)
+    pub judged_over : {x : Refusal} → x ≡ at Overfull p → free ≡ false → room ≤ n → verdict_of (Err x) ≡ or_else (window_refusal p w) (refuse (not free && not (ltb n room)) Overfull p)
+    judged_over x f h = rw (s, f, x, le-ltb n room h)
 
 -- one period more
 pub period_read : (room id p : ℕ) (free : Bool) (s : List ℕ) {rows rows' : List ℤ} (from : Reading) {to : Reading} {w : Window} (v : Result Unit Refusal) → w ≡ window_of s
@@ -101,7 +99,7 @@ module _ (id : ℕ) (k : Sink) {free : Bool} (w : Window) where
   pub put_free : free ≡ true → k ≡ put_closures id k (cond free [] (window_closures w))
   put_free f = rw f (sym (lines_none 10 (closure_row (pos id)) k))
 
-  pub put_wrong : {n : ℕ} → w ≡ Wrong n → free ≡ false → k ≡ put_closures id k (cond free [] (window_closures w))
+  pub put_wrong : {r : Reason} → w ≡ Wrong r → free ≡ false → k ≡ put_closures id k (cond free [] (window_closures w))
   put_wrong s f = rw (s, f) (sym (lines_none 10 (closure_row (pos id)) k))
 
   pub put_span : {a e : ℕ} {k' : Sink} → w ≡ Span a e → k' ≡ put_closures id k (closure a e ∷ []) → free ≡ false → k' ≡ put_closures id k (cond free [] (window_closures w))

@@ -5,7 +5,8 @@ ghost use Rattle.std.specs.Prelude.{◌≡◌, cond, ◌&&◌, not, [], ◌∷�
 ghost use Rattle.loops.specs.Search.{or_else};
 ghost use Rattle.line_buffer.specs.Lines.{flat_lines};
 ghost use Rattle.line_buffer.specs.inner.Sink.{sink};
-ghost use Rattle.refusals.specs.Refusals.{OVERFULL, refuse, verdict_of};
+ghost use Rattle.refusals.specs.Refusals.{refuse, verdict_of};
+ghost use Rattle.refusals.specs.declared.Reason.TheVariants.{Overfull};
 ghost use Rattle.refusals.specs.Lending.{answered, lent_after};
 ghost use Rattle.rows.specs.declared.Class.TheVariants.{Id};
 ghost use Rattle.rows.specs.Ranges.{in_class};
@@ -45,7 +46,7 @@ fn first_refusal(a: Verdict, b: Verdict) -> Verdict
 
 // A period's own refusal, by its window.
 fn judge_window(w: Window, free: bool, p: usize, n: usize, room: usize) -> Verdict
-    ensures { verdict_of result ≡ or_else (window_refusal p w) (refuse (not free && not (ltb n room)) OVERFULL p) }
+    ensures { verdict_of result ≡ or_else (window_refusal p w) (refuse (not free && not (ltb n room)) Overfull p) }
 {
     if let Window::Wrong(k) = w {
         return Err(k.at(p));

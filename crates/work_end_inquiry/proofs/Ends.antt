@@ -48,8 +48,8 @@ use Rattle.window_rows.specs.inner.Laid.{Holder, calendar_numbers, Laid}
 use Rattle.window_rows.proofs.WindowRows.{window_row, window_naming, resource_windows, windows_none}
 use Rattle.calendar.specs.declared.WorkEnd as calendar
 use Rattle.calendar.specs.declared.WorkEnd.TheVariants as ending
-use Rattle.work_end_inquiry.specs.declared.InquiryAnswer.{InquiryAnswer}
-use Rattle.work_end_inquiry.specs.declared.InquiryAnswer.TheVariants as answer
+use Rattle.work_end_inquiry.specs.declared.Ends as inquiry_end
+use Rattle.work_end_inquiry.specs.declared.Ends.TheVariants as ending_of
 use Rattle.work_end_inquiry.specs.inner.Said.{said}
 use Rattle.work_end_inquiry.specs.Inquiry.{InquiryOutcome, ends, refused, outcome_of, in_order, inquiry_refusal, inquired_calendar, inquiry}
 
@@ -156,7 +156,7 @@ module _ (start work : ℤ) {a : Bool} (e : a ≡ in_class Instant (read start))
   unfolding in_order
   order_no f = ap (λ c. c && in_class SignedTime work) (sym f ∙ rw (to_z-of_z p) at e)
 
-pub said_end : {a : calendar.WorkEnd} {e : ℕ} → a ≡ ending.End e → answer.End e ≡ said a
+pub said_end : {a : calendar.WorkEnd} {e : ℕ} → a ≡ ending.End e → Ok (ending_of.End e) ≡ said a
 said_end h = sym (ap said h)
 
 -- no places, no windows
@@ -221,7 +221,7 @@ module _ (rows : List ℤ) (resource start work : ℤ) (ok : refusal_of rows ≡
       ∙ said_as_is (joint_work_end clock (inquired_calendar rows resource ∷ []) (pos (to_nat start)) work) fits_inquiry
       ∙ ap (λ x. ends (joint_work_end clock (inquired_calendar rows resource ∷ []) x work)) same_start
 
-  pub ending_said : {r : InquiryAnswer} {a : calendar.WorkEnd} {s m : ℕ} {w₀ w : List ℕ} → Laid w₀ w 0 m (inquired_calendar rows (read resource)) → s ≡ to_nat (read start)
+  pub ending_said : {r : Result inquiry_end.Ends Refusal} {a : calendar.WorkEnd} {s m : ℕ} {w₀ w : List ℕ} → Laid w₀ w 0 m (inquired_calendar rows (read resource)) → s ≡ to_nat (read start)
       → a ≡ layout.saying (joint_work_end clock (layout.calendars_of w (0 ∷ m ∷ [])) (pos s) (read work)) → r ≡ said a → SFits w64 resource → SFits w64 start → SFits w64 work
       → outcome_of r ≡ ends (joint_work_end clock (inquired_calendar rows resource ∷ []) start work)
   ending_said {m = m} {w = w} l h e f o p q =
@@ -238,19 +238,19 @@ module _ (rows : List ℤ) {v : Result Unit Refusal} where
     pub owned_of : Owned rows o
     owned_of = (tables_of rows i (no_refusal i.verdict f)).owned
 
-  pub inquiry_refused : (resource start work : ℤ) {e : Refusal} → verdict_of v ≡ refusal_of rows → v ≡ Err e
-      → refused e ≡ inquiry rows resource start work
+  pub inquiry_refused : (resource start work : ℤ) {x : Refusal} {a : Result inquiry_end.Ends Refusal} → verdict_of v ≡ refusal_of rows → v ≡ Err x → a ≡ Err x
+      → outcome_of a ≡ inquiry rows resource start work
   unfolding inquiry inquiry_refusal
-  inquiry_refused resource start work e f = rw (sym e ∙ ap verdict_of f)
+  inquiry_refused resource start work e f b = rw (b, sym e ∙ ap verdict_of f)
 
   module _ (resource start work : ℤ) {a : Bool} (h : a ≡ in_order (read start) (read work)) (e : verdict_of v ≡ refusal_of rows) (f : v ≡ Ok tt)
       (p : SFits w64 start) (q : SFits w64 work) where
     in_order_lem : in_order start work ≡ a
     in_order_lem = sym (rw (to_z-of_z p, to_z-of_z q) at h)
 
-    pub inquiry_own : a ≡ false → refused (at OutOfRange 0) ≡ inquiry rows resource start work
+    pub inquiry_own : {x : Refusal} → x ≡ at OutOfRange 0 → a ≡ false → refused x ≡ inquiry rows resource start work
     unfolding inquiry inquiry_refusal
-    inquiry_own i = rw (no_refusal e f, in_order_lem ∙ i)
+    inquiry_own j i = rw (j, no_refusal e f, in_order_lem ∙ i)
 
     pub inquiry_ends : {r : InquiryOutcome} → r ≡ ends (joint_work_end clock (inquired_calendar rows (read resource) ∷ []) (read start) (read work)) → a ≡ true → SFits w64 resource
         → r ≡ inquiry rows resource start work

@@ -70,14 +70,14 @@ fn resource_calendar(
 }
 
 // In a sheet no end lies beyond the numbers of 64 bits.
-fn answer_of(a: calendar::WorkEnd) -> Ends
+fn answer_of(a: calendar::WorkEnd) -> InquiryAnswer
     ensures { result ≡ said a }
 {
     match a {
-        calendar::WorkEnd::End(e) => Ends::End(e),
-        calendar::WorkEnd::Pause => Ends::Pause,
-        calendar::WorkEnd::Never => Ends::Never,
-        calendar::WorkEnd::Beyond => Ends::Never,
+        calendar::WorkEnd::End(e) => Ok(Ends::End(e)),
+        calendar::WorkEnd::Pause => Ok(Ends::Pause),
+        calendar::WorkEnd::Never => Ok(Ends::Never),
+        calendar::WorkEnd::Beyond => Ok(Ends::Never),
     }
 }
 
@@ -88,9 +88,9 @@ fn ending(
     resource: i64,
     start: i64,
     work: i64,
-) -> Ends
+) -> InquiryAnswer
     requires { (refusal_of rows.now ≡ None) × Kinds rows.now kinds.now × Owned rows.now owned.now × (in_order start work ≡ true) }
-    ensures { outcome_of (Ok result) ≡ ends (joint_work_end clock (inquired_calendar rows.now resource ∷ []) start work) }
+    ensures { outcome_of result ≡ ends (joint_work_end clock (inquired_calendar rows.now resource ∷ []) start work) }
 {
     let mut w = [0u64; 2400];
     let m = resource_calendar(rows, kinds, owned, resource, &mut w);
@@ -108,5 +108,5 @@ pub fn work_end(rows: &[i64], resource: i64, start: i64, work: i64) -> InquiryAn
     if !in_order(start, work) {
         return Err(Reason::OutOfRange.at(0));
     }
-    Ok(ending(rows, &kinds, &owned, resource, start, work))
+    ending(rows, &kinds, &owned, resource, start, work)
 }

@@ -1,5 +1,4 @@
 use mathlib.Core.Path.{refl, ◌∙◌}
-use Rattle.freebusy_components.specs.inner.Room.{space_after}
 use Rattle.freebusy_components.proofs.LineLaws.{sent_room, sent_small, past_less, past_within}
 use Rattle.freebusy_components.proofs.WalkLaws.{space_on, space_end}
 use Rattle.freebusy.proofs.StepLaws.{text_start, text_on, text_end}
