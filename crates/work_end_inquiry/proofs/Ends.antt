@@ -147,15 +147,6 @@ work_in (negsuc n) e = omega arith
 abbrev read : ℤ → ℤ
 read x = to_z w64 (of_z w64 x)
 
-module _ (start work : ℤ) {a : Bool} (e : a ≡ in_class Instant (read start)) (p : SFits w64 start) where
-  pub order_more : {b : Bool} → a ≡ true → b ≡ in_class SignedTime (read work) → SFits w64 work → b ≡ in_order start work
-  unfolding in_order
-  order_more f g q = rw (to_z-of_z q) at g ∙ ap (λ c. c && in_class SignedTime work) (sym f ∙ rw (to_z-of_z p) at e)
-
-  pub order_no : a ≡ false → false ≡ in_order start work
-  unfolding in_order
-  order_no f = ap (λ c. c && in_class SignedTime work) (sym f ∙ rw (to_z-of_z p) at e)
-
 pub said_end : {a : calendar.WorkEnd} {e : ℕ} → a ≡ ending.End e → Ok (ending_of.End e) ≡ said a
 said_end h = sym (ap said h)
 

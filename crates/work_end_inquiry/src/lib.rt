@@ -28,6 +28,7 @@ pub enum Ends {
 
 pub type InquiryAnswer = Result<Ends, Refusal>;
 
+#[tactic(auto, unfolding(crate::specs::Inquiry::in_order))]
 fn in_order(start: i64, work: i64) -> bool
     ensures { result ≡ in_order start work }
 {
