@@ -1,6 +1,6 @@
 -- What reading some periods comes to, where others went before them: the public promises do not speak of it. Assumes nothing.
 use Rattle.std.specs.Prelude.{Ok}
-use Rattle.std.specs.Prelude.{ℕ, ◌≤◌, List, ◌≡◌, ℤ, pos}
+use Rattle.std.specs.Prelude.{ℕ, ◌≤◌, List, ◌≡◌, ℤ}
 use Rattle.std.specs.Prelude.{Option, None, Some}
 use Rattle.loops.specs.Lists.{each}
 use Rattle.loops.specs.Search.{or_else}
@@ -15,14 +15,14 @@ use Rattle.freebusy_components.specs.inner.Room.{space_after}
 use Rattle.freebusy.specs.declared.Reading.{Reading}
 use Rattle.freebusy.specs.Call.{Closure, periods_in, closure_row, closures_of, line_refusal, periods_refusal}
 
--- closures as rows of the resource of that id, one after the other
-abbrev pub put_closures : ℕ → Sink → List Closure → Sink
-put_closures id = put_lines 10 (closure_row (pos id))
+-- closures as rows of the resource, one after the other
+abbrev pub put_closures : ℤ → Sink → List Closure → Sink
+put_closures resource = put_lines 10 (closure_row resource)
 
 -- the periods bs were read, with `room` rows lent: the refusal of the first that is refused, the rows of all as far as they go
-pub record ReadOn (room id : ℕ) (rows : List ℤ) (from : Reading) (bs : List Busy) (rows' : List ℤ) (to : Reading) : Type 0 where
+pub record ReadOn (room : ℕ) (resource : ℤ) (rows : List ℤ) (from : Reading) (bs : List Busy) (rows' : List ℤ) (to : Reading) : Type 0 where
   pub refusal : verdict_of to.refused ≡ or_else (verdict_of from.refused) (periods_refusal room from.count bs)
-  pub numbers : sink rows' to.count ≡ put_closures id (sink rows from.count) (each closures_of bs)
+  pub numbers : sink rows' to.count ≡ put_closures resource (sink rows from.count) (each closures_of bs)
 
 -- no period was read yet
 abbrev pub unread : Reading

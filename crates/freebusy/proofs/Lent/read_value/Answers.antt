@@ -2,7 +2,7 @@ use native.Mathlib.Omega.{arith}
 use lib.ListN.{length-take, length-drop}
 use Rattle.freebusy.proofs.ReadLaws.{going_start, last_long}
 use Rattle.freebusy.proofs.StepLaws.{value_last, value_more}
-use Rattle.freebusy.proofs.read_value.Goals as goal
+use Rattle.freebusy.proofs.Lent.read_value.Goals as goal
 
 pub loop-rest-init : goal.loop-rest-init
 loop-rest-init c = going_start _ _ _ _ _
