@@ -25,7 +25,7 @@ use Rattle.refusals.specs.Refusals.{refuse, verdict_of, at}
 use Rattle.refusals.specs.declared.Reason.TheVariants.{OutOfRange, Overlong, Malformed}
 use Rattle.refusals.specs.declared.Refusal.{Refusal}
 use Rattle.refusals.specs.Lending.{answered, lent_after}
-use Rattle.rows.specs.Class.{id_c}
+use Rattle.rows.specs.declared.Class.TheVariants.{Id}
 use Rattle.rows.specs.Ranges.{in_class}
 use Rattle.freebusy_lines.specs.Lines.{lines}
 use Rattle.freebusy_components.specs.Components.{wrong_from}
@@ -109,14 +109,14 @@ module _ (text : List ℕ) (resource : ℤ) (rows : List ℤ) {w : Option ℕ} (
 
 -- what a test of it told: the machine reads the number back
 module _ (z : ℤ) (f : SFits w64 z) where
-  pub class_read : {b : Bool} → b ≡ in_class id_c (to_z w64 (of_z w64 z)) → b ≡ in_class id_c z
-  class_read e = e ∙ ap (in_class id_c) (to_z-of_z f)
+  pub class_read : {b : Bool} → b ≡ in_class Id (to_z w64 (of_z w64 z)) → b ≡ in_class Id z
+  class_read e = e ∙ ap (in_class Id) (to_z-of_z f)
 
-  module _ {b : Bool} (i : b ≡ in_class id_c (to_z w64 (of_z w64 z))) where
-    is_stray : not b ≡ true → in_class id_c z ≡ false
+  module _ {b : Bool} (i : b ≡ in_class Id (to_z w64 (of_z w64 z))) where
+    is_stray : not b ≡ true → in_class Id z ≡ false
     is_stray h = sym (class_read i) ∙ not-true b h
 
-    is_ours : not b ≡ false → in_class id_c z ≡ true
+    is_ours : not b ≡ false → in_class Id z ≡ true
     is_ours h = sym (class_read i) ∙ not-false b h
 
 -- ---- the call
@@ -131,7 +131,7 @@ module _ (text : List ℕ) (resource : ℤ) (rows : List ℤ) where
   unfolding freebusy_after freebusy_refusal
   long_rows h = rw (lt-ltb 65536 (length text) h)
 
-  module _ {b : Bool} (i : b ≡ in_class id_c (to_z w64 (of_z w64 resource))) (fit : SFits w64 resource) (short : length text ≤ 65536) where
+  module _ {b : Bool} (i : b ≡ in_class Id (to_z w64 (of_z w64 resource))) (fit : SFits w64 resource) (short : length text ≤ 65536) where
     -- 3
     pub stray_answer : {x : Refusal} → x ≡ at OutOfRange 0 → not b ≡ true → Err x ≡ freebusy_answer text resource (length rows / 10)
     unfolding freebusy_answer freebusy_refusal
@@ -168,8 +168,8 @@ accepted_few text resource room {n} e = go (freebusy_refusal text resource room)
   where
     go : (o : Option Refusal) → freebusy_refusal text resource room ≡ o → answered o (length (closures text)) ≡ Ok n → n ≤ room
     go None p q =
-        let a = or_none_right (refuse (ltb 65536 (length text)) Overlong 0) (or_else (refuse (not (in_class id_c resource)) OutOfRange 0) (or_else (line_refusal (wrong_from None 0 (lines text))) (periods_refusal room 0 (periods_in text)))) p in
-        let b = or_none_right (refuse (not (in_class id_c resource)) OutOfRange 0) (or_else (line_refusal (wrong_from None 0 (lines text))) (periods_refusal room 0 (periods_in text))) a in
+        let a = or_none_right (refuse (ltb 65536 (length text)) Overlong 0) (or_else (refuse (not (in_class Id resource)) OutOfRange 0) (or_else (line_refusal (wrong_from None 0 (lines text))) (periods_refusal room 0 (periods_in text)))) p in
+        let b = or_none_right (refuse (not (in_class Id resource)) OutOfRange 0) (or_else (line_refusal (wrong_from None 0 (lines text))) (periods_refusal room 0 (periods_in text))) a in
         let d = or_none_right (line_refusal (wrong_from None 0 (lines text))) (periods_refusal room 0 (periods_in text)) b in
         let k : length (closures text) ≡ n = cc in
         omega (arith, passed_fit room (pos 0) (periods_in text) 0 (omega arith) d)

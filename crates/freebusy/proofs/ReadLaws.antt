@@ -3,7 +3,7 @@ use Prim.Native.Nat.{ℕ, ◌+◌, ◌^◌, ◌<◌, ◌≤◌}
 use mathlib.Core.Bool.{Bool, true, false, cond, ◌&&◌, not}
 use mathlib.Core.List.{List, [], ◌∷◌, ◌++◌, append-nil}
 use mathlib.Core.Logic.{◌⊎◌, inl, inr}
-use Rattle.std.specs.Prelude.{Option, None, Some}
+use Rattle.std.specs.Prelude.{Option, None, Some, Result, Ok, Err}
 use mathlib.Core.Path.{◌≡◌, refl, sym, ap, ◌∙◌}
 use native.Mathlib.Omega.{arith}
 use native.Mathlib.Nat.{add-zero}
@@ -19,11 +19,11 @@ use Rattle.loops.proofs.PlaceLaws.{or_none_lem, or_assoc, or_none_left, or_none_
 use Rattle.line_buffer.specs.inner.Sink.{Sink, sink, more, put_line, put_lines}
 use Rattle.line_buffer.proofs.LineLaws.{more_below, lines_append, lines_none, lines_kept}
 use Rattle.refusals.specs.Refusals.{refuse, verdict_of}
+use Rattle.refusals.specs.declared.Reason.{Reason}
 use Rattle.refusals.specs.declared.Reason.TheVariants.{Overfull}
 use Rattle.refusals.specs.declared.Refusal.{Refusal}
 use Rattle.freebusy_periods.specs.Period.{window_of}
-use Rattle.freebusy_periods.specs.declared.Window.{Window}
-use Rattle.freebusy_periods.specs.declared.Window.TheVariants.{Span, Wrong}
+use Rattle.freebusy_periods.specs.declared.Span.{Span}
 use Rattle.freebusy_components.specs.Components.{Busy}
 use Rattle.freebusy.specs.declared.Reading.{Reading}
 use Rattle.freebusy.specs.Call.{Closure, closure_row, window_closures, closures_of, window_refusal, period_refusal, periods_refusal}
@@ -36,12 +36,12 @@ passed_one : (room n : ℕ) (b : Busy) → period_refusal room n b ≡ None → 
 unfolding period_refusal closures_of
 passed_one room n b e = go b.free (window_of b.bytes) (ltb n room) refl e
   where
-    go : (f : Bool) (w : Window) (t : Bool) → ltb n room ≡ t → or_else (window_refusal b.place w) (refuse (not f && not t) Overfull b.place) ≡ None
+    go : (f : Bool) (w : Result Span Reason) (t : Bool) → ltb n room ≡ t → or_else (window_refusal b.place w) (refuse (not f && not t) Overfull b.place) ≡ None
         → (cond f [] (window_closures w) ≡ []) ⊎ ((c : Closure) × (cond f [] (window_closures w) ≡ c ∷ []) × (n < room))
-    go f (Wrong k) t q e = absurd (none_some (sym e))
-    go true (Span a e') t q e = inl refl
-    go false (Span a e') true q e = inr (_, refl, ltb-true n room q)
-    go false (Span a e') false q e = absurd (none_some (sym e))
+    go f (Err k) t q e = absurd (none_some (sym e))
+    go true (Ok v) t q e = inl refl
+    go false (Ok v) true q e = inr (_, refl, ltb-true n room q)
+    go false (Ok v) false q e = absurd (none_some (sym e))
 
 -- ---- some periods, and then others
 

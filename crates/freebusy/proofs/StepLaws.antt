@@ -1,5 +1,5 @@
 -- What the steps of the reader come to, by their tests: verdicts, windows, the parts of a value, the lines of a text. Assumes nothing.
-use Rattle.std.specs.Prelude.{Result, Ok, Err}
+use Rattle.std.specs.Prelude.{Result, Ok, Err, IfOk}
 use Rattle.std.specs.Result.{result_and}
 use Prim.Native.Nat.{ℕ, ◌+◌, ◌-◌, ◌^◌, ◌≤◌, ◌<◌, min}
 use mathlib.Core.Bool.{Bool, true, false, cond, ◌&&◌, not}
@@ -29,14 +29,13 @@ use Rattle.freebusy_lines.specs.Lines.{unfolded, lines}
 use Rattle.freebusy_lines.specs.inner.Reading.{first_sent}
 use Rattle.freebusy_lines.proofs.LineLaws.{lines_on}
 use Rattle.freebusy_periods.specs.Period.{window_of}
-use Rattle.freebusy_periods.specs.declared.Window.{Window}
-use Rattle.freebusy_periods.specs.declared.Window.TheVariants.{Span, Wrong}
+use Rattle.freebusy_periods.specs.declared.Span.{Span}
 use Rattle.freebusy_property.specs.Property.{is_freebusy, is_free, value_of, periods_of}
 use Rattle.freebusy_components.specs.Components.{Busy, busy, open_after, periods_at, periods_from}
 use Rattle.freebusy_components.proofs.LineLaws.{lines_none as no_lines, past_part}
 use Rattle.freebusy.specs.declared.Reading.{Reading}
 use Rattle.freebusy.specs.Call.{closure, closure_row, window_closures, closures_of, window_refusal, period_refusal, periods_in}
-use Rattle.freebusy.specs.inner.Reading.{put_closures, ReadOn, unread, Early}
+use Rattle.freebusy.specs.inner.Reading.{put_closures, ReadOn, unread}
 use Rattle.freebusy.proofs.ReadLaws.{Going, read_none, read_one, going_start, going_on, going_last, going_end}
 use Rattle.freebusy.proofs.ShortLaws.{short_periods}
 
@@ -47,7 +46,7 @@ verdict_and (Ok _) v = refl
 verdict_and (Err x) v = refl
 
 -- one period more
-pub period_read : (room : ℕ) (resource : ℤ) (p : ℕ) (free : Bool) (s : List ℕ) {rows rows' : List ℤ} (from : Reading) {to : Reading} {w : Window} (v : Result Unit Refusal) → w ≡ window_of s
+pub period_read : (room : ℕ) (resource : ℤ) (p : ℕ) (free : Bool) (s : List ℕ) {rows rows' : List ℤ} (from : Reading) {to : Reading} {w : Result Span Reason} (v : Result Unit Refusal) → w ≡ window_of s
     → verdict_of v ≡ or_else (window_refusal p w) (refuse (not free && not (ltb from.count room)) Overfull p)
     → to.refused ≡ result_and from.refused v
     → sink rows' to.count ≡ put_closures resource (sink rows from.count) (cond free [] (window_closures w))
@@ -66,11 +65,11 @@ closure_put resource {start} {end} k e b d =
     let t : end < 2 ^ 63 = omega arith in
     (rw (to_z_pos w64 s, to_z_pos w64 t) at e) ∙ sym (lines_one 10 (closure_row resource) k (closure start end))
 
-module _ (resource : ℤ) (k : Sink) (free : Bool) (w : Window) where
+module _ (resource : ℤ) (k : Sink) (free : Bool) (w : Result Span Reason) where
   pub put_free : not free ≡ false → k ≡ put_closures resource k (cond free [] (window_closures w))
   put_free f = rw (not-false free f) (sym (lines_none 10 (closure_row resource) k))
 
-  pub put_wrong : {r : Reason} → w ≡ Wrong r → k ≡ put_closures resource k (cond free [] (window_closures w))
+  pub put_wrong : {r : Reason} → w ≡ Err r → k ≡ put_closures resource k (cond free [] (window_closures w))
   put_wrong s = rw s (go free)
     where
       go : (b : Bool) → k ≡ put_closures resource k (cond b [] [])
@@ -78,24 +77,22 @@ module _ (resource : ℤ) (k : Sink) (free : Bool) (w : Window) where
       go false = sym (lines_none 10 (closure_row resource) k)
 
   -- its numbers are read back from their bits
-  pub put_span : {a e : ℕ} {k' : Sink} → w ≡ Span a e → Early w → not free ≡ true → SFits w64 resource
-      → k' ≡ put_line 10 k (pos 15 ∷ to_z w64 (of_z w64 resource) ∷ pos 1 ∷ to_z w64 a ∷ to_z w64 e ∷ pos 0 ∷ pos 0 ∷ pos 0 ∷ pos 0 ∷ pos 0 ∷ [])
+  pub put_span : {v : Span} {k' : Sink} → w ≡ Ok v → IfOk w (λ v. (v.start ≤ 4000000000000) × (v.end ≤ 4000000000000)) → not free ≡ true → SFits w64 resource
+      → k' ≡ put_line 10 k (pos 15 ∷ to_z w64 (of_z w64 resource) ∷ pos 1 ∷ to_z w64 v.start ∷ to_z w64 v.end ∷ pos 0 ∷ pos 0 ∷ pos 0 ∷ pos 0 ∷ pos 0 ∷ [])
       → k' ≡ put_closures resource k (cond free [] (window_closures w))
   put_span s h f r q = let early = rw s at h in rw (s, not-true free f) (closure_put resource k (rw (to_z-of_z r) at q) early.0 early.1)
 
 -- ---- the parts of a value
 
-module _ {room : ℕ} {resource : ℤ} {rows₀ : List ℤ} {from : Reading} {all : List Busy} {rows : List ℤ} {so_far : Reading} (p : ℕ) (free : Bool) (rest : List ℕ)
-    (g : Going room resource rows₀ from all rows so_far (map (busy p free) (parts 44 rest)))
-    {s : List ℕ} {rows' : List ℤ} {to : Reading} (r : ReadOn room resource rows so_far (busy p free s ∷ []) rows' to) (e : s ≡ until_byte 44 rest) where
-  pub value_last : length rest ≤ length s → ReadOn room resource rows₀ from all rows' to
-  value_last h = going_last g (busy p free s ∷ []) (rw (parts_only 44 rest s e h)) r
+-- of a part that the iterator gave, and when it has no more
+module _ {room : ℕ} {resource : ℤ} {rows₀ : List ℤ} {from : Reading} {all : List Busy} {rows : List ℤ} {so_far : Reading} (p : ℕ) (free : Bool)
+    {left : List (List ℕ)} (g : Going room resource rows₀ from all rows so_far (map (busy p free) left)) where
+  pub value_more : {s : List ℕ} {more : List (List ℕ)} → left ≡ s ∷ more → {rows' : List ℤ} {to : Reading}
+      → ReadOn room resource rows so_far (busy p free s ∷ []) rows' to → room < 2 ^ 60 → Going room resource rows₀ from all rows' to (map (busy p free) more)
+  value_more {s} e r small = going_on g small (busy p free s ∷ []) _ (ap (map (busy p free)) e) r
 
-  pub value_more : length s < length rest → room < 2 ^ 60
-      → Going room resource rows₀ from all rows' to (map (busy p free) (parts 44 (take (length rest - (length s + 1)) (drop (length s + 1) rest))))
-  value_more h small =
-      let k : parts 44 rest ≡ s ∷ parts 44 (drop (length s + 1) rest) = rw e (parts_more 44 rest (rw e at h)) in
-      going_on g small (busy p free s ∷ []) _ (rw (k, rest_is (length s + 1) rest)) r
+  pub value_last : left ≡ [] → ReadOn room resource rows₀ from all rows so_far
+  value_last e = going_end g (ap (map (busy p free)) e)
 
 -- ---- a line
 

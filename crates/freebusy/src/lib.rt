@@ -1,27 +1,23 @@
 // Office calendars: busy periods are read to lent rows as closed windows of a resource, or the calendar is refused with a number and a place.
 #![tactic(auto)]
 
-ghost use Rattle.std.specs.Prelude.{◌≡◌, cond, ◌&&◌, not, [], ◌∷◌, map, ◌/◌, ◌^◌, ◌<◌, ◌≤◌, ltb, pos, length};
+ghost use Rattle.std.specs.Prelude.{◌≡◌, IfOk, cond, ◌&&◌, not, [], ◌∷◌, map, ◌/◌, ◌^◌, ◌<◌, ◌≤◌, ltb, pos, length};
 ghost use Rattle.loops.specs.Search.{or_else};
 ghost use Rattle.line_buffer.specs.Lines.{flat_lines};
 ghost use Rattle.line_buffer.specs.inner.Sink.{sink};
 ghost use Rattle.refusals.specs.Refusals.{refuse, verdict_of};
 ghost use Rattle.refusals.specs.declared.Reason.TheVariants.{Overfull};
 ghost use Rattle.refusals.specs.Lending.{answered, lent_after};
-ghost use Rattle.rows.specs.Class.{id_c};
-ghost use Rattle.rows.specs.Ranges.{in_class};
 ghost use Rattle.text_fields.specs.Parts.{parts};
-ghost use Rattle.freebusy_lines.specs.Lines.{unfolded};
 ghost use Rattle.freebusy_components.specs.Components.{busy, open_after, periods_at};
 ghost use Rattle.freebusy_components.specs.inner.Room.{space_after};
-ghost use Rattle.freebusy.specs.Call.{closure, window_closures, closures, closure_row, window_refusal, periods_in, periods_refusal, freebusy_answer, freebusy_after};
-ghost use Rattle.freebusy.specs.inner.Reading.{put_closures, ReadOn, unread, space_read, Early, text_refusal};
+ghost use Rattle.freebusy.specs.Call.{window_closures, closures, closure_row, window_refusal, periods_in, periods_refusal, freebusy_answer, freebusy_after};
+ghost use Rattle.freebusy.specs.inner.Reading.{put_closures, ReadOn, unread, space_read, text_refusal};
 
-use freebusy_periods::Window;
+use freebusy_periods::Span;
 use refusals::{Answer, Reason, Verdict};
-
-// The class of an id.
-const ID: u8 = 2;
+use rows::Class;
+use text_fields::Parts;
 
 // What is lent: so many rows, for closures of a resource.
 #[derive(Clone, Copy)]
@@ -47,19 +43,19 @@ struct LineRead {
 
 impl Lent {
     // A period's own refusal, by its window, where n rows went before it.
-    fn judge_window(self, w: Window, free: bool, p: usize, n: usize) -> Verdict
+    fn judge_window(self, w: Result<Span, Reason>, free: bool, p: usize, n: usize) -> Verdict
         ensures { verdict_of result ≡ or_else (window_refusal p w) (refuse (not free && not (ltb n self.room)) Overfull p) }
     {
         match w {
-            Window::Wrong(reason) => Err(reason.at(p)),
-            Window::Span(_, _) if !free && self.room <= n => Err(Reason::Overfull.at(p)),
-            Window::Span(_, _) => Ok(()),
+            Err(reason) => Err(reason.at(p)),
+            Ok(_) if !free && self.room <= n => Err(Reason::Overfull.at(p)),
+            Ok(_) => Ok(()),
         }
     }
 
     // The row of a period's window, a closed window of the resource, unless the period is FREE.
-    fn put_window(self, rows: &mut [i64], n: usize, free: bool, w: Window) -> usize
-        requires { Early w }
+    fn put_window(self, rows: &mut [i64], n: usize, free: bool, w: Result<Span, Reason>) -> usize
+        requires { IfOk w (λ v. (v.start ≤ 4000000000000) × (v.end ≤ 4000000000000)) }
         ensures { sink rows.new result ≡ put_closures self.resource (sink rows.old n) (cond free [] (window_closures w)) }
     {
         match w {
@@ -111,17 +107,11 @@ impl Lent {
     ) -> Reading
         ensures { ReadOn self.room self.resource rows.old found (map (busy p free) (parts 44 value.now)) rows.new result }
     {
-        let mut rest = value;
         let mut so_far = found;
-        loop {
-            let s = text_fields::first_part(rest, b',');
+        for s in Parts::new(value, b',') {
             so_far = self.read_period(so_far, s, free, p, rows);
-            let n = s.len();
-            if rest.len() <= n {
-                return so_far;
-            }
-            rest = &rest[n + 1..];
         }
+        so_far
     }
 
     // The periods of a line.
@@ -193,13 +183,6 @@ impl Lent {
     }
 }
 
-fn is_id(resource: i64) -> bool
-    ensures { result ≡ in_class id_c resource }
-{
-    let ranges = rows::range_table();
-    rows::in_class(&ranges, ID, resource)
-}
-
 // The periods of a text whose lines have passed. They are read first with none of the rows lent, so that a refusal changes none.
 fn read_closures(text: &[u8], resource: i64, rows: &mut [i64], space: &mut [u8]) -> Answer
     requires { (length text.now ≤ length space.old) × (length text.now < 65537) }
@@ -238,7 +221,7 @@ pub fn read_freebusy(text: &[u8], resource: i64, rows: &mut [i64]) -> Answer
     if 65536 < text.len() {
         return Err(Reason::Overlong.at(0));
     }
-    if !is_id(resource) {
+    if !Class::Id.allows(resource) {
         return Err(Reason::OutOfRange.at(0));
     }
     read_calendar(text, resource, rows)

@@ -15,14 +15,8 @@ ghost use Rattle.work_end_inquiry.specs.Inquiry.{ends, outcome_of, in_order, inq
 ghost use Rattle.work_end_inquiry.specs.inner.Said.{said};
 
 use refusals::{Reason, Refusal};
+use rows::Class;
 use sheet::Found;
-
-// The classes of an id, of an instant and of an amount that may be negative.
-const ID: u8 = 2;
-
-const T: u8 = 5;
-
-const G: u8 = 7;
 
 // The work ends at an instant; or the start is no working time; or too little working time follows.
 #[derive(Clone, Copy, PartialEq, Eq)]
@@ -37,11 +31,7 @@ pub type InquiryAnswer = Result<Ends, Refusal>;
 fn in_order(start: i64, work: i64) -> bool
     ensures { result ≡ in_order start work }
 {
-    let ranges = rows::range_table();
-    if rows::in_class(&ranges, T, start) {
-        return rows::in_class(&ranges, G, work);
-    }
-    false
+    Class::Instant.allows(start) && Class::SignedTime.allows(work)
 }
 
 // The calendar of the resource of that id, from place 0 of w on, and the place past its last window: none where the sheet has no such resource.
@@ -73,22 +63,21 @@ fn resource_calendar(
     requires { (refusal_of rows.now ≡ None) × Kinds rows.now kinds.now × Owned rows.now owned.now × (length w.old ≡ 2400) }
     ensures { Laid w.old w.new 0 result (inquired_calendar rows.now resource) }
 {
-    let ranges = rows::range_table();
-    if rows::in_class(&ranges, ID, resource) {
+    if Class::Id.allows(resource) {
         return resource_windows(rows, kinds, owned, rows::nat(resource), w);
     }
     0
 }
 
 // In a sheet no end lies beyond the numbers of 64 bits.
-fn answer_of(a: calendar::WorkEnd) -> Ends
+fn answer_of(a: calendar::WorkEnd) -> InquiryAnswer
     ensures { result ≡ said a }
 {
     match a {
-        calendar::WorkEnd::End(e) => Ends::End(e),
-        calendar::WorkEnd::Pause => Ends::Pause,
-        calendar::WorkEnd::Never => Ends::Never,
-        calendar::WorkEnd::Beyond => Ends::Never,
+        calendar::WorkEnd::End(e) => Ok(Ends::End(e)),
+        calendar::WorkEnd::Pause => Ok(Ends::Pause),
+        calendar::WorkEnd::Never => Ok(Ends::Never),
+        calendar::WorkEnd::Beyond => Ok(Ends::Never),
     }
 }
 
@@ -99,9 +88,9 @@ fn ending(
     resource: i64,
     start: i64,
     work: i64,
-) -> Ends
+) -> InquiryAnswer
     requires { (refusal_of rows.now ≡ None) × Kinds rows.now kinds.now × Owned rows.now owned.now × (in_order start work ≡ true) }
-    ensures { outcome_of (Ok result) ≡ ends (joint_work_end clock (inquired_calendar rows.now resource ∷ []) start work) }
+    ensures { outcome_of result ≡ ends (joint_work_end clock (inquired_calendar rows.now resource ∷ []) start work) }
 {
     let mut w = [0u64; 2400];
     let m = resource_calendar(rows, kinds, owned, resource, &mut w);
@@ -119,5 +108,5 @@ pub fn work_end(rows: &[i64], resource: i64, start: i64, work: i64) -> InquiryAn
     if !in_order(start, work) {
         return Err(Reason::OutOfRange.at(0));
     }
-    Ok(ending(rows, &kinds, &owned, resource, start, work))
+    ending(rows, &kinds, &owned, resource, start, work)
 }

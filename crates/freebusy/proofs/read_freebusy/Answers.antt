@@ -6,8 +6,8 @@ use Rattle.freebusy.proofs.read_freebusy.Goals as goal
 pub returns-then-text-gt65536 : goal.returns-then-text-gt65536
 returns-then-text-gt65536 c = search (rules, long_answer, long_rows)
 
-pub returns-then-not-is_id : goal.returns-then-not-is_id
-returns-then-not-is_id c =
+pub returns-then-not-allows : goal.returns-then-not-allows
+returns-then-not-allows c =
     record {
       value = search stray_answer;
       rows_after = search stray_rows;

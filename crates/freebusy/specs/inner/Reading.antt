@@ -7,8 +7,6 @@ use Rattle.loops.specs.Search.{or_else}
 use Rattle.line_buffer.specs.inner.Sink.{Sink, sink, put_lines}
 use Rattle.refusals.specs.Refusals.{verdict_of}
 use Rattle.refusals.specs.declared.Refusal.{Refusal}
-use Rattle.freebusy_periods.specs.declared.Window.{Window}
-use Rattle.freebusy_periods.specs.declared.Window.TheVariants.{Span, Wrong}
 use Rattle.freebusy_lines.specs.Lines.{lines}
 use Rattle.freebusy_components.specs.Components.{Busy, wrong_from}
 use Rattle.freebusy_components.specs.inner.Room.{space_after}
@@ -32,11 +30,6 @@ unread = record { count = 0; refused = Ok tt }
 abbrev pub space_read : Option Refusal → List ℕ → List ℕ → List ℕ
 space_read None text space = space_after text (space_after text space)
 space_read (Some r) text space = space_after text space
-
--- a window's ends are instants of a sheet
-abbrev pub Early : Window → Type 0
-Early (Span a e) = (a ≤ 4_000_000_000_000) × (e ≤ 4_000_000_000_000)
-Early (Wrong k) = Unit
 
 -- what a text is refused by that is not overlong, for a resource that may be: 11 by line, then by period
 abbrev pub text_refusal : List ℕ → ℕ → Option Refusal
