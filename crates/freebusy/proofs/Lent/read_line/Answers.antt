@@ -1,7 +1,7 @@
 use Rattle.freebusy.proofs.ShortLaws.{short_open}
 use Rattle.freebusy.proofs.StepLaws.{short_read}
 use borrow.Author.Rules.{rules}
-use Rattle.freebusy.proofs.read_line.Goals as goal
+use Rattle.freebusy.proofs.Lent.read_line.Goals as goal
 
 pub returns-then-l-lt8 : goal.returns-then-l-lt8
 returns-then-l-lt8 c =
