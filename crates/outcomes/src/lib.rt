@@ -7,7 +7,7 @@ ghost use Rattle.work_end_inquiry.specs.Inquiry.{outcome_of};
 ghost use Rattle.outcomes.specs.Outcome.{of_answer, of_refusal, of_inquiry};
 
 use refusals::{Answer, Verdict};
-use work_end_inquiry::{Ends, InquiryAnswer};
+use work_end_inquiry::{InquiryEnd, InquiryAnswer};
 
 // A refusal by number and place, or, with number 0, acceptance and a count in the place.
 #[repr(C)]
@@ -69,9 +69,9 @@ pub fn of_inquiry(a: InquiryAnswer) -> WorkEndOutcome
     ensures { result ≡ of_inquiry (outcome_of a) }
 {
     match a {
-        Ok(Ends::End(e)) => accepted(0, e),
-        Ok(Ends::Pause) => accepted(1, 0),
-        Ok(Ends::Never) => accepted(2, 0),
+        Ok(InquiryEnd::End(e)) => accepted(0, e),
+        Ok(InquiryEnd::Pause) => accepted(1, 0),
+        Ok(InquiryEnd::Never) => accepted(2, 0),
         Err(e) => WorkEndOutcome {
             number: e.reason.number(),
             place: e.place as u64,

@@ -52,8 +52,8 @@ use Rattle.window_rows.specs.inner.Laid.{Holder}
 use Rattle.window_rows.proofs.WindowRows.{window_row, window_naming, resource_windows, windows_none}
 use Rattle.calendar.specs.declared.WorkEnd as calendar
 use Rattle.calendar.specs.declared.WorkEnd.TheVariants as ending
-use Rattle.work_end_inquiry.specs.declared.Ends as inquiry_end
-use Rattle.work_end_inquiry.specs.declared.Ends.TheVariants as ending_of
+use Rattle.work_end_inquiry.specs.declared.InquiryEnd.{InquiryEnd}
+use Rattle.work_end_inquiry.specs.declared.InquiryEnd.TheVariants as ending_of
 use Rattle.work_end_inquiry.specs.inner.Said.{said}
 use Rattle.work_end_inquiry.specs.Inquiry.{InquiryOutcome, ends, refused, outcome_of, in_order, inquiry_refusal, inquired_calendar, inquiry}
 
@@ -196,7 +196,7 @@ module _ (rows : List ℤ) (resource start work : ℤ) (ok : refusal_of rows ≡
   same_start = (start_in start (and_left (in_class Instant start) (in_class SignedTime work) i)).0
 
   -- the windows w are those of the list l, m of them
-  pub ending_said : (l : WindowList) {r : Result inquiry_end.Ends Refusal} {a : calendar.WorkEnd} {s m : ℕ} {w : List TimeWindow} → calendar_in l ≡ inquired_calendar rows (read resource)
+  pub ending_said : (l : WindowList) {r : Result InquiryEnd Refusal} {a : calendar.WorkEnd} {s m : ℕ} {w : List TimeWindow} → calendar_in l ≡ inquired_calendar rows (read resource)
       → m ≡ length (listed l) → w ≡ listed l → s ≡ to_nat (read start)
       → a ≡ layout.saying (joint_work_end clock (layout.calendars_of w (record { from = 0; to = m } ∷ [])) (pos s) (read work)) → r ≡ said a → SFits w64 resource → SFits w64 start → SFits w64 work
       → outcome_of r ≡ ends (joint_work_end clock (inquired_calendar rows resource ∷ []) start work)
@@ -218,7 +218,7 @@ module _ (rows : List ℤ) {v : Result Unit Refusal} where
     pub owned_of : Owned rows o
     owned_of = (tables_of rows i (no_refusal i.verdict f)).owned
 
-  pub inquiry_refused : (resource start work : ℤ) {x : Refusal} {a : Result inquiry_end.Ends Refusal} → verdict_of v ≡ refusal_of rows → v ≡ Err x → a ≡ Err x
+  pub inquiry_refused : (resource start work : ℤ) {x : Refusal} {a : Result InquiryEnd Refusal} → verdict_of v ≡ refusal_of rows → v ≡ Err x → a ≡ Err x
       → outcome_of a ≡ inquiry rows resource start work
   unfolding inquiry inquiry_refusal
   inquiry_refused resource start work e f b = rw (b, sym e ∙ ap verdict_of f)

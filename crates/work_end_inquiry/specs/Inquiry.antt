@@ -16,15 +16,15 @@ use Rattle.sheet.specs.Refusals.{refusal_of}
 use Rattle.model.specs.Sheet.{sheet}
 use Rattle.model.specs.Resource.{resource_calendar}
 use Rattle.std.specs.Prelude.{Result, Ok, Err}
-use Rattle.work_end_inquiry.specs.declared.Ends.{Ends}
-use Rattle.work_end_inquiry.specs.declared.Ends.TheVariants.{End, Pause, Never}
+use Rattle.work_end_inquiry.specs.declared.InquiryEnd.{InquiryEnd}
+use Rattle.work_end_inquiry.specs.declared.InquiryEnd.TheVariants.{End, Pause, Never}
 
 pub data InquiryOutcome : Type 0 where
   refused : Refusal → InquiryOutcome
   ends : Ending ℤ → InquiryOutcome
 
 -- what an answer says
-abbrev pub outcome_of : Result Ends Refusal → InquiryOutcome
+abbrev pub outcome_of : Result InquiryEnd Refusal → InquiryOutcome
 outcome_of (Ok (End e)) = ends (ends_at (pos e))
 outcome_of (Ok Pause) = ends pauses
 outcome_of (Ok Never) = ends never

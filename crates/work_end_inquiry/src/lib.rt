@@ -22,13 +22,13 @@ use window_rows::WindowList;
 
 // The work ends at an instant; or the start is no working time; or too little working time follows.
 #[derive(Clone, Copy, PartialEq, Eq)]
-pub enum Ends {
+pub enum InquiryEnd {
     End(u64),
     Pause,
     Never,
 }
 
-pub type InquiryAnswer = Result<Ends, Refusal>;
+pub type InquiryAnswer = Result<InquiryEnd, Refusal>;
 
 #[tactic(auto, unfolding(crate::specs::Inquiry::in_order))]
 fn in_order(start: i64, work: i64) -> bool
@@ -71,10 +71,10 @@ fn answer_of(a: calendar::WorkEnd) -> InquiryAnswer
     ensures { result ≡ said a }
 {
     match a {
-        calendar::WorkEnd::End(e) => Ok(Ends::End(e)),
-        calendar::WorkEnd::Pause => Ok(Ends::Pause),
-        calendar::WorkEnd::Never => Ok(Ends::Never),
-        calendar::WorkEnd::Beyond => Ok(Ends::Never),
+        calendar::WorkEnd::End(e) => Ok(InquiryEnd::End(e)),
+        calendar::WorkEnd::Pause => Ok(InquiryEnd::Pause),
+        calendar::WorkEnd::Never => Ok(InquiryEnd::Never),
+        calendar::WorkEnd::Beyond => Ok(InquiryEnd::Never),
     }
 }
 
