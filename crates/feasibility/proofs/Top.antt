@@ -61,14 +61,14 @@ module _ (rows o : List ℤ) where
   refused_sheet h = ends_refused 4 four (omega arith) (λ f. refl) rows (findings rows) o h
 
   module _ {v : Result Unit Refusal} {e : Refusal} where
-    pub rows_answer : verdict_of v ≡ refusal_of rows → v ≡ Err e → Err e ≡ check_answer rows (length o / 4)
-    rows_answer q e = (refused_sheet (by_rows rows q e)).0
+    pub rows_answer : {a : Result ℕ Refusal} → verdict_of v ≡ refusal_of rows → v ≡ Err e → a ≡ Err e → a ≡ check_answer rows (length o / 4)
+    rows_answer q e b = b ∙ (refused_sheet (by_rows rows q e)).0
 
     pub rows_left : verdict_of v ≡ refusal_of rows → v ≡ Err e → o ≡ findings_after rows o
     rows_left q e = (refused_sheet (by_rows rows q e)).1
 
-    pub times_answer : verdict_of v ≡ time_refusal rows → refusal_of rows ≡ None → v ≡ Err e → Err e ≡ check_answer rows (length o / 4)
-    times_answer q a e = (refused_sheet (by_times rows a q e)).0
+    pub times_answer : {b : Result ℕ Refusal} → verdict_of v ≡ time_refusal rows → refusal_of rows ≡ None → v ≡ Err e → b ≡ Err e → b ≡ check_answer rows (length o / 4)
+    times_answer q a e b = b ∙ (refused_sheet (by_times rows a q e)).0
 
     pub times_left : verdict_of v ≡ time_refusal rows → refusal_of rows ≡ None → v ≡ Err e → o ≡ findings_after rows o
     times_left q a e = (refused_sheet (by_times rows a q e)).1

@@ -2,13 +2,13 @@
 use Prim.Native.Nat.{ℕ, zero, suc, ◌-◌, ◌≤◌, ◌<◌}
 use mathlib.Core.Bool.{Bool, true, false, ◌&&◌, ◌||◌}
 use mathlib.Core.List.{List, [], ◌∷◌}
-use Rattle.std.specs.Prelude.{Option, None, Some}
-use Rattle.std.specs.Prelude.{option_map}
+use Rattle.std.specs.Prelude.{Option, None, Some, option_map}
 use mathlib.Core.Path.{◌≡◌, refl, sym, ap, ap₂, ◌∙◌}
 use native.Mathlib.Omega.{arith}
-use lib.Dec.{eqb, ltb}
+use lib.Dec.{eqb}
 use lib.ListN.{get_or, get_or-map}
-use borrow.Author.Tests.{lt-leb, le-leb, ne_eqb}
+use Rattle.std.proofs.lemmas.Bool.Decides.{nat_tests}
+use borrow.Author.Tests.{lt-leb, ne_eqb}
 use Rattle.loops.specs.Lists.{is_empty, option}
 use Rattle.text_fields.specs.Parts.{until_byte}
 use Rattle.letters.specs.Letters.{capital, capitals}
@@ -17,7 +17,6 @@ use Rattle.freebusy_lines.specs.Bytes.{after}
 use Rattle.freebusy_lines.proofs.CaseLaws.{until_capitals, after_capitals}
 use Rattle.freebusy_characters.specs.Utf8.{between, utf8_tail, utf8_2, starts_three, utf8_3, starts_four, utf8_4, non_us_ascii, first_of, characters_from, characters}
 use Rattle.freebusy_characters.specs.ParamValue.{qsafe_char, safe_char, paramtext, quoted_string, param_value}
-use Rattle.freebusy_characters.proofs.ByteLaws.{qsafe_in, safe_else}
 
 -- ---- bytes above 127
 
@@ -80,7 +79,12 @@ module _ (t : ℕ → Bool) (h : (x : ℕ) → t (capital x) ≡ t x) where
   from_unseen (suc k) [] = refl
   from_unseen (suc k) (x ∷ l) = from_unseen k l
   from_unseen zero (x ∷ l) =
-      ap₂ (λ n b. ltb 0 n && b) (first_unseen (x ∷ l)) (ap (λ n. characters_from t (n - 1) (capitals l)) (first_unseen (x ∷ l)) ∙ from_unseen (first_of t (x ∷ l) - 1) l)
+      ap (λ o. option o false (λ n. characters_from t (n - 1) (capitals l))) (first_unseen (x ∷ l)) ∙ go (first_of t (x ∷ l)) (λ n. from_unseen (n - 1) l)
+    where
+      go : (o : Option ℕ) → ((n : ℕ) → characters_from t (n - 1) (capitals l) ≡ characters_from t (n - 1) l)
+          → option o false (λ n. characters_from t (n - 1) (capitals l)) ≡ option o false (λ n. characters_from t (n - 1) l)
+      go None u = refl
+      go (Some n) u = u n
 
   characters_unseen : (l : List ℕ) → characters t (capitals l) ≡ characters t l
   characters_unseen l = from_unseen 0 l
@@ -88,10 +92,12 @@ module _ (t : ℕ → Bool) (h : (x : ℕ) → t (capital x) ≡ t x) where
 -- ---- values
 
 qsafe_letter : (x : ℕ) → 65 ≤ x → x ≤ 122 → qsafe_char x ≡ true
-qsafe_letter x l m = sym (qsafe_in x (omega arith) (λ e. omega arith)) ∙ le-leb x 126 (omega arith)
+unfolding qsafe_char
+qsafe_letter x l m = grind (arith, nat_tests)
 
 safe_letter : (x : ℕ) → 65 ≤ x → x ≤ 122 → safe_char x ≡ true
-safe_letter x l m = sym (safe_else x (λ e. omega arith) (λ e. omega arith) (λ e. omega arith) (sym (qsafe_letter x l m)))
+unfolding safe_char
+safe_letter x l m = grind (arith, nat_tests)
 
 qsafe_unseen : (x : ℕ) → qsafe_char (capital x) ≡ qsafe_char x
 qsafe_unseen x = unseen qsafe_char (λ y l m. qsafe_letter (y - 32) (omega arith) (omega arith) ∙ sym (qsafe_letter y (omega arith) m)) x

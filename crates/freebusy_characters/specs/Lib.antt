@@ -1,3 +1,2 @@
 pub mod Utf8
 pub mod ParamValue
-pub mod inner

@@ -1,6 +1,7 @@
 -- NON-US-ASCII of RFC 5545, 3.1: the characters above 127 as RFC 3629 spells them, in two, three or four bytes. No overlong form, no surrogate, nothing
 -- above U+10FFFF. Assumes nothing.
-use Rattle.std.specs.Prelude.{ℕ, zero, suc, ◌-◌, Bool, true, cond, ◌&&◌, ◌||◌, List, [], ◌∷◌, eqb, ltb, leb, get_or}
+use Rattle.std.specs.Prelude.{ℕ, zero, suc, ◌-◌, Bool, true, false, cond, ◌&&◌, ◌||◌, List, [], ◌∷◌, Option, None, Some, eqb, leb, get_or}
+use Rattle.loops.specs.Lists.{option}
 
 -- %xLOW-HIGH
 abbrev pub between : ℕ → ℕ → ℕ → Bool
@@ -35,25 +36,24 @@ starts_four a b =
 unfoldable pub utf8_4 : ℕ → ℕ → ℕ → ℕ → Bool
 utf8_4 a b c d = starts_four a b && (utf8_tail c && utf8_tail d)
 
--- NON-US-ASCII = UTF8-2 / UTF8-3 / UTF8-4: of how many bytes the one is that comes first, 0 where none does. Past the end of the bytes stands 0, which is
--- no UTF8-tail
-unfoldable pub non_us_ascii : List ℕ → ℕ
+-- NON-US-ASCII = UTF8-2 / UTF8-3 / UTF8-4: of how many bytes the one is that comes first. Past the end of the bytes stands 0, which is no UTF8-tail
+unfoldable pub non_us_ascii : List ℕ → Option ℕ
 non_us_ascii l =
-    cond (utf8_2 (get_or l 0 0) (get_or l 1 0)) 2
-    (cond (utf8_3 (get_or l 0 0) (get_or l 1 0) (get_or l 2 0)) 3
-    (cond (utf8_4 (get_or l 0 0) (get_or l 1 0) (get_or l 2 0) (get_or l 3 0)) 4 0))
+    cond (utf8_2 (get_or l 0 0) (get_or l 1 0)) (Some 2)
+    (cond (utf8_3 (get_or l 0 0) (get_or l 1 0) (get_or l 2 0)) (Some 3)
+    (cond (utf8_4 (get_or l 0 0) (get_or l 1 0) (get_or l 2 0) (get_or l 3 0)) (Some 4) None))
 
 -- ---- texts of characters, of which those of one byte pass a test
 
--- of how many bytes the character is that comes first, 0 where none does
-unfoldable pub first_of : (ℕ → Bool) → List ℕ → ℕ
-first_of test l = cond (test (get_or l 0 0)) 1 (non_us_ascii l)
+-- of how many bytes the character is that comes first
+unfoldable pub first_of : (ℕ → Bool) → List ℕ → Option ℕ
+first_of test l = cond (test (get_or l 0 0)) (Some 1) (non_us_ascii l)
 
 -- *( one byte that passes the test / NON-US-ASCII ), where the first `read` bytes are of a character that was read already
 unfoldable pub characters_from : (ℕ → Bool) → ℕ → List ℕ → Bool
 characters_from test read [] = true
 characters_from test (suc read) (x ∷ l) = characters_from test read l
-characters_from test zero (x ∷ l) = ltb 0 (first_of test (x ∷ l)) && characters_from test (first_of test (x ∷ l) - 1) l
+characters_from test zero (x ∷ l) = option (first_of test (x ∷ l)) false (λ n. characters_from test (n - 1) l)
 
 abbrev pub characters : (ℕ → Bool) → List ℕ → Bool
 characters test l = characters_from test 0 l

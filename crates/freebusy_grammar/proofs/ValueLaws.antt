@@ -6,7 +6,7 @@ use Rattle.std.specs.Prelude.{Option, None, Some}
 use mathlib.Core.Path.{◌≡◌, refl, sym, ap, ◌∙◌}
 use native.Mathlib.Omega.{arith}
 use native.Mathlib.Decide.{dec_lt}
-use lib.Dec.{eqb, leb, ltb}
+use lib.Dec.{eqb, leb}
 use lib.ListN.{get_or, take}
 use borrow.Author.Tests.{eqb-true, ne_eqb, lt-leb, le-leb, leb-true}
 use Rattle.loops.specs.Lists.{all_of, is_empty, option}
@@ -155,28 +155,30 @@ unfolding all_of
 thrice_high [] h k m = refl
 thrice_high (x ∷ l) h k m = both (le-leb 128 x h) (twice_high l k m)
 
--- what comes first is of suc n bytes, which are all above 127
-several_high : (x : ℕ) (l : List ℕ) (n : ℕ) → non_us_ascii (x ∷ l) ≡ suc n → (128 ≤ x) × (high n l ≡ true)
+-- what comes first is of n bytes, which are all above 127
+several_high : (x : ℕ) (l : List ℕ) (n : ℕ) → non_us_ascii (x ∷ l) ≡ Some n → (128 ≤ x) × (high (n - 1) l ≡ true)
 unfolding non_us_ascii
 several_high x l n e = two (utf8_2 x (get_or l 0 0)) refl e
   where
-    four : (t : Bool) → utf8_4 x (get_or l 0 0) (get_or l 1 0) (get_or l 2 0) ≡ t → cond t 4 0 ≡ suc n → (128 ≤ x) × (high n l ≡ true)
+    four : (t : Bool) → utf8_4 x (get_or l 0 0) (get_or l 1 0) (get_or l 2 0) ≡ t → cond t (Some 4) None ≡ Some n → (128 ≤ x) × (high (n - 1) l ≡ true)
     four true p e =
         let f = of_four x (get_or l 0 0) (get_or l 1 0) (get_or l 2 0) p in
-        let k : n ≡ 3 = omega arith in
+        let k : n ≡ 4 = cc in
         (f.0, rw k (thrice_high l f.1 f.2 f.3))
-    four false p e = absurd (omega arith)
+    four false p e = cc
 
-    three : (t : Bool) → utf8_3 x (get_or l 0 0) (get_or l 1 0) ≡ t → cond t 3 (cond (utf8_4 x (get_or l 0 0) (get_or l 1 0) (get_or l 2 0)) 4 0) ≡ suc n → (128 ≤ x) × (high n l ≡ true)
+    three : (t : Bool) → utf8_3 x (get_or l 0 0) (get_or l 1 0) ≡ t → cond t (Some 3) (cond (utf8_4 x (get_or l 0 0) (get_or l 1 0) (get_or l 2 0)) (Some 4) None) ≡ Some n
+        → (128 ≤ x) × (high (n - 1) l ≡ true)
     three true p e =
         let f = of_three x (get_or l 0 0) (get_or l 1 0) p in
-        let k : n ≡ 2 = omega arith in
+        let k : n ≡ 3 = cc in
         (f.0, rw k (twice_high l f.1 f.2))
     three false p e = four (utf8_4 x (get_or l 0 0) (get_or l 1 0) (get_or l 2 0)) refl e
 
     two : (t : Bool) → utf8_2 x (get_or l 0 0) ≡ t
-        → cond t 2 (cond (utf8_3 x (get_or l 0 0) (get_or l 1 0)) 3 (cond (utf8_4 x (get_or l 0 0) (get_or l 1 0) (get_or l 2 0)) 4 0)) ≡ suc n → (128 ≤ x) × (high n l ≡ true)
-    two true p e = let f = two_high x (get_or l 0 0) p in let k : n ≡ 1 = omega arith in (f.0, rw k (one_high l f.1))
+        → cond t (Some 2) (cond (utf8_3 x (get_or l 0 0) (get_or l 1 0)) (Some 3) (cond (utf8_4 x (get_or l 0 0) (get_or l 1 0) (get_or l 2 0)) (Some 4) None)) ≡ Some n
+        → (128 ≤ x) × (high (n - 1) l ≡ true)
+    two true p e = let f = two_high x (get_or l 0 0) p in let k : n ≡ 2 = cc in (f.0, rw k (one_high l f.1))
     two false p e = three (utf8_3 x (get_or l 0 0) (get_or l 1 0)) refl e
 
 -- ---- texts and values
@@ -200,20 +202,17 @@ module _ (b : ℕ) (s : Separates b) where
       both (high_plain x (leb-true 128 x (and_left (leb 128 x) (high k l) h))) (text_plain k l e (and_right (leb 128 x) (high k l) h))
   text_plain zero (x ∷ l) e h = go (first_of safe_char (x ∷ l)) refl e (λ m. text_plain m l)
     where
-      first : (n : ℕ) → first_of safe_char (x ∷ l) ≡ suc n → (plain b x ≡ true) × (high n l ≡ true)
+      first : (n : ℕ) → first_of safe_char (x ∷ l) ≡ Some n → (plain b x ≡ true) × (high (n - 1) l ≡ true)
       first n p = one (safe_char x) refl (unfold first_of in p)
         where
-          one : (t : Bool) → safe_char x ≡ t → cond t 1 (non_us_ascii (x ∷ l)) ≡ suc n → (plain b x ≡ true) × (high n l ≡ true)
-          one true q p = let k : n ≡ 0 = omega arith in (safe_plain x q, rw k)
+          one : (t : Bool) → safe_char x ≡ t → cond t (Some 1) (non_us_ascii (x ∷ l)) ≡ Some n → (plain b x ≡ true) × (high (n - 1) l ≡ true)
+          one true q p = let k : n ≡ 1 = cc in (safe_plain x q, rw k)
           one false q p = let f = several_high x l n p in (high_plain x f.0, f.1)
 
-      go : (n : ℕ) → first_of safe_char (x ∷ l) ≡ n → (ltb 0 n && characters_from safe_char (n - 1) l) ≡ true
+      go : (o : Option ℕ) → first_of safe_char (x ∷ l) ≡ o → option o false (λ n. characters_from safe_char (n - 1) l) ≡ true
           → ((m : ℕ) → characters_from safe_char m l ≡ true → high m l ≡ true → all_of (plain b) l ≡ true) → (plain b x && all_of (plain b) l) ≡ true
-      go zero p e f = absurd (false≢true e)
-      go (suc n) p e f =
-          let k : suc n - 1 ≡ n = omega arith in
-          let g = first n p in
-          both g.0 (f n (rw k at (and_right (ltb 0 (suc n)) (characters_from safe_char (suc n - 1) l) e)) g.1)
+      go None p e f = absurd (false≢true e)
+      go (Some n) p e f = let g = first n p in both g.0 (f (n - 1) e g.1)
 
   quoted_run : (v : List ℕ) → quoted_string v ≡ true → Runs b false v false
   unfolding quoted_string

@@ -1,6 +1,5 @@
 pub mod CaseLaws
 pub mod Examples
-pub mod LineLaws
-pub mod ParamLaws
-pub mod PartLoops
+pub mod NameLaws
+pub mod PartLaws
 pub mod QuoteLaws

@@ -1,1 +1,2 @@
+pub mod Left
 pub mod Reading

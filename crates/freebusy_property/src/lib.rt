@@ -1,216 +1,123 @@
 // The line FREEBUSY of an office calendar, unfolded: whether it is one, whether it keeps to the grammar, whether it says FREE, and its value.
 #![tactic(auto)]
 
-ghost use Rattle.std.specs.Prelude.{◌≡◌};
+mod quotes;
+
+ghost use Rattle.std.specs.Prelude.{◌≡◌, MatchOption};
 ghost use Rattle.loops.specs.Lists.{any_of};
-ghost use Rattle.freebusy_lines.specs.Bytes.{SEMICOLON, is_name_byte, iana_token, leading};
-ghost use Rattle.freebusy_property.specs.Quotes.{quoted_after, parting, until_unquoted, unquoted_parts};
-ghost use Rattle.freebusy_property.specs.Property.{param_values, param, is_fbtype, one_fbparam, fbparam, named, fbvalue, freebusy, is_freebusy, says_free, is_free, value_of};
-ghost use Rattle.freebusy_property.specs.inner.Reading.{type_count};
+ghost use Rattle.freebusy_lines.specs.Bytes.{SEMICOLON, EQUALS, is_name_byte, iana_token, leading, after};
+ghost use Rattle.freebusy_property.specs.Quotes.{unquoted_parts};
+ghost use Rattle.freebusy_property.specs.Property.{param_name, param_values, param, is_fbtype, one_fbparam, fbparam, named, fbvalue, freebusy, is_freebusy, says_free, is_free, value_of};
 
-const QUOTE: u8 = 34;
-
-// Whether the byte after x stands in quotes.
-fn quoted_after(quoted: bool, x: u8) -> bool
-    ensures { result ≡ quoted_after quoted x }
-{
-    if x == QUOTE {
-        return !quoted;
-    }
-    quoted
-}
-
-// A `stop` outside quotes.
-fn is_parting(quoted: bool, stop: u8, x: u8) -> bool
-    ensures { result ≡ parting quoted stop x }
-{
-    if quoted {
-        return false;
-    }
-    x == stop
-}
-
-// The part of a text before the first `stop` outside quotes, or all of it where there is none.
-fn first_unquoted(s: &[u8], stop: u8) -> &[u8]
-    ensures { result.now ≡ until_unquoted stop s.now }
-{
-    let mut i = 0;
-    let mut quoted = false;
-    while i < s.len() {
-        let x = s[i];
-        if is_parting(quoted, stop, x) {
-            return &s[..i];
-        }
-        quoted = quoted_after(quoted, x);
-        i += 1;
-    }
-    s
-}
+use quotes::{UnquotedParts, split_unquoted};
+use text_fields::Parts;
 
 fn is_token(s: &[u8]) -> bool
     ensures { result ≡ iana_token s.now }
 {
-    if s.len() == 0 {
-        return false;
-    }
-    let mut i = 0;
-    while i < s.len() {
-        if !freebusy_lines::is_name_byte(s[i]) {
-            return false;
-        }
-        i += 1;
-    }
-    true
+    !s.is_empty() && s.iter().all(|x| freebusy_lines::is_name_byte(*x))
 }
 
 // Values parted by commas.
 fn are_values(v: &[u8]) -> bool
     ensures { result ≡ param_values v.now }
 {
-    let mut rest = v;
-    loop {
-        let p = first_unquoted(rest, b',');
-        if !freebusy_characters::is_param_value(p) {
-            return false;
-        }
-        let n = p.len();
-        if rest.len() <= n {
-            return true;
-        }
-        rest = &rest[n + 1..];
-    }
+    UnquotedParts::new(v, b',').all(freebusy_characters::is_param_value)
 }
 
+// The name of a parameter, and what follows its equals sign.
+fn split_name(p: &[u8]) -> (&[u8], Option<&[u8]>)
+    ensures name { result.0.now ≡ param_name p.now }
+    ensures value { MatchOption result.1 (after EQUALS p.now ≡ None) (λ v. after EQUALS p.now ≡ Some v.now) }
+{
+    let name = text_fields::first_part(p, b'=');
+    (name, p.get(name.len() + 1..))
+}
+
+#[tactic(auto, unfolding(crate::specs::Property::param))]
 fn is_param(p: &[u8]) -> bool
     ensures { result ≡ param p.now }
 {
-    let name = text_fields::first_part(p, b'=');
-    if !is_token(name) {
-        return false;
-    }
-    let n = name.len();
-    if p.len() <= n {
-        return false;
-    }
-    are_values(&p[n + 1..])
+    let (name, value) = split_name(p);
+    is_token(name) && value.is_some_and(are_values)
 }
 
+#[tactic(auto, unfolding(crate::specs::Property::is_fbtype))]
 fn is_fbtype(p: &[u8]) -> bool
     ensures { result ≡ is_fbtype p.now }
 {
     freebusy_lines::is_word(b"FBTYPE", text_fields::first_part(p, b'='))
 }
 
-// 1 for FBTYPE, 0 for another parameter.
-fn type_count(p: &[u8]) -> usize
-    ensures { result ≡ type_count p.now }
-{
-    if is_fbtype(p) {
-        return 1;
-    }
-    0
-}
-
 // FBTYPE with one bare token, or another parameter.
+#[tactic(auto, unfolding(crate::specs::Property::one_fbparam, crate::specs::Property::fbtypeparam, crate::specs::Property::other_param))]
 fn is_fbparam(p: &[u8]) -> bool
     ensures { result ≡ one_fbparam p.now }
 {
     if !is_fbtype(p) {
         return is_param(p);
     }
-    let n = text_fields::first_part(p, b'=').len();
-    if p.len() <= n {
-        return false;
-    }
-    is_token(&p[n + 1..])
+    split_name(p).1.is_some_and(is_token)
 }
 
 // Parameters parted by semicolons, FBTYPE once at most.
+#[tactic(auto, using(crate::proofs::PartLaws::types))]
 fn are_fbparams(s: &[u8]) -> bool
     ensures { result ≡ fbparam (unquoted_parts SEMICOLON s.now) }
 {
-    let mut rest = s;
-    let mut types: usize = 0;
-    loop {
-        let p = first_unquoted(rest, b';');
+    let mut typed = false;
+    for p in UnquotedParts::new(s, b';') {
         if !is_fbparam(p) {
             return false;
         }
-        types += type_count(p);
-        if 1 < types {
-            return false;
+        if is_fbtype(p) {
+            if typed {
+                return false;
+            }
+            typed = true;
         }
-        let n = p.len();
-        if rest.len() <= n {
-            return true;
-        }
-        rest = &rest[n + 1..];
     }
+    true
 }
 
 // The name FREEBUSY and its parameters.
+#[tactic(auto, unfolding(crate::specs::Property::named, crate::specs::Property::params_in, crate::specs::Property::fbparam, loops::specs::Lists::all_of, loops::specs::Lists::count_of))]
 fn is_named(head: &[u8]) -> bool
     ensures { result ≡ named head.now }
 {
-    let name = first_unquoted(head, b';');
-    if !freebusy_lines::is_word(b"FREEBUSY", name) {
-        return false;
-    }
-    let n = name.len();
-    if head.len() <= n {
-        return true;
-    }
-    are_fbparams(&head[n + 1..])
+    let (name, params) = split_unquoted(head, b';');
+    freebusy_lines::is_word(b"FREEBUSY", name) && params.is_none_or(are_fbparams)
 }
 
 // Periods parted by commas.
 fn are_periods(v: &[u8]) -> bool
     ensures { result ≡ fbvalue v.now }
 {
-    let mut rest = v;
-    loop {
-        let p = text_fields::first_part(rest, b',');
-        if !freebusy_periods::is_period(p) {
-            return false;
-        }
-        let n = p.len();
-        if rest.len() <= n {
-            return true;
-        }
-        rest = &rest[n + 1..];
-    }
+    Parts::new(v, b',').all(freebusy_periods::is_period)
 }
 
 // The line keeps to the grammar.
+#[tactic(auto, unfolding(crate::specs::Property::freebusy))]
 pub fn is_property(l: &[u8]) -> bool
     ensures { result ≡ freebusy l.now }
 {
-    let head = first_unquoted(l, b':');
-    if !is_named(head) {
-        return false;
-    }
-    let n = head.len();
-    if l.len() <= n {
-        return false;
-    }
-    are_periods(&l[n + 1..])
+    let (head, value) = split_unquoted(l, b':');
+    is_named(head) && value.is_some_and(are_periods)
 }
 
 // The leading letters, digits and hyphens.
 fn leading_name(l: &[u8]) -> &[u8]
     ensures { result.now ≡ leading is_name_byte l.now }
 {
-    let mut i = 0;
-    while i < l.len() {
-        if !freebusy_lines::is_name_byte(l[i]) {
-            return &l[..i];
-        }
-        i += 1;
-    }
-    l
+    let end = l
+        .iter()
+        .position(|x| !freebusy_lines::is_name_byte(*x))
+        .unwrap_or(l.len());
+    &l[..end]
 }
 
 // The line has the name FREEBUSY.
+#[tactic(auto, unfolding(crate::specs::Property::is_freebusy))]
 pub fn is_freebusy(l: &[u8]) -> bool
     ensures { result ≡ is_freebusy l.now }
 {
@@ -218,57 +125,36 @@ pub fn is_freebusy(l: &[u8]) -> bool
 }
 
 // FBTYPE=FREE.
+#[tactic(auto, unfolding(crate::specs::Property::says_free))]
 fn says_free(p: &[u8]) -> bool
     ensures { result ≡ says_free p.now }
 {
-    let name = text_fields::first_part(p, b'=');
-    if !freebusy_lines::is_word(b"FBTYPE", name) {
-        return false;
-    }
-    let n = name.len();
-    if p.len() <= n {
-        return false;
-    }
-    freebusy_lines::is_word(b"FREE", &p[n + 1..])
+    is_fbtype(p)
+        && split_name(p)
+            .1
+            .is_some_and(|v| freebusy_lines::is_word(b"FREE", v))
 }
 
 // One of the parameters is FBTYPE=FREE.
 fn any_free(s: &[u8]) -> bool
     ensures { result ≡ any_of says_free (unquoted_parts SEMICOLON s.now) }
 {
-    let mut rest = s;
-    loop {
-        let p = first_unquoted(rest, b';');
-        if says_free(p) {
-            return true;
-        }
-        let n = p.len();
-        if rest.len() <= n {
-            return false;
-        }
-        rest = &rest[n + 1..];
-    }
+    UnquotedParts::new(s, b';').any(says_free)
 }
 
 // The line says that its periods are free.
+#[tactic(auto, unfolding(crate::specs::Property::is_free, crate::specs::Property::params_in, loops::specs::Lists::any_of))]
 pub fn is_free(l: &[u8]) -> bool
     ensures { result ≡ is_free l.now }
 {
-    let head = first_unquoted(l, b':');
-    let n = first_unquoted(head, b';').len();
-    if head.len() <= n {
-        return false;
-    }
-    any_free(&head[n + 1..])
+    let (head, _) = split_unquoted(l, b':');
+    split_unquoted(head, b';').1.is_some_and(any_free)
 }
 
 // What follows the first colon outside quotes: the periods, parted by commas.
+#[tactic(auto, unfolding(crate::specs::Property::value_of))]
 pub fn value_of(l: &[u8]) -> &[u8]
     ensures { result.now ≡ value_of l.now }
 {
-    let n = first_unquoted(l, b':').len();
-    if l.len() <= n {
-        return &l[n..];
-    }
-    &l[n + 1..]
+    split_unquoted(l, b':').1.unwrap_or(&[])
 }

@@ -11,11 +11,7 @@ fn store(out: &mut [i64], at: usize, line: &[i64])
     requires { at + length line.now ≤ length out.old }
     ensures { out.new ≡ sets out.old at line.now }
 {
-    let mut i = 0;
-    while i < line.len() {
-        out[at + i] = line[i];
-        i += 1;
-    }
+    out[at..at + line.len()].copy_from_slice(line);
 }
 
 // One more, as far as is counted.
@@ -29,10 +25,7 @@ fn next(n: usize) -> usize
 fn is_held(length: usize, n: usize, w: usize) -> bool
     ensures { result ≡ ltb n (length / w) }
 {
-    if 0 < w {
-        return n < length / w;
-    }
-    false
+    0 < w && n < length / w
 }
 
 // One line more: written where the buffer holds it, and counted in any case.
@@ -48,7 +41,7 @@ pub fn put(out: &mut [i64], n: usize, line: &[i64]) -> usize
 }
 
 // What becomes of the lines that were found: they are in the lent buffer; or it has no room for them; or they are more than are held where they were found.
-#[derive(Clone, Copy)]
+#[derive(Clone, Copy, PartialEq, Eq)]
 pub enum Handed {
     Over,
     Full,

@@ -52,13 +52,13 @@ room_for_all rows room l = go (sheet_refusal rows) refl
 
 -- ---- refused by 1 to 6
 
-module _ (rows o : List ℤ) {v : Result Unit Refusal} {number place : ℕ} {k₀ l₀ p₀ k l p : List ℕ} (a : Accepting rows k₀ l₀ p₀ v k l p) (e : v ≡ Err e) where
-  refused_sheet : Ends rows o (Err e) o
+module _ (rows o : List ℤ) {v : Result Unit Refusal} {x : Refusal} {k₀ l₀ p₀ k l p : List ℕ} (a : Accepting rows k₀ l₀ p₀ v k l p) (e : v ≡ Err x) where
+  refused_sheet : Ends rows o (Err x) o
   unfolding margins_refusal margins_answer margins_after flat_margins
   refused_sheet = ends_refused 3 three (omega arith) (λ m. refl) rows (margins rows) o (refused_by rows a e)
 
-  pub refused_answer : Err e ≡ margins_answer rows (length o / 3)
-  refused_answer = refused_sheet.0
+  pub refused_answer : {b : Result ℕ Refusal} → b ≡ Err x → b ≡ margins_answer rows (length o / 3)
+  refused_answer b = b ∙ refused_sheet.0
 
   pub refused_left : o ≡ margins_after rows o
   refused_left = refused_sheet.1
@@ -91,8 +91,8 @@ module _ (rows o o₀ : List ℤ) {x y : List ℤ} {n k : ℕ} {r : Handed} (pas
     pub over_left : r ≡ Over → o' ≡ margins_after rows o
     over_left over = (ends_copied over).1
 
-    pub full_answer : r ≡ Full → Err (at refusals.Full 0) ≡ margins_answer rows (length o / 3)
-    full_answer full = (ends_refused_full full).0
+    pub full_answer : {e : Refusal} → e ≡ at refusals.Full 0 → r ≡ Full → Err e ≡ margins_answer rows (length o / 3)
+    full_answer a full = rw a (ends_refused_full full).0
 
     pub full_left : r ≡ Full → o' ≡ margins_after rows o
     full_left full = (ends_refused_full full).1
@@ -103,7 +103,7 @@ module _ (rows o o₀ : List ℤ) {x y : List ℤ} {n k : ℕ} {r : Handed} (pas
         let held : length y ≡ length o₀ = lines_kept 3 three o₀ 0 (margins rows) ran in
         not_longer (length o / 3) (length y / 3) k (omega (arith, counted, few_margins rows passed)) told longer
 
-    pub longer_answer : r ≡ Longer → Err (at refusals.Full 0) ≡ margins_answer rows (length o / 3)
+    pub longer_answer : {e : Refusal} → r ≡ Longer → Err e ≡ margins_answer rows (length o / 3)
     longer_answer longer = absurd (all_held longer)
 
     pub longer_left : r ≡ Longer → o' ≡ margins_after rows o

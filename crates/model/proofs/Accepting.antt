@@ -17,13 +17,15 @@ use Rattle.loops.proofs.BoolLaws.{and_left, and_right, neither_left, neither_rig
 use Rattle.loops.proofs.SearchLaws.{any_none}
 use Rattle.loops.proofs.PlaceLaws.{or_none_left, or_none_right, first_none, if_none, place_only}
 use Rattle.rows.specs.Cells.{row_count, cell, num, is}
-use Rattle.rows.specs.Class.{Class, blank_c}
+use Rattle.rows.specs.declared.Class.{Class}
+use Rattle.rows.specs.declared.Class.TheVariants.{Blank}
 use Rattle.rows.specs.Table.{class_of}
 use Rattle.rows.specs.Ranges.{range, between, is_none, in_range, in_class}
-use Rattle.rows.proofs.Signs.{cell_past, cell_wide}
+use Rattle.rows.proofs.CellLaws.{cell_past, cell_wide}
 use Rattle.rows.proofs.Tables.{class_wide}
 use Rattle.sheet.specs.Places.{named, place_of}
 use Rattle.refusals.specs.Refusals.{refuse}
+use Rattle.refusals.specs.declared.Reason.TheVariants.{Misshapen, UnknownKind, OutOfRange}
 use Rattle.refusals.specs.declared.Refusal.{Refusal}
 use Rattle.sheet.specs.Refusals.{misshapen, known_kind, bad_cell, half_part, out_of_range, absent_at, lacks, unowned, repeats, repeated, column_fault, owner_fault, repeat_fault, refusal_of}
 use Rattle.sheet.specs.inner.Groups.{once}
@@ -40,7 +42,7 @@ record Passed (rows : List ℤ) : Type 0 where
 passed : (rows : List ℤ) → refusal_of rows ≡ None → Passed rows
 unfolding refusal_of
 passed rows h =
-    let a : Option Refusal = refuse (misshapen (length rows)) 1 0 in
+    let a : Option Refusal = refuse (misshapen (length rows)) Misshapen 0 in
     let b : Option Refusal = first (column_fault rows) (row_count rows) in
     let d : Option Refusal = first (owner_fault rows) (row_count rows) in
     let e : Option Refusal = first (repeat_fault rows) (row_count rows) in
@@ -59,7 +61,7 @@ unfolding in_class in_range between
 blank_zero zero = refl
 blank_zero (suc c) = refl
 
-pub blank_wide : in_class blank_c (pos 0) ≡ true
+pub blank_wide : in_class Blank (pos 0) ≡ true
 unfolding in_class in_range between
 blank_wide = refl
 
@@ -76,11 +78,11 @@ module _ (rows : List ℤ) (p : Passed rows) where
 
   known : (k : ℕ) → k < row_count rows → known_kind rows k ≡ true
   unfolding column_fault
-  known k h = not-false _ (if_none (not (known_kind rows k)) _ (or_none_left (refuse (not (known_kind rows k)) 2 k) (refuse (out_of_range rows k) 3 k) (p.columns k h)))
+  known k h = not-false _ (if_none (not (known_kind rows k)) _ (or_none_left (refuse (not (known_kind rows k)) UnknownKind k) (refuse (out_of_range rows k) OutOfRange k) (p.columns k h)))
 
   in_order_lem : (k : ℕ) → k < row_count rows → out_of_range rows k ≡ false
   unfolding column_fault
-  in_order_lem k h = if_none (out_of_range rows k) _ (or_none_right (refuse (not (known_kind rows k)) 2 k) (refuse (out_of_range rows k) 3 k) (p.columns k h))
+  in_order_lem k h = if_none (out_of_range rows k) _ (or_none_right (refuse (not (known_kind rows k)) UnknownKind k) (refuse (out_of_range rows k) OutOfRange k) (p.columns k h))
 
   cells_in : (k c : ℕ) → k < row_count rows → c < 10 → in_class (class_of (num rows k 0) c) (cell rows k c) ≡ true
   unfolding out_of_range bad_cell
@@ -105,7 +107,7 @@ module _ (rows : List ℤ) (p : Passed rows) where
   owned : (k c : ℕ) → k < row_count rows → absent_at rows k c ≡ false
   owned k c h = go (dec_lt c 10)
     where
-      wide : (x : Class) → x ≡ blank_c → lacks x rows k c ≡ false
+      wide : (x : Class) → x ≡ Blank → lacks x rows k c ≡ false
       wide x e = rw e (unfold lacks in refl)
 
       go : Dec (c < 10) → absent_at rows k c ≡ false

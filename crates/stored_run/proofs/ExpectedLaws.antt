@@ -1,5 +1,6 @@
 -- Laws of the loop that compares the lent numbers with those expected. Assumes nothing.
 use Rattle.std.specs.Prelude.{Result, Ok}
+use Rattle.refusals.specs.Refusals.{number_of}
 use Rattle.refusals.specs.declared.Refusal.{Refusal}
 use Prim.Native.Nat.{ℕ, ◌+◌, ◌<◌, ◌≤◌}
 use mathlib.Core.Bool.{Bool, true, false, not, ◌&&◌}
@@ -60,6 +61,6 @@ module _ (lent gathered : List ℤ) (n number place : ℕ) {a : Result ℕ Refus
       → r ≡ passes a lent gathered n number place
   accepted_passes e b p q = rw e (b ∙ ap₂ ◌&&◌ p q)
 
-  pub refused_passes : {k p : ℕ} → a ≡ Refused k p → r ≡ (s && t) → s ≡ (eqb number k && eqb place p) → t ≡ as_expected lent gathered 0
+  pub refused_passes : {e : Refusal} {m : ℕ} → m ≡ number_of e.reason → a ≡ Err e → r ≡ (s && t) → s ≡ (eqb number m && eqb place e.place) → t ≡ as_expected lent gathered 0
       → r ≡ passes a lent gathered n number place
-  refused_passes e b p q = rw e (b ∙ ap₂ ◌&&◌ p q)
+  refused_passes {e = x} m e b p q = rw e (b ∙ ap₂ ◌&&◌ (p ∙ ap (λ k. eqb number k && eqb place x.place) m) q)

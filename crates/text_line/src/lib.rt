@@ -3,7 +3,6 @@
 
 ghost use Rattle.std.specs.Prelude.{◌≡◌, map, ◌+◌, ◌-◌, ◌^◌, ◌<◌, pos, length, set, replicate};
 ghost use Rattle.std.proofs.lemmas.List.Edits.{sets};
-ghost use Rattle.rows.specs.inner.Codes.{class_table};
 ghost use Rattle.text_line.specs.Line.{fields_of, spelled, value_of, by_fields, line_of, row_of};
 
 use refusals::Reason;
@@ -43,8 +42,7 @@ fn read_fields(line: &[u8], rows: &mut [i64], base: usize) -> Fields
 }
 
 // What becomes of a line of n fields, good where all are spelled right, the first of them the kind's.
-fn judge_line(kind: &[u8], good: bool, n: usize, classes: &[[u8; 9]; 25]) -> Result<(), Reason>
-    requires { classes.now ≡ class_table }
+fn judge_line(kind: &[u8], good: bool, n: usize) -> Result<(), Reason>
     ensures { result ≡ by_fields good kind.now n }
 {
     if !good || kind.len() == 0 {
@@ -54,7 +52,7 @@ fn judge_line(kind: &[u8], good: bool, n: usize, classes: &[[u8; 9]; 25]) -> Res
     if k < 1 || 24 < k {
         return Err(Reason::UnknownKind);
     }
-    if rows::has_width(classes, k, n) {
+    if rows::has_width(k, n) {
         Ok(())
     } else {
         Err(Reason::Misspelt)
@@ -71,18 +69,13 @@ fn fill_zeros(rows: &mut [i64], from: usize, to: usize)
 }
 
 // Reads a line to the ten numbers of the rows from `base` on, as far as they lie within the rows.
-pub fn read_line(
-    line: &[u8],
-    rows: &mut [i64],
-    base: usize,
-    classes: &[[u8; 9]; 25],
-) -> Result<(), Reason>
-    requires { (base + length line.now < 2 ^ 32) × (classes.now ≡ class_table) }
+pub fn read_line(line: &[u8], rows: &mut [i64], base: usize) -> Result<(), Reason>
+    requires { base + length line.now < 2 ^ 32 }
     ensures value { result ≡ line_of line.now }
     ensures rows_after { rows.new ≡ sets rows.old base (row_of line.now) }
 {
     let found = read_fields(line, rows, base);
     let n = found.count;
     fill_zeros(rows, base + n, base + 10);
-    judge_line(text_fields::first_part(line, b','), found.good, n, classes)
+    judge_line(text_fields::first_part(line, b','), found.good, n)
 }

@@ -1,5 +1,5 @@
 -- The order of the refusals: what stops a loop over the rows, and what stops the loops. Assumes nothing.
-use Rattle.std.specs.Prelude.{Result, Ok}
+use Rattle.std.specs.Prelude.{Err, Result, Ok}
 use Prim.Native.Nat.{ℕ, ◌%◌, ◌<◌, ◌≤◌}
 use mathlib.Core.Path.{◌≡◌, refl, ap, sym, ◌∙◌}
 use mathlib.Core.Bool.{true, false, not}
@@ -19,40 +19,41 @@ use Rattle.rows.specs.Cells.{row_count, num}
 use Rattle.sheet.specs.inner.Index.{Shaped, Kinds}
 use Rattle.owners.specs.inner.Owners.{Linked, Owned}
 use Rattle.refusals.specs.Refusals.{refuse, verdict_of}
+use Rattle.refusals.specs.declared.Reason.TheVariants.{Misshapen, UnknownKind, OutOfRange}
 use Rattle.refusals.specs.declared.Refusal.{Refusal}
 use Rattle.sheet.specs.Refusals.{misshapen, known_kind, out_of_range, column_fault, refusal_of}
 use Rattle.validation.specs.inner.Answer.{shape_refusal, link_refusal, Tables, Indexing}
 
-pub stops : (f : ℕ → Option Refusal) (i n N : ℕ) {v : Result Unit Refusal} {a b : ℕ} → v ≡ Refused a b → verdict_of v ≡ f i → first f i ≡ None → i < n → n ≡ N → verdict_of v ≡ first f N
+pub stops : (f : ℕ → Option Refusal) (i n N : ℕ) {v : Result Unit Refusal} {r : Refusal} → v ≡ Err r → verdict_of v ≡ f i → first f i ≡ None → i < n → n ≡ N → verdict_of v ≡ first f N
 stops f i n N q r p h z = ap verdict_of q ∙ sym (first_hit f i N (omega arith) p (sym r ∙ ap verdict_of q))
 
-pub ends : (x y : Option Refusal) {v : Result Unit Refusal} {a b : ℕ} → v ≡ Refused a b → verdict_of v ≡ x → verdict_of v ≡ or_else x y
+pub ends : (x y : Option Refusal) {v : Result Unit Refusal} {r : Refusal} → v ≡ Err r → verdict_of v ≡ x → verdict_of v ≡ or_else x y
 ends x y q p = ap verdict_of q ∙ sym (ap (λ z. or_else z y) (sym p ∙ ap verdict_of q))
 
 -- a step that refuses nothing
-pub passed : {x : Option Refusal} {v : Result Unit Refusal} → v ≡ (Ok tt) → verdict_of v ≡ x → x ≡ None
+pub passed : {x : Option Refusal} {v : Result Unit Refusal} → v ≡ Ok tt → verdict_of v ≡ x → x ≡ None
 passed f e = sym e ∙ ap verdict_of f
 
-pub goes_on : {x y r : Option Refusal} {v : Result Unit Refusal} → v ≡ (Ok tt) → verdict_of v ≡ x → r ≡ y → r ≡ or_else x y
+pub goes_on : {x y r : Option Refusal} {v : Result Unit Refusal} → v ≡ Ok tt → verdict_of v ≡ x → r ≡ y → r ≡ or_else x y
 goes_on f e q = rw (passed f e) q
 
 -- the two steps are the whole
 pub in_two : (rows : List ℤ) → refusal_of rows ≡ or_else (shape_refusal rows) (link_refusal rows)
 unfolding refusal_of shape_refusal link_refusal
-in_two rows = sym (or_assoc (refuse (misshapen (length rows)) 1 0) (first (column_fault rows) (row_count rows)) _)
+in_two rows = sym (or_assoc (refuse (misshapen (length rows)) Misshapen 0) (first (column_fault rows) (row_count rows)) _)
 
 -- ---- what the first step leaves
 
-pub shaped : (rows : List ℤ) {v : Result Unit Refusal} → v ≡ (Ok tt) → verdict_of v ≡ shape_refusal rows → Shaped rows
+pub shaped : (rows : List ℤ) {v : Result Unit Refusal} → v ≡ Ok tt → verdict_of v ≡ shape_refusal rows → Shaped rows
 unfolding shape_refusal misshapen column_fault known_kind
 shaped rows q f =
     let e : shape_refusal rows ≡ None = passed q f in
-    let m : misshapen (length rows) ≡ false = if_none (misshapen (length rows)) _ (or_none_left (refuse (misshapen (length rows)) 1 0) _ e) in
+    let m : misshapen (length rows) ≡ false = if_none (misshapen (length rows)) _ (or_none_left (refuse (misshapen (length rows)) Misshapen 0) _ e) in
     let l : length rows ≤ 8000 = ltb-false 8000 (length rows) (neither_right (not (eqb (length rows % 10) 0)) (ltb 8000 (length rows)) m) in
-    let f : first (column_fault rows) (row_count rows) ≡ None = or_none_right (refuse (misshapen (length rows)) 1 0) (first (column_fault rows) (row_count rows)) e in
+    let f : first (column_fault rows) (row_count rows) ≡ None = or_none_right (refuse (misshapen (length rows)) Misshapen 0) (first (column_fault rows) (row_count rows)) e in
     record {
       short = omega arith;
-      kinds = λ k z. small k (not-false (known_kind rows k) (if_none (not (known_kind rows k)) _ (or_none_left (refuse (not (known_kind rows k)) 2 k) (refuse (out_of_range rows k) 3 k) (first_none (column_fault rows) (row_count rows) f k z))));
+      kinds = λ k z. small k (not-false (known_kind rows k) (if_none (not (known_kind rows k)) _ (or_none_left (refuse (not (known_kind rows k)) UnknownKind k) (refuse (out_of_range rows k) OutOfRange k) (first_none (column_fault rows) (row_count rows) f k z))));
     }
   where
     small : (k : ℕ) → known_kind rows k ≡ true → num rows k 0 < 32
@@ -60,16 +61,16 @@ shaped rows q f =
 
 -- ---- the answers of `index`
 
-pub refused : (rows : List ℤ) (v : Result Unit Refusal) (k l o : List ℕ) {a b : ℕ} → v ≡ Refused a b → verdict_of v ≡ shape_refusal rows → Indexing rows k l o v k l o
+pub refused : (rows : List ℤ) (v : Result Unit Refusal) (k l o : List ℕ) {r : Refusal} → v ≡ Err r → verdict_of v ≡ shape_refusal rows → Indexing rows k l o v k l o
 refused rows v k l o q e = record {
   verdict = ends (shape_refusal rows) (link_refusal rows) q e ∙ sym (in_two rows);
   tables = λ z. absurd (none_some (sym (sym (ap verdict_of q) ∙ e ∙ z)));
   kept = λ z. (refl, refl, refl);
 }
 
-pub indexed : (rows : List ℤ) (v : Result Unit Refusal) (k₀ l₀ o₀ k l o : List ℕ) {s : Result Unit Refusal} → Kinds rows k → Linked rows l → Owned rows o → s ≡ (Ok tt)
-    → verdict_of s ≡ shape_refusal rows → verdict_of v ≡ link_refusal rows → Indexing rows k₀ l₀ o₀ v k l o
-indexed rows v k₀ l₀ o₀ k l o a b c q e f = record {
+pub indexed : (rows : List ℤ) (v : Result Unit Refusal) (k₀ l₀ o₀ k l o : List ℕ) {s : Result Unit Refusal} → Kinds rows k → Linked rows l → Owned rows o → verdict_of s ≡ shape_refusal rows
+    → s ≡ Ok tt → verdict_of v ≡ link_refusal rows → Indexing rows k₀ l₀ o₀ v k l o
+indexed rows v k₀ l₀ o₀ k l o a b c e q f = record {
   verdict = f ∙ ap (λ y. or_else y (link_refusal rows)) (sym (passed q e)) ∙ sym (in_two rows);
   tables = λ z. record { kinds = a; links = b; owned = c };
   kept = λ z. absurd (z (passed q e));

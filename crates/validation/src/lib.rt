@@ -24,13 +24,8 @@ fn is_misshapen(n: usize) -> bool
 fn first_column_fault(rows: &[i64]) -> Verdict
     ensures { verdict_of result ≡ first (column_fault rows.now) (row_count rows.now) }
 {
-    let classes = rows::class_table();
-    let ranges = rows::range_table();
-    let n = rows::row_count(rows);
-    let mut k = 0;
-    while k < n {
-        column_faults::column_fault(&classes, &ranges, rows, k)?;
-        k += 1;
+    for k in 0..rows::row_count(rows) {
+        column_faults::column_fault(rows, k)?;
     }
     Ok(())
 }
@@ -52,11 +47,8 @@ fn first_owner_fault(rows: &[i64], links: &[u16; 1600]) -> Verdict
     requires { Linked rows.now links.now }
     ensures { verdict_of result ≡ first (owner_fault rows.now) (row_count rows.now) }
 {
-    let n = rows::row_count(rows);
-    let mut k = 0;
-    while k < n {
+    for k in 0..rows::row_count(rows) {
         link_faults::owner_fault(rows, links, k)?;
-        k += 1;
     }
     Ok(())
 }
@@ -66,11 +58,8 @@ fn first_repeat_fault(rows: &[i64], kinds: &[u16; 3680]) -> Verdict
     requires { Kinds rows.now kinds.now }
     ensures { verdict_of result ≡ first (repeat_fault rows.now) (row_count rows.now) }
 {
-    let n = rows::row_count(rows);
-    let mut k = 0;
-    while k < n {
+    for k in 0..rows::row_count(rows) {
         link_faults::repeat_fault(rows, kinds, k)?;
-        k += 1;
     }
     Ok(())
 }

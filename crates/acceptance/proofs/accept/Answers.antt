@@ -4,8 +4,8 @@ use Rattle.acceptance.proofs.accept.Goals as goal
 
 ruleset index = (rules, rows_accepted, rows_by_kind, rows_linked, rows_by_owner)
 
-pub returns-in_default : goal.returns-in_default
-returns-in_default c = search (rules, accept_rows)
+pub returns-in_err-index : goal.returns-in_err-index
+returns-in_err-index c = search (rules, accept_rows)
 
 pub held_of-held-requires : goal.held_of-held-requires
 held_of-held-requires c = search index

@@ -4,10 +4,10 @@ use borrow.Author.Rules.{rules}
 use Rattle.feasibility.proofs.check_schedule.Goals as goal
 
 pub check_times-requires : goal.check_times-requires
-check_times-requires c = indexed_of _ c.index-verdict.ensures c.in-Ok.is
+check_times-requires c = indexed_of _ c.index.ensures (search rules)
 
-pub returns-in-Err : goal.returns-in-Err
-returns-in-Err c =
+pub returns-in_err-index : goal.returns-in_err-index
+returns-in_err-index c =
     record {
       value = search (rules, rows_answer);
       out_after = search (rules, rows_left);

@@ -13,8 +13,8 @@ needs_of-need-requires c = search (rules, accepted)
 pub write_findings-requires : goal.write_findings-requires
 write_findings-requires c = search (rules, needed_of, by_none)
 
-pub returns-in-Err : goal.returns-in-Err
-returns-in-Err c =
+pub returns-in_err-refused : goal.returns-in_err-refused
+returns-in_err-refused c =
     record {
       value = search (rules, times_answer);
       out_after = search (rules, times_left);

@@ -3,6 +3,7 @@ use Rattle.refusals.specs.Refusals.{at}
 use Rattle.refusals.specs.declared.Reason.TheVariants.{Full}
 use Rattle.std.proofs.Common.{refl, arith}
 use Rattle.feasibility.proofs.Top.{Ends, accepted_copy, accepted_all, refused_full}
+use borrow.Author.Rules.{rules}
 use Rattle.feasibility.proofs.write_findings.Goals as goal
 
 pub returns-in-Over : goal.returns-in-Over
@@ -15,7 +16,7 @@ pub returns-in-Full : goal.returns-in-Full
 returns-in-Full c =
     let e : Ends c.args.rows.now c.args.out.now (Err (at Full 0)) c.hand_over-handed.new.out =
     refused_full _ _ c.requires.3 _ (omega arith) c.check_all-count.ensures c.hand_over-handed.ensures.value c.hand_over-handed.ensures.out_after c.in-Full.is in
-    record { value = e.0; out_after = e.1 }
+    record { value = search (rules, e.0); out_after = e.1 }
 
 pub returns-in-Longer : goal.returns-in-Longer
 returns-in-Longer c =

@@ -1,20 +1,13 @@
-use lib.Seq.{length-take-le}
-use mathlib.Core.Path.{sym}
-use native.Mathlib.Omega.{arith}
-use Rattle.freebusy_property.proofs.LineLaws.{leads}
+use Rattle.std.proofs.Common.{rules, not}
+use Rattle.std.proofs.lemmas.Iterator.{YieldsList-from_slice}
+use Rattle.std.proofs.lemmas.Iterator.Search.{position_from_yields_List}
+use borrow.Author.Tests.{tests}
+use Rattle.freebusy_lines.specs.Bytes.{is_name_byte}
+use Rattle.freebusy_property.proofs.NameLaws.{leading_position}
 use Rattle.freebusy_property.proofs.leading_name.Goals as goal
 
-pub loop-i-init : goal.loop-i-init
-loop-i-init c = search leads
-
-pub slice_bounds-result-end : goal.slice_bounds-result-end
-slice_bounds-result-end c = sym (length-take-le _ _ (omega arith))
-
-pub returns-then-not-is_name_byte : goal.returns-then-not-is_name_byte
-returns-then-not-is_name_byte c = search leads
-
-pub loop-i-preserved : goal.loop-i-preserved
-loop-i-preserved c = search leads
-
 pub returns : goal.returns
-returns c = search leads
+returns c =
+    leading_position is_name_byte c.args.l.now
+    (position_from_yields_List (λ x. not (is_name_byte x)) _ _ _ c.position.ensures.ran (YieldsList-from_slice c.args.l.now c.iter.ensures.rest) (λ x b q k. search (rules, tests)))
+    c.unwrap_or-end.ensures

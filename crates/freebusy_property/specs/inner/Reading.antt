@@ -3,10 +3,6 @@ use Rattle.std.specs.Prelude.{ℕ, ◌+◌, Bool, cond, ◌&&◌, List, ltb}
 use Rattle.loops.specs.Lists.{all_of, count_of}
 use Rattle.freebusy_property.specs.Property.{is_fbtype, one_fbparam}
 
--- the parameters, where so many before them are FBTYPE
-unfoldable pub fbparam_from : ℕ → List (List ℕ) → Bool
-fbparam_from types ps = all_of one_fbparam ps && ltb (types + count_of is_fbtype ps) 2
-
--- 1 for FBTYPE, 0 for another
-unfoldable pub type_count : List ℕ → ℕ
-type_count p = cond (is_fbtype p) 1 0
+-- the parameters, where one before them is FBTYPE or none is
+unfoldable pub fbparam_from : Bool → List (List ℕ) → Bool
+fbparam_from typed ps = all_of one_fbparam ps && ltb (cond typed 1 0 + count_of is_fbtype ps) 2

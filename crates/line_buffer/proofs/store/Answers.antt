@@ -1,12 +1,6 @@
-use Rattle.line_buffer.proofs.Storing.{stored_none, stored_next, stored_all}
-use borrow.Author.Rules.{rules}
+use Rattle.std.proofs.Common.{arith}
+use Rattle.line_buffer.proofs.Storing.{put_stored}
 use Rattle.line_buffer.proofs.store.Goals as goal
 
-pub loop-i-init : goal.loop-i-init
-loop-i-init c = stored_none _ _ _
-
-pub loop-i-preserved : goal.loop-i-preserved
-loop-i-preserved c = search (rules, stored_next)
-
 pub returns : goal.returns
-returns c = search (rules, stored_all)
+returns c = put_stored _ _ _ _ _ c.copy_from_slice.ensures.after (omega arith) c.requires

@@ -6,8 +6,8 @@ use Rattle.margin_lines.proofs.margins.Goals as goal
 pub write_margins-requires : goal.write_margins-requires
 write_margins-requires c = (search index_of, search passed_all)
 
-pub returns-in-Err : goal.returns-in-Err
-returns-in-Err c =
+pub returns-in_err-accept : goal.returns-in_err-accept
+returns-in_err-accept c =
     record {
       value = search (rules, refused_answer);
       out_after = search (rules, refused_left);

@@ -1,5 +1,6 @@
 -- What is expected of a call that writes to lent numbers, each of them 7. Assumes nothing.
 use Rattle.std.specs.Prelude.{Result, Ok, Err}
+use Rattle.refusals.specs.Refusals.{number_of}
 use Rattle.refusals.specs.declared.Refusal.{Refusal}
 use Rattle.std.specs.Prelude.{ℕ, Bool, cond, not, ◌&&◌, ◌||◌, List, eqb, ltb, ℤ, pos, length, get_or}
 use Rattle.std.specs.Int.Signed.{lt_z}

@@ -1,7 +1,7 @@
 use Rattle.text.proofs.TextLaws.{long_text, long_rows, short_answer, refused_rows, read_rows}
 use native.Mathlib.Omega.{arith}
 use borrow.Author.Rules.{rules}
-use Rattle.std.proofs.lemmas.List.Edits.{length-sets}
+use lib.Seq.{length-sets}
 use Rattle.text.proofs.read_text.Goals as goal
 
 pub returns-then-text-gt65536 : goal.returns-then-text-gt65536
@@ -15,5 +15,5 @@ returns c =
     record {
       value = search (rules, short_answer);
       rows_after =
-          read_rows _ _ (omega arith) c.read_lines.ensures.value _ (search (rules, length-sets)) _ c.in_ok-read_lines.is (search rules);
+          read_rows _ _ (omega arith) c.read_lines.ensures.value c.read_lines.new.rows (search (rules, length-sets)) c.in_ok-read_lines.field-0 (search rules) (search rules);
     }

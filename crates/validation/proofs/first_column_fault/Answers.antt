@@ -4,13 +4,13 @@ use Rattle.validation.proofs.Order.{stops, passed}
 use Rattle.validation.proofs.first_column_fault.Goals as goal
 
 pub loop-k-init : goal.loop-k-init
-loop-k-init c = (search rules, first_zero _)
+loop-k-init c = first_zero _
 
-pub returns-in_default : goal.returns-in_default
-returns-in_default c = search (rules, stops)
+pub returns-in_err-column_fault : goal.returns-in_err-column_fault
+returns-in_err-column_fault c = search (rules, stops)
 
 pub loop-k-preserved : goal.loop-k-preserved
-loop-k-preserved c = (search rules, search (rules, passed, first_miss))
+loop-k-preserved c = search (rules, passed, first_miss)
 
 pub returns : goal.returns
 returns c = search (rules, first_done)

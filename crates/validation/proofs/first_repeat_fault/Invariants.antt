@@ -1,12 +1,8 @@
-use Prim.Native.Nat.{◌≤◌, ◌-◌}
-use Rattle.std.specs.Prelude.{None}
 use mathlib.Core.Path.{◌≡◌}
+use Rattle.std.specs.Prelude.{None}
 use Rattle.loops.specs.Search.{first}
 use Rattle.sheet.specs.Refusals.{repeat_fault}
 use Rattle.validation.proofs.first_repeat_fault.Given as goal
 
 abbrev pub invariant-loop-k : goal.invariant-loop-k
-invariant-loop-k l = (l.k ≤ l.n) × (first (repeat_fault l.rows) l.k ≡ None)
-
-abbrev pub decreases-loop-k : goal.decreases-loop-k
-decreases-loop-k l = l.n - l.k
+invariant-loop-k l = first (repeat_fault l.rows) l.k ≡ None

@@ -2,11 +2,11 @@ use Rattle.validation.proofs.Order.{shaped, refused, indexed}
 use borrow.Author.Rules.{rules}
 use Rattle.validation.proofs.index.Goals as goal
 
-pub returns-in_default : goal.returns-in_default
-returns-in_default c = search (rules, refused)
+pub returns-in_err-shape_fault : goal.returns-in_err-shape_fault
+returns-in_err-shape_fault c = search (rules, refused)
 
 pub kinds_into-requires : goal.kinds_into-requires
 kinds_into-requires c = search (rules, shaped)
 
 pub returns : goal.returns
-returns c = search (rules, indexed)
+returns c = indexed _ _ _ _ _ _ _ _ (search rules) (search rules) (search rules) c.shape_fault.ensures (search rules) c.link_fault.ensures

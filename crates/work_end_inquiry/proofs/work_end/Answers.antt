@@ -6,11 +6,11 @@ use Rattle.work_end_inquiry.proofs.work_end.Goals as goal
 pub ending-requires : goal.ending-requires
 ending-requires c = search (rules, no_refusal, kinds_of, owned_of, told)
 
-pub returns-then-in_order : goal.returns-then-in_order
-returns-then-in_order c = search (rules, inquiry_ends)
+pub returns : goal.returns
+returns c = search (rules, inquiry_ends)
 
-pub returns-in-Err : goal.returns-in-Err
-returns-in-Err c = search (rules, inquiry_refused)
+pub returns-in_err-index : goal.returns-in_err-index
+returns-in_err-index c = search (rules, inquiry_refused)
 
-pub returns-else-in_order : goal.returns-else-in_order
-returns-else-in_order c = search (rules, inquiry_own)
+pub returns-then-not-in_order : goal.returns-then-not-in_order
+returns-then-not-in_order c = search (rules, inquiry_own)
