@@ -1,24 +1,26 @@
 -- What one pass finds holds up to the stop that it names: from the instant up to there no window starts or ends. Assumes nothing.
-use Prim.Native.Nat.{ℕ, zero, suc, ◌+◌, ◌*◌, ◌/◌, ◌^◌, ◌<◌, ◌≤◌, max, min}
+use Prim.Native.Nat.{ℕ, suc, ◌+◌, ◌<◌, ◌≤◌, min}
 use mathlib.Core.Path.{◌≡◌, refl, sym, ap, ap₂, subst, ◌∙◌}
 use mathlib.Core.Logic.{◌⊎◌, inl, inr}
-use mathlib.Core.Bool.{Bool, true, false, cond, ◌&&◌, and_assoc, and-true}
-use mathlib.Core.List.{List, [], ◌∷◌, ◌++◌, foldl}
+use mathlib.Core.Bool.{Bool, true, false, not, cond, ◌&&◌, ◌||◌, and_assoc, and-true}
+use mathlib.Core.List.{List, [], ◌∷◌, ◌++◌, map, foldl, foldl-append}
 use native.Mathlib.Omega.{arith}
-use lib.IntN.{pos}
-use lib.Dec.{leb, ltb}
-use lib.ListN.{length, get_or}
+use lib.IntN.{ℤ, pos}
+use lib.Dec.{ltb}
+use lib.ListN.{length, get_or, take}
+use Rattle.std.proofs.lemmas.List.{take_more, map_more}
+use mir.Syntax.{w64}
+use mir.Val.{Fits}
 use borrow.Author.Tests.{lt-ltb, le-ltb, ltb-true, ltb-false}
-use Rattle.loops.specs.Lists.{given, all_of}
-use Rattle.loops.specs.Range.{collect}
+use Rattle.loops.specs.Lists.{any_of, all_of}
 use Rattle.calendar.specs.declared.TimeWindow.{TimeWindow}
-use Rattle.calendar.specs.declared.Here.{Here}
-use Rattle.calendar.specs.declared.Joint.{Joint}
+use Rattle.calendar.specs.declared.Places.{Places}
+use Rattle.calendar.specs.declared.Stretch.{Stretch}
 use Rattle.calendar.specs.Clock.{clock}
-use Rattle.calendar.specs.Calendar.{contains, is_working_time, joint_working}
-use Rattle.calendar.specs.Layout.{windows_in, window_at, windows_of, lists_of, calendar_of, calendars_of}
-use Rattle.calendar.specs.inner.Scan.{standing_at, allows, nearer, with_window, look_at, with_calendar, joint_look}
-use Rattle.calendar.proofs.Standings.{most_of, works_most, all_work, joint_most}
+use Rattle.calendar.specs.Calendar.{Window, is_open, is_closed, contains, is_working_time, joint_working}
+use Rattle.calendar.specs.Layout.{window_of, windows_of, lists_of, calendars_of}
+use Rattle.calendar.specs.inner.Scan.{nearer, next_stop, last_instant, EndsBy, AllEndBy, with_calendar, joint_look}
+use Rattle.calendar.proofs.Windows.{stop_more}
 
 -- r is at most b, after t if b is, and x does not lie between t and r
 record Nearer (t x b r : ℕ) : Type 0 where
@@ -54,10 +56,9 @@ nearer_first t x y b m l =
     sym (nearer_min t y b (nearer t x m)) ∙ ap (nearer t y) (sym (nearer_min t x b m) ∙ ap (nearer t x) e)
 
 -- the window's own stop, then the nearer of the two
-pub window_more : (t : ℕ) (s : Here) (x : TimeWindow) {m n p q r : ℕ} → n ≡ max s.most m → m ≡ standing_at t x → r ≡ min s.stop q → q ≡ nearer t x.end p
-    → p ≡ nearer t x.start 18446744073709551615 → s.stop < 2 ^ 64 → ◌≡◌ {A = Here} (record { most = n; stop = r }) (with_window t s x)
-unfolding with_window
-window_more t s x k h e g f l = rw (k, h, e, g, f, nearer_first t x.start x.end s.stop 18446744073709551615 (omega arith))
+pub stop_next : (l : List TimeWindow) (x : TimeWindow) (t b m : ℕ) {s p q r : ℕ} → s ≡ next_stop l t b → p ≡ nearer t x.start m → q ≡ nearer t x.end p
+    → r ≡ min s q → s ≤ m → r ≡ next_stop (l ++ x ∷ []) t b
+stop_next l x t b m {s} e f g h k = h ∙ ap (min s) (g ∙ ap (nearer t x.end) f) ∙ nearer_first t x.start x.end s m k ∙ ap (λ z. nearer t x.end (nearer t x.start z)) e ∙ sym (stop_more l x t b)
 
 -- no start and no end of a window lies after t and before r
 abbrev Clear : ℕ → ℕ → List TimeWindow → Type 0
@@ -77,165 +78,144 @@ module _ (t u r : ℕ) (l : t ≤ u) (l' : u < r) where
   ltb_same e (inl h) = le-ltb t e h ∙ sym (le-ltb u e (omega arith))
   ltb_same e (inr h) = lt-ltb t e (omega arith) ∙ sym (lt-ltb u e (omega arith))
 
-  most_same : (ls : List TimeWindow) → Clear t r ls → most_of (standing_at u) ls ≡ most_of (standing_at t) ls
-  unfolding most_of standing_at contains
-  most_same [] h = refl
-  most_same (x ∷ ls) h =
-      rw (ltb_same x.start h.0.0, ltb_same x.end h.0.1, most_same ls h.1)
+  any_still : (k : Window ℤ → Bool) (w : List TimeWindow) → Clear t r w
+      → any_of (λ x. k x && contains clock (pos u) x) (map window_of w) ≡ any_of (λ x. k x && contains clock (pos t) x) (map window_of w)
+  unfolding any_of contains
+  any_still k [] h = refl
+  any_still k (x ∷ w) h = rw (ltb_same x.start h.0.0, ltb_same x.end h.0.1, any_still k w h.1)
 
--- what a pass over the windows leaves of what was known before
-record Looked (t : ℕ) (s : Here) (l : List TimeWindow) (r : Here) : Type 0 where
-  best : r.most ≡ max s.most (most_of (standing_at t) l)
-  most : r.stop ≤ s.stop
-  above : t < s.stop → t < r.stop
-  clear : Clear t r.stop l
+  works_still : (w : List TimeWindow) → Clear t r w → is_working_time clock (map window_of w) (pos u) ≡ is_working_time clock (map window_of w) (pos t)
+  unfolding is_working_time
+  works_still w h = ap₂ (λ v v'. (not (any_of is_open (map window_of w)) || v) && not v') (any_still is_open w h) (any_still is_closed w h)
 
-module _ (t : ℕ) (s : Here) (x : TimeWindow) (l : List TimeWindow) where
-  looked_more : (q : Here) → q ≡ with_window t s x → Looked t q l (foldl (with_window t) q l) → Looked t s (x ∷ l) (foldl (with_window t) q l)
-  unfolding with_window most_of
-  looked_more q e h =
-      let a = nearer_is t x.start s.stop in
-      let b = nearer_is t x.end (nearer t x.start s.stop) in
-      let m = ap (λ (z : Here). z.most) e in
-      let p = ap (λ (z : Here). z.stop) e in
-      record {
-        best = omega (arith, h.best, m);
-        most = omega (arith, h.most, p, a.most, b.most);
-        above = λ k. h.above (omega (arith, p, b.above (a.above k)));
-        clear = ((lower (omega (arith, h.most, p, b.most)) a.clear, lower (omega (arith, h.most, p)) b.clear), h.clear);
-      }
+-- what a pass over the windows leaves of the stop that was known before
+record Looked (t b : ℕ) (l : List TimeWindow) (r : ℕ) : Type 0 where
+  most : r ≤ b
+  above : t < b → t < r
+  clear : Clear t r l
 
-looked : (t : ℕ) (l : List TimeWindow) (s : Here) → Looked t s l (foldl (with_window t) s l)
-unfolding most_of
-looked t [] s = record { best = omega arith; most = omega arith; above = λ h. h; clear = tt }
-looked t (x ∷ l) s = looked_more t s x l (with_window t s x) refl (looked t l (with_window t s x))
-
-pub look_most : (l : List TimeWindow) (t b : ℕ) → (look_at l t b).most ≡ most_of (standing_at t) l
-unfolding look_at
-look_most l t b = let h = looked t l (record { most = 0; stop = b }) in omega (arith, h.best)
+looked : (t : ℕ) (l : List TimeWindow) (b : ℕ) → Looked t b l (next_stop l t b)
+unfolding next_stop
+looked t [] b = record { most = omega arith; above = λ h. h; clear = tt }
+looked t (x ∷ l) b =
+    let a = nearer_is t x.start b in
+    let c = nearer_is t x.end (nearer t x.start b) in
+    let h = looked t l (nearer t x.end (nearer t x.start b)) in
+    record {
+      most = omega (arith, h.most, a.most, c.most);
+      above = λ k. h.above (c.above (a.above k));
+      clear = ((lower (omega (arith, h.most, c.most)) a.clear, lower h.most c.clear), h.clear);
+    }
 
 -- ---- several calendars
+
+-- joint working time of lists of windows
+abbrev all_work : List (List TimeWindow) → ℕ → Bool
+all_work ls t = joint_working clock (map (map window_of) ls) (pos t)
 
 abbrev ClearAll : ℕ → ℕ → List (List TimeWindow) → Type 0
 ClearAll t r [] = Unit
 ClearAll t r (l ∷ ls) = Clear t r l × ClearAll t r ls
 
-all_same : (t u r : ℕ) → t ≤ u → u < r → (ls : List (List TimeWindow)) → ClearAll t r ls → all_work ls u ≡ all_work ls t
-unfolding all_work all_of
-all_same t u r h h' [] k = refl
-all_same t u r h h' (l ∷ ls) k = ap₂ (λ (n : ℕ) (v : Bool). allows n && v) (most_same t u r h h' l k.0) (all_same t u r h h' ls k.1)
+all_still : (t u r : ℕ) → t ≤ u → u < r → (ls : List (List TimeWindow)) → ClearAll t r ls → all_work ls u ≡ all_work ls t
+unfolding joint_working all_of
+all_still t u r h h' [] k = refl
+all_still t u r h h' (l ∷ ls) k = ap₂ ◌&&◌ (works_still t u r h h' l k.0) (all_still t u r h h' ls k.1)
 
-record Joined (t : ℕ) (s : Joint) (ls : List (List TimeWindow)) (r : Joint) : Type 0 where
+record Joined (t : ℕ) (s : Stretch) (ls : List (List TimeWindow)) (r : Stretch) : Type 0 where
   working : r.working ≡ (s.working && all_work ls t)
   most : r.stop ≤ s.stop
   above : t < s.stop → t < r.stop
   clear : ClearAll t r.stop ls
 
-abbrev joining : ℕ → Joint → List TimeWindow → Joint
-joining t s l = with_calendar s (look_at l t s.stop)
-
-module _ (t : ℕ) (s : Joint) (l : List TimeWindow) (ls : List (List TimeWindow)) where
-  joined_more : (q : Joint) → q ≡ joining t s l → Joined t q ls (foldl (joining t) q ls) → Joined t s (l ∷ ls) (foldl (joining t) q ls)
-  unfolding with_calendar look_at all_work all_of
-  joined_more q e h =
-      let a = looked t l (record { most = 0; stop = s.stop }) in
-      let p = ap (λ (z : Joint). z.stop) e in
-      record {
-        working =
-            h.working
-            ∙ ap (λ (v : Bool). v && all_work ls t) (ap (λ (z : Joint). z.working) e ∙ ap (λ (n : ℕ). s.working && allows n) (look_most l t s.stop))
-            ∙ and_assoc s.working (allows (most_of (standing_at t) l)) (all_work ls t);
-        most = omega (arith, h.most, p, a.most);
-        above = λ k. h.above (omega (arith, p, a.above k));
-        clear = (lower_all t q.stop (foldl (joining t) q ls).stop h.most l (subst (λ (n : ℕ). Clear t n l) (sym p) a.clear), h.clear);
-      }
-
-joined : (t : ℕ) (ls : List (List TimeWindow)) (s : Joint) → Joined t s ls (foldl (joining t) s ls)
-unfolding all_work all_of
+joined : (t : ℕ) (ls : List (List TimeWindow)) (s : Stretch) → Joined t s ls (foldl (with_calendar t) s ls)
+unfolding joint_working all_of
 joined t [] s = record { working = sym (and-true s.working); most = omega arith; above = λ h. h; clear = tt }
-joined t (l ∷ ls) s = joined_more t s l ls (joining t s l) refl (joined t ls (joining t s l))
+joined t (l ∷ ls) s =
+    let a = looked t l s.stop in
+    let h = joined t ls (with_calendar t s l) in
+    record {
+      working = h.working ∙ and_assoc s.working (is_working_time clock (map window_of l) (pos t)) (all_work ls t);
+      most = omega (arith, h.most, a.most);
+      above = λ k. h.above (a.above k);
+      clear = (lower_all t _ _ h.most l a.clear, h.clear);
+    }
+
+-- the next calendar of a slice
+pub look_at : (w : List TimeWindow) (cs : List Places) (i : ℕ) (d : Places) (t b : ℕ) {s r h : Stretch} {v : List TimeWindow} → i < length cs
+    → s ≡ joint_look (lists_of w (take i cs)) t b → v ≡ windows_of w (get_or cs i d).from (get_or cs i d).to → h.working ≡ is_working_time clock (map window_of v) (pos t)
+    → h.stop ≡ next_stop v t s.stop → r ≡ record { working = s.working && h.working; stop = h.stop } → r ≡ joint_look (lists_of w (take (i + 1) cs)) t b
+unfolding joint_look lists_of
+look_at w cs i d t b {s} l e f g k q =
+    (rw (g, k, f) at q)
+    ∙ ap (λ z. with_calendar t z (windows_of w (get_or cs i d).from (get_or cs i d).to)) e
+    ∙ sym
+    (ap (foldl (with_calendar t) (record { working = true; stop = b })) (map_more (λ c. windows_of w c.from c.to) cs i d l)
+    ∙ foldl-append (with_calendar t) (record { working = true; stop = b }) (map (λ c. windows_of w c.from c.to) (take i cs)) (windows_of w (get_or cs i d).from (get_or cs i d).to ∷ []))
+
+-- the first decides, or both do
+pub second_decides : (s h : Stretch) {r : Stretch} → s.working ≡ true → r ≡ record { working = h.working; stop = h.stop } → r ≡ record { working = s.working && h.working; stop = h.stop }
+second_decides s h e q = rw e q
+
+pub first_decides : (s h : Stretch) {r : Stretch} → s.working ≡ false → r ≡ record { working = s.working; stop = h.stop } → r ≡ record { working = s.working && h.working; stop = h.stop }
+first_decides s h e q = rw e (rw e at q)
 
 -- from t up to r, which is at most b, the test gives v throughout
-pub record Stretch (p : ℕ → Bool) (t b r : ℕ) (v : Bool) : Type 0 where
+pub record Steady (p : ℕ → Bool) (t b r : ℕ) (v : Bool) : Type 0 where
   pub most : r ≤ b
   pub above : t < b → t < r
   pub here : v ≡ p t
   pub same : (u : ℕ) → t ≤ u → u < r → p u ≡ v
 
-pub joint_stretch : (ls : List (List TimeWindow)) (t b : ℕ) → Stretch (all_work ls) t b (joint_look ls t b).stop (joint_look ls t b).working
-unfolding joint_look
-joint_stretch ls t b =
-    let h = joined t ls (record { working = true; stop = b }) in
+-- joint working time, as a test of numbers
+abbrev pub joint_at : List TimeWindow → List Places → ℕ → Bool
+joint_at w cs t = joint_working clock (calendars_of w cs) (pos t)
+
+pub looked_at : (w : List TimeWindow) (cs : List Places) (t b : ℕ) (s : Stretch) → s ≡ joint_look (lists_of w cs) t b → Steady (joint_at w cs) t b s.stop s.working
+unfolding joint_look calendars_of
+looked_at w cs t b s e =
+    let h = subst (Joined t (record { working = true; stop = b }) (lists_of w cs)) (sym e) (joined t (lists_of w cs) (record { working = true; stop = b })) in
     record {
       most = h.most;
       above = h.above;
       here = h.working;
-      same = λ u l l'. all_same t u (foldl (joining t) (record { working = true; stop = b }) ls).stop l l' ls h.clear ∙ sym h.working;
+      same = λ u l l'. all_still t u s.stop l l' (lists_of w cs) h.clear ∙ sym h.working;
     }
 
--- ---- what the passes say of the calendars
+-- ---- from a number on that no start or end exceeds, working time does not change
 
-works_look : (w : List ℕ) (from to t b : ℕ) → allows (look_at (windows_of w from to) t b).most ≡ is_working_time clock (calendar_of w from to) (pos t)
-unfolding calendar_of
-works_look w from to t b = ap allows (look_most (windows_of w from to) t b) ∙ works_most (windows_of w from to) t
+ends_more : (m : ℕ) (l : List TimeWindow) (x : TimeWindow) → EndsBy m l → x.start ≤ m → x.end ≤ m → EndsBy m (l ++ x ∷ [])
+ends_more m [] x h a b = ((a, b), tt)
+ends_more m (y ∷ l) x h a b = (h.0, ends_more m l x h.1 a b)
 
-pub works_at_lem : (w : List ℕ) (from to t b : ℕ) {h : Here} {r : Bool} → h ≡ look_at (windows_of w from to) t b → r ≡ allows h.most
-    → r ≡ is_working_time clock (calendar_of w from to) (pos t)
-works_at_lem w from to t b e g = g ∙ ap (λ (z : Here). allows z.most) e ∙ works_look w from to t b
+-- the next window of a slice
+pub window_at : (w : List TimeWindow) (i : ℕ) (d : TimeWindow) (t b : ℕ) {s p q r : ℕ} → i < length w → s ≡ next_stop (take i w) t b → EndsBy last_instant (take i w)
+    → p ≡ nearer t (get_or w i d).start last_instant → q ≡ nearer t (get_or w i d).end p → r ≡ min s q → Fits w64 b → Fits w64 (get_or w i d).start → Fits w64 (get_or w i d).end
+    → (r ≡ next_stop (take (i + 1) w) t b) × EndsBy last_instant (take (i + 1) w)
+window_at w i d t b l e k f g h fb fs fe =
+    let m = sym (take_more w i d l) in (
+      stop_next (take i w) (get_or w i d) t b last_instant e f g h (omega (arith, e, (looked t (take i w) b).most, fb.fits)) ∙ ap (λ z. next_stop z t b) m,
+      subst (EndsBy last_instant) m (ends_more last_instant (take i w) (get_or w i d) k (omega (arith, fs.fits)) (omega (arith, fe.fits))),
+    )
 
--- joint working time, as a test of numbers
-abbrev pub joint_at : List ℕ → List ℕ → ℕ → Bool
-joint_at w cs t = joint_working clock (calendars_of w cs) (pos t)
+all_end_more : (m : ℕ) (ls : List (List TimeWindow)) (l : List TimeWindow) → AllEndBy m ls → EndsBy m l → AllEndBy m (ls ++ l ∷ [])
+all_end_more m [] l h k = (k, tt)
+all_end_more m (x ∷ ls) l h k = (h.0, all_end_more m ls l h.1 k)
 
-pub all_work_lem : (w cs : List ℕ) (t : ℕ) → all_work (lists_of w cs) t ≡ joint_at w cs t
-unfolding calendars_of
-all_work_lem w cs t = joint_most (lists_of w cs) t
-
-pub joint_look_lem : (w cs : List ℕ) (t b : ℕ) → Stretch (joint_at w cs) t b (joint_look (lists_of w cs) t b).stop (joint_look (lists_of w cs) t b).working
-joint_look_lem w cs t b =
-    let h = joint_stretch (lists_of w cs) t b in
-    record {
-      most = h.most;
-      above = h.above;
-      here = h.here ∙ all_work_lem w cs t;
-      same = λ u l l'. sym (all_work_lem w cs u) ∙ h.same u l l';
-    }
-
-pub looked_at : (w cs : List ℕ) (t b : ℕ) (s : Joint) → s ≡ joint_look (lists_of w cs) t b → Stretch (joint_at w cs) t b s.stop s.working
-looked_at w cs t b s e = subst (λ (z : Joint). Stretch (joint_at w cs) t b z.stop z.working) (sym e) (joint_look_lem w cs t b)
-
--- ---- from a number on that none in the list exceeds, working time does not change
-
-clear_append : (t r : ℕ) (l k : List TimeWindow) → Clear t r l → Clear t r k → Clear t r (l ++ k)
-clear_append t r [] k h h' = h'
-clear_append t r (x ∷ l) k h h' = (h.0, clear_append t r l k h.1 h')
-
-clear_all_append : (t r : ℕ) (l k : List (List TimeWindow)) → ClearAll t r l → ClearAll t r k → ClearAll t r (l ++ k)
-clear_all_append t r [] k h h' = h'
-clear_all_append t r (x ∷ l) k h h' = (h.0, clear_all_append t r l k h.1 h')
-
-module _ (w cs : List ℕ) (m r : ℕ) (h : (k : ℕ) → get_or w k 0 ≤ m) where
-  clear_given : (b : Bool) (i : ℕ) → Clear m r (given b (window_at w i))
-  clear_given true i = ((inl (h (3 * i + 1)), inl (h (3 * i + 2))), tt)
-  clear_given false i = tt
-
-  clear_below : (from n : ℕ) → Clear m r (collect (λ i. given (leb from i) (window_at w i)) n)
-  unfolding collect
-  clear_below from zero = tt
-  clear_below from (suc n) =
-      clear_append m r (collect (λ i. given (leb from i) (window_at w i)) n) (given (leb from n) (window_at w n)) (clear_below from n) (clear_given (leb from n) n)
-
-  clear_lists : (n : ℕ) → ClearAll m r (collect (λ j. given true (windows_of w (get_or cs (2 * j) 0) (get_or cs (2 * j + 1) 0))) n)
-  unfolding collect windows_of
-  clear_lists zero = tt
-  clear_lists (suc n) =
-      clear_all_append m r (collect (λ j. given true (windows_of w (get_or cs (2 * j) 0) (get_or cs (2 * j + 1) 0))) n)
-      (windows_of w (get_or cs (2 * n) 0) (get_or cs (2 * n + 1) 0) ∷ [])
-      (clear_lists n) (clear_below (get_or cs (2 * n) 0) (min (get_or cs (2 * n + 1) 0) (windows_in w)), tt)
-
-pub settled_at : (w cs : List ℕ) (m : ℕ) → ((k : ℕ) → get_or w k 0 ≤ m) → (u : ℕ) → m ≤ u → joint_at w cs u ≡ joint_at w cs m
+pub all_end_at : (m : ℕ) (w : List TimeWindow) (cs : List Places) (i : ℕ) (d : Places) {v : List TimeWindow} → i < length cs → AllEndBy m (lists_of w (take i cs))
+    → v ≡ windows_of w (get_or cs i d).from (get_or cs i d).to → EndsBy m v → AllEndBy m (lists_of w (take (i + 1) cs))
 unfolding lists_of
-settled_at w cs m h u l =
-    sym (all_work_lem w cs u)
-    ∙ all_same m u (suc u) l (omega arith) (lists_of w cs) (clear_lists w cs m (suc u) h (length cs / 2))
-    ∙ all_work_lem w cs m
+all_end_at m w cs i d l h e k =
+    subst (AllEndBy m) (sym (map_more (λ c. windows_of w c.from c.to) cs i d l)) (all_end_more m _ _ h (subst (EndsBy m) e k))
+
+clear_ends : (m r : ℕ) (l : List TimeWindow) → EndsBy m l → Clear m r l
+clear_ends m r [] h = tt
+clear_ends m r (x ∷ l) h = ((inl h.0.0, inl h.0.1), clear_ends m r l h.1)
+
+clear_all_end : (m r : ℕ) (ls : List (List TimeWindow)) → AllEndBy m ls → ClearAll m r ls
+clear_all_end m r [] h = tt
+clear_all_end m r (l ∷ ls) h = (clear_ends m r l h.0, clear_all_end m r ls h.1)
+
+pub settled_at : (w : List TimeWindow) (cs : List Places) (m : ℕ) → AllEndBy m (lists_of w cs) → (u : ℕ) → m ≤ u → joint_at w cs u ≡ joint_at w cs m
+unfolding calendars_of
+settled_at w cs m h u l = all_still m u (suc u) l (omega arith) (lists_of w cs) (clear_all_end m (suc u) (lists_of w cs) h)

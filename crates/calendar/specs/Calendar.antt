@@ -1,22 +1,38 @@
 -- Calendars, over any clock. A calendar is a list of windows; its working time is a test that says of each instant whether it is working time.
-use Rattle.std.specs.Prelude.{ℕ, Bool, not, ◌&&◌, ◌||◌, List, eqb}
+use Rattle.std.specs.Prelude.{ℕ, Bool, true, false, cond, not, ◌&&◌, ◌||◌, List, eqb}
+use Rattle.calendar.specs.declared.WindowKind.{WindowKind}
+use Rattle.calendar.specs.declared.WindowKind.TheVariants.{Open, Closure, Neither}
 use Rattle.calendar.specs.Clock.{Clock, up_to}
 use Rattle.loops.specs.Lists.{any_of, all_of}
 
--- A time window [start, end): open where `closed` is 0, a closure (a blocked period) where it is 1.
+-- A time window [start, end): open, or a closure (a blocked period), or neither.
 pub record Window (T : Type 0) : Type 0 where
-  pub closed : ℕ
+  pub kind : WindowKind
   pub start : T
   pub end : T
 
 abbrev pub Calendar : Type 0 → Type 0
 Calendar T = List (Window T)
 
+-- the kind that a row names by a number
+abbrev pub kind_of : ℕ → WindowKind
+kind_of n = cond (eqb n 0) Open (cond (eqb n 1) Closure Neither)
+
+abbrev pub opens : WindowKind → Bool
+opens Open = true
+opens Closure = false
+opens Neither = false
+
+abbrev pub closes : WindowKind → Bool
+closes Open = false
+closes Closure = true
+closes Neither = false
+
 abbrev pub is_open : {T : Type 0} → Window T → Bool
-is_open x = eqb x.closed 0
+is_open x = opens x.kind
 
 abbrev pub is_closed : {T : Type 0} → Window T → Bool
-is_closed x = eqb x.closed 1
+is_closed x = closes x.kind
 
 module _ {T : Type 0} (K : Clock T) where
   -- the instant t lies in the half-open window

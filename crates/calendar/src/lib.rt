@@ -1,26 +1,88 @@
 // Calendar time: sets of whole milliseconds that calendars list as windows.
 //
-// Windows are lent as numbers, three to a window: closed (0 an open window, 1 a closure), start, end. A shorter tail is no window.
-// A calendar is the windows at the places from `from` up to, not with, `to`; several calendars are lent as numbers too, two to a
-// calendar: from, to. A place past the last window is the place of none. Any numbers may be handed in.
+// The windows of a calendar are lent as a slice. The windows of several calendars are lent as one slice, and each calendar as its places there:
+// memory is fixed where calendars are laid out, so they are no slices of slices. Any places may be handed in.
 #![tactic(auto)]
 
-ghost use Rattle.std.specs.Prelude.{◌≡◌, true, false, cond, ◌&&◌, ◌||◌, [], ◌∷◌, ◌++◌, ℕ, ◌+◌, ◌-◌, ◌*◌, ◌/◌, ◌<◌, max, min, ℤ, pos};
+ghost use Rattle.std.specs.Prelude.{◌≡◌, true, false, cond, not, ◌&&◌, ◌||◌, [], ◌∷◌, ◌++◌, map, ℕ, ◌+◌, ◌-◌, max, min, ℤ, pos};
 ghost use Rattle.loops.specs.Numbers.{to_nat};
 ghost use Rattle.calendar.specs.Clock.{clock};
-ghost use Rattle.calendar.specs.Calendar.{Calendar, is_open, is_closed, contains, covers, hits, is_working_time, interval_fits, joint_working};
+ghost use Rattle.calendar.specs.Calendar.{Calendar, kind_of, opens, closes, contains, covers, hits, is_working_time, interval_fits, joint_working};
 ghost use Rattle.calendar.specs.Amount.{joint_available_ms};
 ghost use Rattle.calendar.specs.WorkEnd.{end_from, joint_work_end};
-ghost use Rattle.calendar.specs.Layout.{windows_in, window_at, window_of, windows_of, lists_of, calendar_of, calendars_of, saying};
+ghost use Rattle.calendar.specs.Layout.{window_of, windows_of, calendar_of, lists_of, calendars_of, saying};
 ghost use Rattle.calendar.specs.Fit.{fit_of};
-ghost use Rattle.calendar.specs.inner.Scan.{standing, standing_at, allows, nearer, with_window, look_at, with_calendar, joint_look};
+ghost use Rattle.calendar.specs.inner.Scan.{nearer, next_stop, last_instant, EndsBy, joint_look, AllEndBy};
 
-// A window; `closed` is 0 where it is open, 1 where it is a closure.
+// What a window says: work may run in it, or is blocked in it, or nothing.
+#[derive(Clone, Copy, PartialEq, Eq)]
+pub enum WindowKind {
+    Open,
+    Closure,
+    Neither,
+}
+
+impl From<u64> for WindowKind {
+    // Of the numbers of rows: 0 is an open window, 1 a closure.
+    fn from(number: u64) -> WindowKind
+        ensures { result ≡ kind_of number }
+    {
+        match number {
+            0 => WindowKind::Open,
+            1 => WindowKind::Closure,
+            _ => WindowKind::Neither,
+        }
+    }
+}
+
+// A window [start, end).
 #[derive(Clone, Copy)]
 pub struct TimeWindow {
-    pub closed: u64,
+    pub kind: WindowKind,
     pub start: u64,
     pub end: u64,
+}
+
+impl TimeWindow {
+    // Whether the instant t lies in the window.
+    fn contains(self, t: u64) -> bool
+        ensures { result ≡ contains clock (pos t) (window_of self) }
+    {
+        self.start <= t && t < self.end
+    }
+
+    // Whether the window covers all of [a, e).
+    fn covers(self, a: u64, e: u64) -> bool
+        ensures { result ≡ covers clock (pos a) (pos e) (window_of self) }
+    {
+        self.start <= a && e <= self.end
+    }
+
+    // Whether the window, as a closure, hits [a, e).
+    fn hits(self, a: u64, e: u64) -> bool
+        ensures { result ≡ hits clock (pos a) (pos e) (window_of self) }
+    {
+        a < self.end && self.start < e
+    }
+}
+
+// The places of a calendar's windows among those of several calendars: from `from` up to, not with, `to`. A place past the last window is the place
+// of none.
+#[derive(Clone, Copy)]
+pub struct Places {
+    pub from: usize,
+    pub to: usize,
+}
+
+impl Places {
+    // The windows at these places.
+    pub fn windows_in(self, windows: &[TimeWindow]) -> &[TimeWindow]
+        ensures { result.now ≡ windows_of windows.now self.from self.to }
+    {
+        let to = self.to.min(windows.len());
+        let from = self.from.min(to);
+        &windows[from..to]
+    }
 }
 
 // When work ends: at an instant; or the start is no working time; or too little working time follows; or at an instant that is no u64.
@@ -32,137 +94,53 @@ pub enum WorkEnd {
     Beyond,
 }
 
-// The window at place i.
-fn window_at(w: &[u64], i: usize) -> TimeWindow
-    requires { i < windows_in w.now }
-    ensures { result ≡ window_at w.now i }
-{
-    TimeWindow {
-        closed: w[3 * i],
-        start: w[3 * i + 1],
-        end: w[3 * i + 2],
-    }
+// ---- what windows say of a time
+
+// What the windows of a calendar that were looked at say of a time: an open one is listed, an open one holds it, a closure hits it.
+#[derive(Clone, Copy)]
+struct Standing {
+    listed: bool,
+    held: bool,
+    hit: bool,
 }
 
-// The place past the last window of a calendar that ends at `to`.
-fn last_place(w: &[u64], to: usize) -> usize
-    ensures { result ≡ min to (windows_in w.now) }
-{
-    let n = w.len() / 3;
-    if to <= n { to } else { n }
-}
+impl Standing {
+    // Before the first window.
+    const NONE: Standing = Standing {
+        listed: false,
+        held: false,
+        hit: false,
+    };
 
-// Whether the instant t lies in the window.
-fn contains(x: TimeWindow, t: u64) -> bool
-    ensures { result ≡ contains clock (pos t) (window_of x) }
-{
-    if t < x.start {
-        return false;
-    }
-    t < x.end
-}
-
-// Whether the window covers all of [a, e).
-fn covers(x: TimeWindow, a: u64, e: u64) -> bool
-    ensures { result ≡ covers clock (pos a) (pos e) (window_of x) }
-{
-    if a < x.start {
-        return false;
-    }
-    e <= x.end
-}
-
-// Whether the window, as a closure, hits [a, e).
-fn hits(x: TimeWindow, a: u64, e: u64) -> bool
-    ensures { result ≡ hits clock (pos a) (pos e) (window_of x) }
-{
-    if x.end <= a {
-        return false;
-    }
-    x.start < e
-}
-
-// What one window says: 3 closed here, 2 open here, 1 open elsewhere, 0 nothing.
-fn standing_of(closed: u64, held: bool, hit: bool) -> u64
-    ensures { result ≡ standing closed held hit }
-{
-    if closed == 1 {
-        if hit {
-            return 3;
+    // With one window more, that would hold the time if it is open, and hit it if it is a closure.
+    fn add(self, kind: WindowKind, holds: bool, hits: bool) -> Standing
+        ensures { result ≡ record { listed = self.listed || opens kind; held = self.held || (opens kind && holds); hit = self.hit || (closes kind && hits) } }
+    {
+        let open = kind == WindowKind::Open;
+        let closure = kind == WindowKind::Closure;
+        Standing {
+            listed: self.listed || open,
+            held: self.held || open && holds,
+            hit: self.hit || closure && hits,
         }
-        return 0;
     }
-    if closed != 0 {
-        return 0;
+
+    // Whether work may run in that time.
+    fn allows(self) -> bool
+        ensures { result ≡ ((not self.listed || self.held) && not self.hit) }
+    {
+        (!self.listed || self.held) && !self.hit
     }
-    if held { 2 } else { 1 }
-}
-
-fn standing_at(x: TimeWindow, t: u64) -> u64
-    ensures { result ≡ standing_at t x }
-{
-    let inside = contains(x, t);
-    standing_of(x.closed, inside, inside)
-}
-
-// Whether the greatest of the windows' standings leaves it working time.
-fn is_allowed(most: u64) -> bool
-    ensures { result ≡ allows most }
-{
-    if most == 0 {
-        return true;
-    }
-    most == 2
-}
-
-fn greater(a: u64, b: u64) -> u64
-    ensures { result ≡ max a b }
-{
-    if a <= b { b } else { a }
-}
-
-fn lesser(a: u64, b: u64) -> u64
-    ensures { result ≡ min a b }
-{
-    if a <= b { a } else { b }
 }
 
 // ---- whether an interval fits
 
-// Whether it is an open window that covers all of [a, e).
-fn opens(x: TimeWindow, a: u64, e: u64) -> bool
-    ensures { result ≡ (is_open (window_of x) && covers clock (pos a) (pos e) (window_of x)) }
-{
-    if x.closed == 0 {
-        return covers(x, a, e);
-    }
-    false
-}
-
-// Whether it is a closure that hits [a, e).
-fn shuts(x: TimeWindow, a: u64, e: u64) -> bool
-    ensures { result ≡ (is_closed (window_of x) && hits clock (pos a) (pos e) (window_of x)) }
-{
-    if x.closed == 1 {
-        return hits(x, a, e);
-    }
-    false
-}
-
-fn either(a: bool, b: bool) -> bool
-    ensures { result ≡ (a || b) }
-{
-    a || b
-}
-
-// What the windows of a calendar that were looked at say of [start, end): an open one is listed, an open one covers it, a closure hits it.
+// What the windows of a calendar that were looked at say of [start, end).
 #[derive(Clone, Copy)]
 pub struct Fit {
     start: u64,
     end: u64,
-    listed: bool,
-    held: bool,
-    hit: bool,
+    standing: Standing,
 }
 
 impl Fit {
@@ -171,11 +149,9 @@ impl Fit {
         ensures { result ≡ fit_of [] start end }
     {
         Fit {
-            start: start,
-            end: end,
-            listed: false,
-            held: false,
-            hit: false,
+            start,
+            end,
+            standing: Standing::NONE,
         }
     }
 
@@ -183,12 +159,12 @@ impl Fit {
     pub fn add(self, x: TimeWindow) -> Fit
         ensures { (l : Calendar ℤ) (a e : ℕ) → self ≡ fit_of l a e → result ≡ fit_of (l ++ window_of x ∷ []) a e }
     {
+        let holds = x.covers(self.start, self.end);
+        let hits = x.hits(self.start, self.end);
         Fit {
             start: self.start,
             end: self.end,
-            listed: either(self.listed, x.closed == 0),
-            held: either(self.held, opens(x, self.start, self.end)),
-            hit: either(self.hit, shuts(x, self.start, self.end)),
+            standing: self.standing.add(x.kind, holds, hits),
         }
     }
 
@@ -196,193 +172,159 @@ impl Fit {
     pub fn fits(self) -> bool
         ensures { (l : Calendar ℤ) (a e : ℕ) → self ≡ fit_of l a e → result ≡ interval_fits clock l (pos a) (pos e) }
     {
-        either(!self.listed, self.held) && !self.hit
+        self.standing.allows()
     }
 }
 
 // Whether [a, e) fits the calendar whole.
-pub fn interval_fits(w: &[u64], from: usize, to: usize, a: u64, e: u64) -> bool
-    ensures { result ≡ interval_fits clock (calendar_of w.now from to) (pos a) (pos e) }
+pub fn interval_fits(windows: &[TimeWindow], a: u64, e: u64) -> bool
+    ensures { result ≡ interval_fits clock (map window_of windows.now) (pos a) (pos e) }
 {
-    let n = last_place(w, to);
-    let mut f = Fit::over(a, e);
-    let mut i = from;
-    while i < n {
-        f = f.add(window_at(w, i));
-        i += 1;
+    let mut fit = Fit::over(a, e);
+    for x in windows {
+        fit = fit.add(*x);
     }
-    f.fits()
+    fit.fits()
 }
 
 // ---- working time
 
 // x if it lies between t and b, else b.
-fn nearer_of(t: u64, x: u64, b: u64) -> u64
+fn nearer(t: u64, x: u64, b: u64) -> u64
     ensures { result ≡ nearer t x b }
 {
-    if x <= t {
-        return b;
-    }
-    if b <= x {
-        return b;
-    }
-    x
+    if t < x && x < b { x } else { b }
 }
 
-// What is known of a calendar at an instant: the greatest of its windows' standings, and the next instant at which one may change.
+// Whether it is working time from an instant on, and the next instant at which that may change.
 #[derive(Clone, Copy)]
-struct Here {
-    pub most: u64,
-    pub stop: u64,
+struct Stretch {
+    working: bool,
+    stop: u64,
 }
 
-// The last instant that a u64 holds: every window has ended by then.
-const LAST: u64 = 18446744073709551615;
-
-// The window's own stop comes first, so that only its comparison waits for the windows before: the processor looks at several windows at a time.
-fn with_window(s: Here, x: TimeWindow, t: u64) -> Here
-    ensures { result ≡ with_window t s x }
-{
-    let stop = nearer_of(t, x.end, nearer_of(t, x.start, LAST));
-    Here {
-        most: greater(s.most, standing_at(x, t)),
-        stop: lesser(s.stop, stop),
+impl Stretch {
+    // The working milliseconds from t up to the stop.
+    fn gained(self, t: u64) -> u64
+        ensures { result ≡ cond self.working (self.stop - t) 0 }
+    {
+        if self.working {
+            self.stop.saturating_sub(t)
+        } else {
+            0
+        }
     }
 }
 
-// The calendar at the instant t, with its next stop if that is below b, else b.
-fn look(w: &[u64], from: usize, to: usize, t: u64, b: u64) -> Here
-    ensures { result ≡ look_at (windows_of w.now from to) t b }
+// The calendar from the instant t on, with its next stop if that is below b, else b.
+fn look(windows: &[TimeWindow], t: u64, b: u64) -> Stretch
+    ensures working { result.working ≡ is_working_time clock (map window_of windows.now) (pos t) }
+    ensures stop { result.stop ≡ next_stop windows.now t b }
+    ensures ends { EndsBy last_instant windows.now }
 {
-    let n = last_place(w, to);
-    let mut s = Here { most: 0, stop: b };
-    let mut i = from;
-    while i < n {
-        s = with_window(s, window_at(w, i), t);
-        i += 1;
+    let mut standing = Standing::NONE;
+    let mut stop = b;
+    for x in windows {
+        let here = x.contains(t);
+        standing = standing.add(x.kind, here, here);
+        // The window's own stop comes first, so that only its comparison waits for the windows before: the processor looks at several at a time.
+        stop = stop.min(nearer(t, x.end, nearer(t, x.start, u64::MAX)));
     }
-    s
+    Stretch {
+        working: standing.allows(),
+        stop,
+    }
 }
 
 // Whether t is working time of the calendar.
-pub fn is_working_time(w: &[u64], from: usize, to: usize, t: u64) -> bool
-    ensures { result ≡ is_working_time clock (calendar_of w.now from to) (pos t) }
+pub fn is_working_time(windows: &[TimeWindow], t: u64) -> bool
+    ensures { result ≡ is_working_time clock (map window_of windows.now) (pos t) }
 {
-    let s = look(w, from, to, t, t);
-    is_allowed(s.most)
+    look(windows, t, t).working
 }
 
-// Several calendars at an instant: whether it is working time of all, and the next instant at which that may change.
+// Several calendars: the windows of all, and the places of each.
 #[derive(Clone, Copy)]
-struct Joint {
-    pub working: bool,
-    pub stop: u64,
+pub struct Calendars<'a> {
+    pub windows: &'a [TimeWindow],
+    pub places: &'a [Places],
 }
 
-fn with_calendar(s: Joint, x: Here) -> Joint
-    ensures { result ≡ with_calendar s x }
-{
-    Joint {
-        working: s.working && is_allowed(x.most),
-        stop: x.stop,
-    }
-}
-
-fn joint_look(cs: &[usize], w: &[u64], t: u64, b: u64) -> Joint
-    ensures { result ≡ joint_look (lists_of w.now cs.now) t b }
-{
-    let n = cs.len() / 2;
-    let mut s = Joint {
-        working: true,
-        stop: b,
-    };
-    let mut j = 0;
-    while j < n {
-        s = with_calendar(s, look(w, cs[2 * j], cs[2 * j + 1], t, s.stop));
-        j += 1;
-    }
-    s
-}
-
-// Whether t is working time of every one of the calendars.
-pub fn joint_working(cs: &[usize], w: &[u64], t: u64) -> bool
-    ensures { result ≡ joint_working clock (calendars_of w.now cs.now) (pos t) }
-{
-    let s = joint_look(cs, w, t, t);
-    s.working
-}
-
-// What b leaves of a.
-fn less(a: u64, b: u64) -> u64
-    ensures { result ≡ a - b }
-{
-    if a <= b { 0 } else { a - b }
-}
-
-// The working milliseconds from t up to the next stop.
-fn gained(s: Joint, t: u64) -> u64
-    ensures { result ≡ cond s.working (s.stop - t) 0 }
-{
-    if !s.working {
-        return 0;
-    }
-    less(s.stop, t)
-}
-
-// Joint working time within [a, e), in milliseconds.
-pub fn joint_available_ms(cs: &[usize], w: &[u64], a: u64, e: u64) -> u64
-    ensures { result ≡ joint_available_ms clock (calendars_of w.now cs.now) (pos a) (pos e) }
-{
-    let mut t = a;
-    let mut sum = 0;
-    while t < e {
-        let s = joint_look(cs, w, t, e);
-        sum += gained(s, t);
-        t = s.stop;
-    }
-    sum
-}
-
-// The first instant by which `work` milliseconds of joint working time have passed since `start`. A start in a pause is no obstacle here.
-pub fn end_from(cs: &[usize], w: &[u64], start: u64, work: u64) -> WorkEnd
-    ensures { result ≡ saying (end_from clock (calendars_of w.now cs.now) (pos start) work) }
-{
-    if work == 0 {
-        return WorkEnd::End(start);
-    }
-    let mut t = start;
-    let mut left = work;
-    while t < LAST {
-        let s = joint_look(cs, w, t, LAST);
-        let d = gained(s, t);
-        if left <= d {
-            return WorkEnd::End(t + left);
+impl<'a> Calendars<'a> {
+    // All of them from the instant t on, with their next stop if that is below b, else b.
+    fn look(self, t: u64, b: u64) -> Stretch
+        ensures value { result ≡ joint_look (lists_of self.entry.windows.now self.entry.places.now) t b }
+        ensures ends { AllEndBy last_instant (lists_of self.entry.windows.now self.entry.places.now) }
+    {
+        let mut all = Stretch {
+            working: true,
+            stop: b,
+        };
+        for places in self.places {
+            let here = look(places.windows_in(self.windows), t, all.stop);
+            all = Stretch {
+                working: all.working && here.working,
+                stop: here.stop,
+            };
         }
-        left = less(left, d);
-        t = s.stop;
+        all
     }
-    if joint_working(cs, w, t) {
-        return WorkEnd::Beyond;
-    }
-    WorkEnd::Never
-}
 
-// An amount of work that may be below zero, which counts as none.
-fn amount(work: i64) -> u64
-    ensures { result ≡ to_nat work }
-{
-    if work <= 0 {
-        return 0;
+    // Whether t is working time of every one of the calendars.
+    pub fn joint_working(self, t: u64) -> bool
+        ensures { result ≡ joint_working clock (calendars_of self.entry.windows.now self.entry.places.now) (pos t) }
+    {
+        self.look(t, t).working
     }
-    work as u64
-}
 
-// When `work` milliseconds of work started at `start` end, if it runs only while every one of the calendars works and pauses otherwise.
-pub fn joint_work_end(cs: &[usize], w: &[u64], start: u64, work: i64) -> WorkEnd
-    ensures { result ≡ saying (joint_work_end clock (calendars_of w.now cs.now) (pos start) work) }
-{
-    if !joint_working(cs, w, start) {
-        return WorkEnd::Pause;
+    // Joint working time within [a, e), in milliseconds.
+    pub fn joint_available_ms(self, a: u64, e: u64) -> u64
+        ensures { result ≡ joint_available_ms clock (calendars_of self.entry.windows.now self.entry.places.now) (pos a) (pos e) }
+    {
+        let mut t = a;
+        let mut sum = 0;
+        while t < e {
+            let s = self.look(t, e);
+            sum += s.gained(t);
+            t = s.stop;
+        }
+        sum
     }
-    end_from(cs, w, start, amount(work))
+
+    // The first instant by which `work` milliseconds of joint working time have passed since `start`. A start in a pause is no obstacle here.
+    pub fn end_from(self, start: u64, work: u64) -> WorkEnd
+        ensures { result ≡ saying (end_from clock (calendars_of self.entry.windows.now self.entry.places.now) (pos start) work) }
+    {
+        if work == 0 {
+            return WorkEnd::End(start);
+        }
+        let mut t = start;
+        let mut left = work;
+        // At the last instant of a u64 every window has ended.
+        while t < u64::MAX {
+            let s = self.look(t, u64::MAX);
+            let d = s.gained(t);
+            if left <= d {
+                return WorkEnd::End(t + left);
+            }
+            left -= d;
+            t = s.stop;
+        }
+        if self.look(t, t).working {
+            WorkEnd::Beyond
+        } else {
+            WorkEnd::Never
+        }
+    }
+
+    // When `work` milliseconds of work started at `start` end, if it runs only while every one of the calendars works and pauses otherwise. Work below
+    // zero counts as none.
+    pub fn joint_work_end(self, start: u64, work: i64) -> WorkEnd
+        ensures { result ≡ saying (joint_work_end clock (calendars_of self.entry.windows.now self.entry.places.now) (pos start) work) }
+    {
+        if !self.joint_working(start) {
+            return WorkEnd::Pause;
+        }
+        self.end_from(start, u64::try_from(work).unwrap_or(0))
+    }
 }

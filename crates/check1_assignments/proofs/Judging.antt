@@ -19,7 +19,7 @@ use Rattle.loops.specs.Range.{collect}
 use Rattle.loops.specs.inner.Chain.{Silent}
 use Rattle.loops.proofs.NumberLaws.{shorter}
 use Rattle.rows.specs.Cells.{row_count, cell, num, is}
-use Rattle.rows.specs.Class.{t?_c}
+use Rattle.rows.specs.declared.Class.TheVariants.{OptionalInstant}
 use Rattle.sheet.specs.Places.{of_kind, place_of}
 use Rattle.sheet.specs.declared.Found.{Found}
 use Rattle.sheet.specs.declared.Found.TheVariants.{At, Nothing}
@@ -47,7 +47,7 @@ module _ (rows : List ℤ) where
   -- ---- releases
 
   early_cell : (b : Assignment ℤ) (s : ℕ) → b.start ≡ pos s → (x : ℤ)
-      → early_assignment clock (sheet rows) b (as_instant (read t?_c x)) ≡ given (ltb s (to_nat x)) (early_start 1 b.activity)
+      → early_assignment clock (sheet rows) b (as_instant (read OptionalInstant x)) ≡ given (ltb s (to_nat x)) (early_start 1 b.activity)
   early_cell b s e (pos n) = rw e
   early_cell b s e (negsuc n) = rw (le-ltb s 0 (omega arith))
 

@@ -12,7 +12,7 @@ use borrow.Author.Tests.{lt-ltb, le-ltb, eq-eqb}
 use Rattle.loops.specs.Lists.{is_some}
 use Rattle.loops.specs.inner.Chain.{First}
 use Rattle.rows.specs.Cells.{row_count, cell, num, is}
-use Rattle.rows.specs.Class.{n?_c}
+use Rattle.rows.specs.declared.Class.TheVariants.{OptionalNumber}
 use Rattle.rows.specs.Ranges.{is_none, between, in_range, in_class}
 use Rattle.sheet.specs.inner.Accepted.{Accepted}
 use Rattle.sheet.specs.Places.{place_of}
@@ -40,7 +40,7 @@ part_index : (p : Option Part) → is_some p ≡ is_some (index_of p)
 part_index None = refl
 part_index (Some p) = refl
 
-none_class : in_class n?_c (negsuc 9223372036854775807) ≡ true
+none_class : in_class OptionalNumber (negsuc 9223372036854775807) ≡ true
 unfolding in_class in_range between is_none
 none_class = refl
 
@@ -56,7 +56,7 @@ after_none : (y : Option ℤ) → is_some y ≡ before_index None y
 after_none None = refl
 after_none (Some y) = refl
 
-index_some : (x : ℤ) → in_class n?_c x ≡ true → is_some (index_in x) ≡ ltb 0 (index_key x)
+index_some : (x : ℤ) → in_class OptionalNumber x ≡ true → is_some (index_in x) ≡ ltb 0 (index_key x)
 index_some x e =
     after_none (index_in x)
     ∙ ap (λ z. before_index z (index_in x)) (sym none_index)

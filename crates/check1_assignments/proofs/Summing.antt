@@ -19,7 +19,7 @@ use Rattle.loops.specs.inner.Chain.{First, Stands, only_at}
 use Rattle.loops.proofs.ListLaws.{map_collect, foldl_collect}
 use Rattle.loops.proofs.RangeLaws.{fold_ext}
 use Rattle.rows.specs.Cells.{row_count, cell, num, is}
-use Rattle.rows.specs.Class.{n_c}
+use Rattle.rows.specs.declared.Class.TheVariants.{Number}
 use Rattle.rows.specs.Ranges.{in_class}
 use Rattle.sheet.specs.inner.Accepted.{Accepted}
 use Rattle.sheet.specs.Places.{place_of}
@@ -66,17 +66,17 @@ add_neg r o n = go (dec_lt r o)
 
 -- ---- a quantity added
 
-raise : (x : ℤ) (r o : ℕ) → in_class n_c x ≡ true → sub_ℕ (r + index_key x) (o + 1000001) ≡ sub_ℕ r o +ℤ x
+raise : (x : ℤ) (r o : ℕ) → in_class Number x ≡ true → sub_ℕ (r + index_key x) (o + 1000001) ≡ sub_ℕ r o +ℤ x
 raise (pos n) r o e = rw (key_pos n) (sub_same (r + (n + 1000001)) (o + 1000001) (r + n) o (omega arith)) ∙ sym (add_pos r o n)
 raise (negsuc n) r o e =
     let l = number_low n e in
     rw (key_neg n l) (sub_same (r + (1000000 - n)) (o + 1000001) r (o + suc n) (omega arith)) ∙ sym (add_neg r o n)
 
-pub raised_by : (x : ℤ) (r o : ℕ) → in_class n_c x ≡ true → pos (r + index_key x) -ℤ pos (o + 1000001) ≡ (pos r -ℤ pos o) +ℤ x
+pub raised_by : (x : ℤ) (r o : ℕ) → in_class Number x ≡ true → pos (r + index_key x) -ℤ pos (o + 1000001) ≡ (pos r -ℤ pos o) +ℤ x
 raised_by x r o e = sub_is (r + index_key x) (o + 1000001) ∙ raise x r o e ∙ ap (λ z. z +ℤ x) (sym (sub_is r o))
 
 module _ (rows : List ℤ) (acc : Accepted rows) where
-  quantity_class : (q : ℕ) → is rows q 0 5 ≡ true → in_class n_c (cell rows q 3) ≡ true
+  quantity_class : (q : ℕ) → is rows q 0 5 ≡ true → in_class Number (cell rows q 3) ≡ true
   quantity_class q h = in_class_lem rows acc q 5 3 h
 
   quantity_key : (q : ℕ) → is rows q 0 5 ≡ true → index_key (cell rows q 3) ≤ 2000001

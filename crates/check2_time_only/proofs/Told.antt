@@ -2,11 +2,12 @@
 use Prim.Native.Nat.{ℕ, suc, ◌+◌, ◌<◌, ◌≤◌}
 use mathlib.Core.Path.{◌≡◌, refl, ap, ap₂, sym, ◌∙◌}
 use mathlib.Core.Bool.{Bool, true, false, cond, not, ◌&&◌, and-true}
-use mathlib.Core.List.{List, [], ◌∷◌, append-nil}
+use mathlib.Core.List.{List, [], ◌∷◌, map, append-nil}
 use Rattle.std.specs.Prelude.{Option, None, Some}
 use native.Mathlib.Omega.{arith}
 use lib.Dec.{eqb, ltb}
 use lib.IntN.{ℤ, pos}
+use lib.ListN.{length}
 use lib.Signed.{lt_z}
 use mir.Syntax.{w64}
 use mir.Val.{Fits}
@@ -18,7 +19,9 @@ use Rattle.loops.proofs.ListLaws.{each_collect, each_keep}
 use Rattle.calendar.specs.Clock.{clock}
 use Rattle.calendar.specs.Calendar.{Calendar, is_working_time, interval_fits, joint_working}
 use Rattle.calendar.specs.Amount.{joint_available_ms}
-use Rattle.calendar.specs.Layout.{lists_of, calendar_of, calendars_of}
+use Rattle.calendar.specs.declared.TimeWindow.{TimeWindow}
+use Rattle.calendar.specs.Layout.{window_of, calendars_of}
+use Rattle.calendar.proofs.Windows.{one_calendar}
 use Rattle.loops.proofs.NumberLaws.{shorter}
 use Rattle.rows.specs.Cells.{row_count, num, is}
 use Rattle.sheet.specs.declared.Found.{Found}
@@ -37,7 +40,6 @@ use Rattle.model.specs.Sheet.{sheet}
 use Rattle.model.specs.inner.Records.{task_of, maybe_at, activity_of, span_of}
 use Rattle.model.specs.Task.{Task, task_at, tasks, find_task}
 use Rattle.model.specs.Activity.{Activity, activity_at, activities, activities_of, requirements}
-use Rattle.model.specs.Resource.{windows}
 use Rattle.model.specs.Schedule.{time_only_below, time_only, unknown_activity, duration_too_short, time_window_violation, early_start}
 use Rattle.model.proofs.RowLaws.{task_row, task_none, activity_row, activity_none, span_row, span_none}
 use Rattle.model.proofs.Accepting.{accepted, at_most, found_again}
@@ -45,14 +47,10 @@ use Rattle.model.proofs.OwnedLaws.{of_task}
 use Rattle.model.proofs.Standing.{stands_kind}
 use Rattle.model.proofs.Finds.{find_task_lem, found_self}
 use Rattle.definition.specs.CheckTimeOnly.{known, seen, early_span, check_first, check_span, check_span_at, check_unplaced}
-use Rattle.check2_time_only.specs.inner.Tests.{too_short, outside_own}
+use Rattle.check2_time_only.specs.inner.Tests.{own_windows, too_short, outside_own}
 use Rattle.check2_time_only.specs.inner.Known.{Known}
 
 -- ---- the windows of one calendar
-
-pub one_calendar : (w : List ℕ) (to : ℕ) → calendars_of w (0 ∷ to ∷ []) ≡ calendar_of w 0 to ∷ []
-unfolding calendars_of lists_of calendar_of collect
-one_calendar w to = refl
 
 joint_one : (l : Calendar ℤ) (t : ℤ) → joint_working clock (l ∷ []) t ≡ is_working_time clock l t
 unfolding joint_working all_of
@@ -84,15 +82,15 @@ module _ (rows : List ℤ) (a k : ℕ) where
       omega arith
 
   abbrev own : Calendar ℤ
-  own = windows (sheet rows) 16 (num rows a 1)
+  own = own_windows rows a
 
-  module _ (w : List ℕ) (to : ℕ) (c : calendar_of w 0 to ≡ windows (sheet rows) 16 (num rows a 1)) where
+  module _ (w : List TimeWindow) (c : map window_of w ≡ own_windows rows a) where
     pub short_resumed : {r : Bool} {v work start end : ℕ} → r ≡ is rows a 7 1 → r ≡ true → work ≡ total_ms (activity_of rows a).duration → start ≡ num rows k 3
-        → end ≡ num rows k 4 → v ≡ joint_available_ms clock (calendars_of w (0 ∷ to ∷ [])) (pos start) (pos end)
+        → end ≡ num rows k 4 → v ≡ joint_available_ms clock (calendars_of w (record { from = 0; to = length w } ∷ [])) (pos start) (pos end)
         → ltb v work ≡ too_short clock (span_of rows k) (activity_of rows a) own
     unfolding is
     short_resumed {v = v} {start = start} {end} q h wk s e g =
-        let j : v ≡ joint_available_ms clock (own ∷ []) (pos (num rows k 3)) (pos (num rows k 4)) = rw (one_calendar w to, c, s, e) at g in
+        let j : v ≡ joint_available_ms clock (own ∷ []) (pos (num rows k 3)) (pos (num rows k 4)) = rw (one_calendar w, c, s, e) at g in
         rw (sym q ∙ h) (ap₂ ltb j wk)
 
     pub short_plain : {r : Bool} {work start end : ℕ} → r ≡ is rows a 7 1 → r ≡ false → work ≡ total_ms (activity_of rows a).duration → start ≡ num rows k 3
@@ -100,7 +98,7 @@ module _ (rows : List ℤ) (a k : ℕ) where
     unfolding is
     short_plain q h wk s e = rw (sym q ∙ h) (ap₂ (λ x y. ltb x y) e (ap₂ ◌+◌ s wk) ∙ sym (shorter (num rows k 3) (num rows k 4) (total_ms (activity_of rows a).duration)))
 
-    pub outside_resumed : {r b : Bool} {start : ℕ} → r ≡ is rows a 7 1 → r ≡ true → start ≡ num rows k 3 → b ≡ is_working_time clock (calendar_of w 0 to) (pos start)
+    pub outside_resumed : {r b : Bool} {start : ℕ} → r ≡ is rows a 7 1 → r ≡ true → start ≡ num rows k 3 → b ≡ is_working_time clock (map window_of w) (pos start)
         → not b ≡ outside_own clock (span_of rows k) (activity_of rows a) own
     unfolding is
     outside_resumed {b = b} q h s g =
@@ -108,7 +106,7 @@ module _ (rows : List ℤ) (a k : ℕ) where
         rw (sym q ∙ h) (ap not j)
 
     pub outside_plain : {r b : Bool} {start end : ℕ} → r ≡ is rows a 7 1 → r ≡ false → start ≡ num rows k 3 → end ≡ num rows k 4
-        → b ≡ interval_fits clock (calendar_of w 0 to) (pos start) (pos end) → not b ≡ outside_own clock (span_of rows k) (activity_of rows a) own
+        → b ≡ interval_fits clock (map window_of w) (pos start) (pos end) → not b ≡ outside_own clock (span_of rows k) (activity_of rows a) own
     unfolding is
     outside_plain q h s e g = rw (sym q ∙ h) (ap not (rw (c, s, e) at g))
 

@@ -1,12 +1,12 @@
 // Check 2, `check_time_only`: the spans of the activities that hold no resource, and the activities among them that have none.
 #![tactic(auto)]
 
-ghost use Rattle.std.specs.Prelude.{◌≡◌, true, false, ◌<◌, ◌≤◌, pos, length};
+ghost use Rattle.std.specs.Prelude.{◌≡◌, true, false, ◌<◌, ◌≤◌, pos, map};
 ghost use Rattle.std.specs.Prelude.{None, Some};
 ghost use Rattle.std.specs.Int.Signed.{lt_z};
 ghost use Rattle.loops.specs.Lists.{given, option, is_empty, each};
 ghost use Rattle.calendar.specs.Clock.{clock};
-ghost use Rattle.calendar.specs.Layout.{calendar_of};
+ghost use Rattle.calendar.specs.Layout.{window_of};
 ghost use Rattle.rows.specs.Cells.{row_count, num, is};
 ghost use Rattle.sheet.specs.Places.{place_of, task_place};
 ghost use Rattle.sheet.specs.Refusals.{refusal_of};
@@ -17,18 +17,19 @@ ghost use Rattle.model.specs.Sheet.{sheet};
 ghost use Rattle.model.specs.inner.Indexed.{Indexed};
 ghost use Rattle.model.specs.Task.{tasks};
 ghost use Rattle.model.specs.Activity.{requirements, activities_of};
-ghost use Rattle.model.specs.Resource.{windows};
 ghost use Rattle.model.specs.Schedule.{time_only_below, violation};
 ghost use Rattle.model.specs.inner.Records.{maybe_at, activity_of, span_of};
 ghost use Rattle.spans.specs.inner.Instants.{meant};
 ghost use Rattle.definition.specs.CheckTimeOnly.{seen, check_first, check_span_at, check_unplaced, check_time_only};
-ghost use Rattle.check2_time_only.specs.inner.Tests.{too_short, outside_own};
+ghost use Rattle.check2_time_only.specs.inner.Tests.{own_windows, too_short, outside_own};
 ghost use Rattle.loops.specs.Range.{collect};
 ghost use Rattle.check2_time_only.specs.inner.Known.{Known};
 
+use calendar::{Calendars, Places, TimeWindow};
 use findings::Violation;
 use sheet::Found;
 use spans::Instant;
+use window_rows::WindowList;
 
 // Whether the activity of row a holds no resource.
 fn is_free(rows: &[i64], owned: &[u16; 8810], a: usize) -> bool
@@ -47,11 +48,8 @@ fn known(rows: &[i64], links: &[u16; 1600], owned: &[u16; 8810], k: usize) -> Fo
         return Found::Nothing;
     };
     let task = rows::num_at(rows, k, 2);
-    if is_free(rows, owned, a) {
-        if rows::is_at(rows, a, 2, task) {
-            return Found::At(a);
-        }
-        return Found::Nothing;
+    if is_free(rows, owned, a) && rows::is_at(rows, a, 2, task) {
+        return Found::At(a);
     }
     Found::Nothing
 }
@@ -85,31 +83,38 @@ fn work_of(rows: &[i64], a: usize) -> u64
 }
 
 // Whether the span of row k has less working time than the activity of row a needs.
-fn is_short(rows: &[i64], a: usize, k: usize, w: &[u64; 2400], to: usize) -> bool
-    requires { (refusal_of rows.now ≡ None) × (is rows.now a 0 2 ≡ true) × (is rows.now k 0 24 ≡ true) × (length w.now ≡ 2400) × (calendar_of w.now 0 to ≡ windows (sheet rows.now) 16 (num rows.now a 1)) }
-    ensures { result ≡ too_short clock (span_of rows.now k) (activity_of rows.now a) (windows (sheet rows.now) 16 (num rows.now a 1)) }
+fn is_short(rows: &[i64], a: usize, k: usize, windows: &[TimeWindow]) -> bool
+    requires { (refusal_of rows.now ≡ None) × (is rows.now a 0 2 ≡ true) × (is rows.now k 0 24 ≡ true) × (map window_of windows.now ≡ own_windows rows.now a) }
+    ensures { result ≡ too_short clock (span_of rows.now k) (activity_of rows.now a) (own_windows rows.now a) }
 {
     let work = work_of(rows, a);
     let start = rows::num_at(rows, k, 3);
     let end = rows::num_at(rows, k, 4);
     if rows::is_at(rows, a, 7, 1) {
-        let cs = [0, to];
-        return calendar::joint_available_ms(&cs, w, start, end) < work;
+        let all = [Places {
+            from: 0,
+            to: windows.len(),
+        }];
+        let calendar = Calendars {
+            windows,
+            places: &all,
+        };
+        return calendar.joint_available_ms(start, end) < work;
     }
     end < start + work
 }
 
 // Whether the span of row k lies outside the activity's windows.
-fn is_outside(rows: &[i64], a: usize, k: usize, w: &[u64; 2400], to: usize) -> bool
-    requires { (length w.now ≡ 2400) × (calendar_of w.now 0 to ≡ windows (sheet rows.now) 16 (num rows.now a 1)) }
-    ensures { result ≡ outside_own clock (span_of rows.now k) (activity_of rows.now a) (windows (sheet rows.now) 16 (num rows.now a 1)) }
+fn is_outside(rows: &[i64], a: usize, k: usize, windows: &[TimeWindow]) -> bool
+    requires { map window_of windows.now ≡ own_windows rows.now a }
+    ensures { result ≡ outside_own clock (span_of rows.now k) (activity_of rows.now a) (own_windows rows.now a) }
 {
     let start = rows::num_at(rows, k, 3);
     let end = rows::num_at(rows, k, 4);
     if rows::is_at(rows, a, 7, 1) {
-        return !calendar::is_working_time(w, 0, to, start);
+        return !calendar::is_working_time(windows, start);
     }
-    !calendar::interval_fits(w, 0, to, start, end)
+    !calendar::interval_fits(windows, start, end)
 }
 
 // Whether the span of row k starts before a release.
@@ -160,10 +165,10 @@ fn check_first(
     requires { Linked rows.now links.now × Owned rows.now owned.now × (refusal_of rows.now ≡ None) × (is rows.now k 0 24 ≡ true) × (place_of rows.now 2 (num rows.now k 1) ≡ Some a) }
     ensures { sink out.new result ≡ emit (sink out.old n) (check_first clock (sheet rows.now) (span_of rows.now k) (activity_of rows.now a)) }
 {
-    let mut w = [0u64; 2400];
-    let to = window_rows::gather_windows(rows, owned, a, 16, &mut w, 0);
-    let short = is_short(rows, a, k, &w, to);
-    let outside = is_outside(rows, a, k, &w, to);
+    let mut windows = WindowList::new();
+    window_rows::gather_windows(rows, owned, a, 16, &mut windows);
+    let short = is_short(rows, a, k, windows.as_slice());
+    let outside = is_outside(rows, a, k, windows.as_slice());
     let own = is_early(rows, k, spans::instant_at(rows, a, 8));
     let of_task = is_early(rows, k, task_release(rows, links, a));
     let id = rows::id_at(rows, k, 1);

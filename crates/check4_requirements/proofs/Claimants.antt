@@ -27,6 +27,7 @@ use Rattle.sheet.specs.Places.{named, place_of}
 use Rattle.sheet.specs.Refusals.{is_absent, lacks}
 use Rattle.sheet.specs.inner.Accepted.{Accepted}
 use Rattle.sheet.proofs.Lookups.{is_num, num_is, Named, placed}
+use Rattle.owners.specs.declared.Owner.TheVariants.{ResourceRow}
 use Rattle.owners.specs.inner.Owners.{owner_kind, owned_by}
 use Rattle.model.specs.Sheet.{sheet, row_at}
 use Rattle.model.specs.inner.Records.{num_at, requirement_of, resource_of}
@@ -62,7 +63,7 @@ skill_along rows r v =
 module _ (rows : List ℤ) (acc : Accepted rows) where
   -- ---- rows of a resource
 
-  module _ (x : ℕ) (o : owner_kind x ≡ 11) (cl : (k : ℕ) → lacks (class_of x 1) rows k 1 ≡ is_absent (place_of rows 11 (num rows k 1)))
+  module _ (x : ℕ) (o : owner_kind x ≡ Some ResourceRow) (cl : (k : ℕ) → lacks (class_of x 1) rows k 1 ≡ is_absent (place_of rows 11 (num rows k 1)))
       (plain : (r k : ℕ) → is rows k 0 x ≡ true → given (eqb (num_at (sheet rows) k 1) r) (num_at (sheet rows) k 2) ≡ given (eqb (num rows k 1) r) (num rows k 2)) where
     -- rows of the kind name a resource of the sheet
     known : (k : ℕ) → k < row_count rows → is rows k 0 x ≡ true → place_of rows 11 (num rows k 1) ≡ None → ⊥

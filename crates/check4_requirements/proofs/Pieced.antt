@@ -25,7 +25,7 @@ use Rattle.loops.proofs.PlaceLaws.{found_at, place_none}
 use Rattle.loops.proofs.PartLaws.{collect_nothing}
 use Rattle.calendar.specs.Clock.{clock}
 use Rattle.rows.specs.Cells.{row_count, cell, num, is}
-use Rattle.rows.specs.Class.{n?_c}
+use Rattle.rows.specs.declared.Class.TheVariants.{OptionalNumber}
 use Rattle.rows.specs.Ranges.{between, is_none, in_range, in_class}
 use Rattle.sheet.specs.inner.Accepted.{Accepted}
 use Rattle.sheet.proofs.Lookups.{is_num}
@@ -56,12 +56,12 @@ number (Some i) = index_key i
 
 valid : Option ℤ → Bool
 valid None = true
-valid (Some i) = in_class n?_c i && not (is_none i)
+valid (Some i) = in_class OptionalNumber i && not (is_none i)
 
 abbrev absent : ℤ
 absent = negsuc 9223372036854775807
 
-absent_class : in_class n?_c absent ≡ true
+absent_class : in_class OptionalNumber absent ≡ true
 unfolding in_class in_range between is_none
 absent_class = refl
 
@@ -81,17 +81,17 @@ unfolding valid number
 order None None a b = refl
 order (Some i) None a b = sym (le-ltb (index_key i) 0 (omega arith))
 order None (Some j) a b =
-    let c : in_class n?_c j ≡ true = and_left (in_class n?_c j) (not (is_none j)) b in
-    let d : is_none j ≡ false = not_true (is_none j) (and_right (in_class n?_c j) (not (is_none j)) b) in
+    let c : in_class OptionalNumber j ≡ true = and_left (in_class OptionalNumber j) (not (is_none j)) b in
+    let d : is_none j ≡ false = not_true (is_none j) (and_right (in_class OptionalNumber j) (not (is_none j)) b) in
     ap₂ before_index (sym absent_in) (sym (some_in j d)) ∙ before_key absent j absent_class c ∙ ap (λ k. ltb k (index_key j)) absent_key
 order (Some i) (Some j) a b =
-    let c : in_class n?_c i ≡ true = and_left (in_class n?_c i) (not (is_none i)) a in
-    let d : is_none i ≡ false = not_true (is_none i) (and_right (in_class n?_c i) (not (is_none i)) a) in
-    let e : in_class n?_c j ≡ true = and_left (in_class n?_c j) (not (is_none j)) b in
-    let f : is_none j ≡ false = not_true (is_none j) (and_right (in_class n?_c j) (not (is_none j)) b) in
+    let c : in_class OptionalNumber i ≡ true = and_left (in_class OptionalNumber i) (not (is_none i)) a in
+    let d : is_none i ≡ false = not_true (is_none i) (and_right (in_class OptionalNumber i) (not (is_none i)) a) in
+    let e : in_class OptionalNumber j ≡ true = and_left (in_class OptionalNumber j) (not (is_none j)) b in
+    let f : is_none j ≡ false = not_true (is_none j) (and_right (in_class OptionalNumber j) (not (is_none j)) b) in
     ap₂ before_index (sym (some_in i d)) (sym (some_in j f)) ∙ before_key i j c e
 
-valid_in : (x : ℤ) → in_class n?_c x ≡ true → valid (index_in x) ≡ true
+valid_in : (x : ℤ) → in_class OptionalNumber x ≡ true → valid (index_in x) ≡ true
 unfolding valid
 valid_in x c = go (is_none x) refl
   where
@@ -99,7 +99,7 @@ valid_in x c = go (is_none x) refl
     go true e = refl
     go false e = ap₂ ◌&&◌ c (ap not e)
 
-number_in : (x : ℤ) → in_class n?_c x ≡ true → number (index_in x) ≡ index_key x
+number_in : (x : ℤ) → in_class OptionalNumber x ≡ true → number (index_in x) ≡ index_key x
 unfolding number
 number_in x c = go (is_none x) refl
   where

@@ -34,7 +34,7 @@ use Rattle.model.proofs.Finds.{find_activity_lem}
 use Rattle.definition.specs.Pieces.{runs_on}
 use Rattle.definition.specs.CheckCalendars.{piece_calendars, check_resumable}
 use Rattle.derived_times.specs.inner.Needs.{Needs}
-use Rattle.check6_joint_calendars.specs.inner.Laying.{laid_calendars}
+use Rattle.check6_joint_calendars.specs.Laid.{laid_calendars}
 use Rattle.check6_joint_calendars.proofs.Whole.{joint_laid}
 use Rattle.check6_joint_calendars.proofs.Joint.{available_same}
 use Rattle.pieces.proofs.Marks.{mark_is}
@@ -102,8 +102,8 @@ module _ (rows : List ℤ) (k : ℕ) where
         pub lacks_resumable : b ≡ true → lacks_time rows k ≡ uncovered_at rows a k
         lacks_resumable y = lacks_is ∙ ap (λ i. i && uncovered_at rows a k) y
 
-        pub lacks_plain : b ≡ false → false ≡ lacks_time rows k
-        lacks_plain y = sym (lacks_is ∙ ap (λ i. i && uncovered_at rows a k) y)
+        pub lacks_plain : b ≡ false → b ≡ lacks_time rows k
+        lacks_plain y = y ∙ sym (lacks_is ∙ ap (λ i. i && uncovered_at rows a k) y)
 
   activity_found : (a : ℕ) → Some a ≡ place_of rows 2 (num rows k 1) → find_activity (sheet rows) (num rows k 1) ≡ Some (activity_of rows a)
   activity_found a q = find_activity_lem rows (num rows k 1) ∙ ap (λ x. option x None (λ j. Some (activity_of rows j))) (sym q)

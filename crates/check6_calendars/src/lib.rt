@@ -12,7 +12,7 @@ ghost use Rattle.owners.specs.inner.Owners.{Linked, Owned};
 ghost use Rattle.calendar.specs.Clock.{clock};
 ghost use Rattle.calendar.specs.Calendar.{interval_fits, joint_working};
 ghost use Rattle.calendar.specs.Amount.{joint_available_ms};
-ghost use Rattle.calendar.specs.Layout as layout;
+ghost use Rattle.calendar.specs.Layout.{calendars_of};
 ghost use Rattle.findings.specs.inner.Sink.{sink, emit};
 ghost use Rattle.model.specs.Sheet.{sheet};
 ghost use Rattle.model.specs.Resource.{windows};
@@ -24,6 +24,7 @@ ghost use Rattle.window_rows.specs.inner.Laid.{Holder};
 ghost use Rattle.derived_times.specs.inner.Needs.{Needs};
 ghost use Rattle.check6_calendars.specs.inner.Lacking.{uncovered_at, lacks_time, Lacking};
 
+use calendar::Calendars;
 use findings::Violation;
 use sheet::Found;
 
@@ -110,13 +111,10 @@ fn needed_ms(rows: &[i64], need: &[u64; 800], k: usize) -> u64
 }
 
 // Whether so much work does not fit the joint working time of the calendars in [start, end), or starts outside it.
-fn is_uncovered(cs: &[usize], w: &[u64], start: u64, end: u64, needed: u64) -> bool
-    ensures { result ≡ (not (joint_working clock (layout.calendars_of w.now cs.now) (pos start)) || ltb (joint_available_ms clock (layout.calendars_of w.now cs.now) (pos start) (pos end)) needed) }
+fn is_uncovered(calendars: Calendars, start: u64, end: u64, needed: u64) -> bool
+    ensures { result ≡ (not (joint_working clock (calendars_of calendars.entry.windows.now calendars.entry.places.now) (pos start)) || ltb (joint_available_ms clock (calendars_of calendars.entry.windows.now calendars.entry.places.now) (pos start) (pos end)) needed) }
 {
-    if calendar::joint_working(cs, w, start) {
-        return calendar::joint_available_ms(cs, w, start, end) < needed;
-    }
-    true
+    !calendars.joint_working(start) || calendars.joint_available_ms(start, end) < needed
 }
 
 // Whether booking k, of the activity of row a, is not covered by the working time of its piece.
@@ -132,13 +130,11 @@ fn lacks_time(
     requires { Indexed rows.now kinds.now links.now owned.now × Needs rows.now need.now × (k < row_count rows.now) × (is rows.now k 0 23 ≡ true) × (place_of rows.now 2 (num rows.now k 1) ≡ Some a) }
     ensures { result ≡ (not (joint_working clock (piece_calendars clock (sheet rows.now) (assignment_of rows.now k) (activity_of rows.now a)) (pos (num rows.now k 4))) || ltb (joint_available_ms clock (piece_calendars clock (sheet rows.now) (assignment_of rows.now k) (activity_of rows.now a)) (pos (num rows.now k 4)) (pos (num rows.now k 5))) (num rows.now k 6 + get_or need.now k 0)) }
 {
-    let mut w = [0u64; 2400];
-    let mut cs = [0usize; 1600];
-    let c = check6_joint_calendars::lay_calendars(rows, kinds, links, owned, a, k, &mut w, &mut cs);
+    let laid = check6_joint_calendars::lay_calendars(rows, kinds, links, owned, a, k);
     let start = rows::num_at(rows, k, 4);
     let end = rows::num_at(rows, k, 5);
     let needed = needed_ms(rows, need, k);
-    is_uncovered(&cs[..2 * c], &w, start, end, needed)
+    is_uncovered(laid.as_calendars(), start, end, needed)
 }
 
 // Whether row k is a booking on a resource of the sheet, of a resumable activity, that lacks working time.
@@ -162,10 +158,7 @@ fn lacks_at(
     let Found::At(a) = owners::activity_of(rows, links, k) else {
         return false;
     };
-    if rows::is_at(rows, a, 7, 1) {
-        return lacks_time(rows, kinds, links, owned, need, a, k);
-    }
-    false
+    rows::is_at(rows, a, 7, 1) && lacks_time(rows, kinds, links, owned, need, a, k)
 }
 
 // Which bookings of resumable activities lack working time. Found once for a sheet, since it is the dearest question of all checks. Its calendars
@@ -183,10 +176,8 @@ pub fn lacking_of(
 {
     let n = rows::row_count(rows);
     let mut t = [0u8; 800];
-    let mut k = 0;
-    while k < n {
+    for k in 0..n {
         pieces::mark(&mut t, k, lacks_at(rows, kinds, links, owned, need, k));
-        k += 1;
     }
     t
 }

@@ -1,16 +1,17 @@
 -- Calendars are laid out one behind the other, resource by resource; there is always place for one more. Assumes nothing.
-use Prim.Native.Nat.{ℕ, zero, suc, ◌+◌, ◌*◌, ◌<◌, ◌≤◌}
+use Prim.Native.Nat.{ℕ, zero, suc, ◌+◌, ◌<◌, ◌≤◌}
 use mathlib.Core.Path.{◌≡◌, refl, ap, ap₂, sym, subst, ◌∙◌}
 use mathlib.Core.Bool.{Bool, true, false, cond, ◌&&◌, true≢false}
-use mathlib.Core.List.{List, [], ◌∷◌, ◌++◌, append-nil}
+use mathlib.Core.List.{List, [], ◌∷◌, ◌++◌, map, append-nil}
 use mathlib.Core.Logic.{inr}
 use native.Mathlib.Omega.{arith}
 use native.Mathlib.Decide.{ℕ_discrete, dec_lt}
 use borrow.Author.Tests.{lt-ltb, le-ltb, eq-eqb, ne_eqb}
 use lib.Dec.{eqb, ltb}
 use lib.IntN.{ℤ}
-use lib.ListN.{length, get_or, set, length-set, length-append}
-use lib.Seq.{sets, get_or-set_same, get_or-set_other}
+use lib.ListN.{length, get_or, set, length-append, take, drop}
+use lib.Seq.{drop-append_seam, take-append_seam}
+use Rattle.std.proofs.lemmas.List.{append_assoc, length_push, take_more_set, length-map, take-map, drop-map, drop-take}
 use Rattle.loops.specs.Lists.{each}
 use Rattle.loops.specs.Range.{collect}
 use Rattle.loops.specs.Sums.{total}
@@ -18,13 +19,11 @@ use Rattle.loops.specs.Search.{count_below}
 use Rattle.loops.specs.inner.Chain.{First, Stands}
 use Rattle.loops.proofs.BoolLaws.{and_left}
 use Rattle.loops.proofs.ListLaws.{each_append}
-use Rattle.loops.proofs.SumLaws.{total_append}
-use Rattle.loops.proofs.StoreLaws.{sets_append}
-use Rattle.loops.proofs.RangeLaws.{collect_step, collect_ext}
 use Rattle.loops.proofs.SearchLaws.{count_le}
 use Rattle.loops.proofs.Walks.{over, stands_end}
+use Rattle.calendar.specs.declared.TimeWindow.{TimeWindow}
 use Rattle.calendar.specs.Calendar.{Calendar}
-use Rattle.calendar.specs.Layout.{calendar_of}
+use Rattle.calendar.specs.Layout.{window_of, windows_of, calendar_of, lists_of, calendars_of}
 use Rattle.rows.specs.Cells.{row_count, num, is}
 use Rattle.sheet.specs.Places.{of_kind}
 use Rattle.sheet.proofs.Lookups.{is_num, num_is, placed}
@@ -34,115 +33,75 @@ use Rattle.model.specs.Resource.{windows}
 use Rattle.model.proofs.Requiring.{count_less}
 use Rattle.model.proofs.Standing.{stands_kind}
 use Rattle.model.proofs.OwnedLaws.{owned_kind}
-use Rattle.window_rows.specs.inner.Laid.{Holder, calendar_numbers, Laid}
-use Rattle.window_rows.proofs.Laying.{numbers_length}
-use Rattle.check6_joint_calendars.specs.declared.Gathered.{Gathered}
+use Rattle.window_rows.specs.declared.window_list.WindowList.{WindowList}
+use Rattle.window_rows.specs.Listed.{listed, calendar_in}
+use Rattle.window_rows.specs.inner.Laid.{Holder}
+use Rattle.check6_joint_calendars.specs.declared.laid_calendars.LaidCalendars.{LaidCalendars}
 use Rattle.check6_joint_calendars.specs.inner.Taken.{marked, OnResources}
-use Rattle.check6_joint_calendars.specs.inner.Laying.{laid_out, pairs_from, Over, Tidy, Added, calendar_at, AddedAt, window_above, Resources}
+use Rattle.window_rows.proofs.Lists.{room_left}
+use Rattle.check6_joint_calendars.specs.Laid as laid
+use Rattle.check6_joint_calendars.specs.Laid.{in_a_row, places_from, LaidOut}
+use Rattle.check6_joint_calendars.specs.inner.Laying.{Added, calendar_at, AddedAt, window_above, Resources}
 
--- ---- what the buffers hold
+-- ---- calendars one behind the other
 
--- the numbers and the pairs of calendars, how many they are
-numbers_total : (l : List (Calendar ℤ)) → length (each calendar_numbers l) ≡ 3 * total length l
-unfolding each total
-numbers_total [] = refl
-numbers_total (c ∷ l) = omega (arith, length-append (calendar_numbers c) (each calendar_numbers l), numbers_length c, numbers_total l)
+row_total : (cs : List (Calendar ℤ)) → length (in_a_row cs) ≡ total length cs
+unfolding in_a_row each total
+row_total [] = refl
+row_total (c ∷ cs) = omega (arith, length-append c (each (λ x. x) cs), row_total cs)
 
-pairs_total : (n : ℕ) (l : List (Calendar ℤ)) → length (pairs_from n l) ≡ 2 * length l
-pairs_total n [] = refl
-pairs_total n (c ∷ l) = omega (arith, pairs_total (n + length c) l)
+row_none : length (in_a_row []) ≡ 0
+unfolding in_a_row each
+row_none = refl
 
--- with one calendar more
-numbers_more : (l : List (Calendar ℤ)) (x : Calendar ℤ) → each calendar_numbers (l ++ x ∷ []) ≡ each calendar_numbers l ++ calendar_numbers x
-numbers_more l x = each_append calendar_numbers l (x ∷ []) ∙ ap (λ y. each calendar_numbers l ++ y) (unfold each in append-nil (calendar_numbers x))
+row_more : (cs : List (Calendar ℤ)) (x : Calendar ℤ) → in_a_row (cs ++ x ∷ []) ≡ in_a_row cs ++ x
+unfolding in_a_row
+row_more cs x = each_append (λ c. c) cs (x ∷ []) ∙ ap (λ y. each (λ c. c) cs ++ y) (unfold each in append-nil x)
 
-total_more : (l : List (Calendar ℤ)) (x : Calendar ℤ) → total length (l ++ x ∷ []) ≡ total length l + length x
+places_more : (n m : ℕ) (cs : List (Calendar ℤ)) (x : Calendar ℤ) → m ≡ n + total length cs
+    → places_from n (cs ++ x ∷ []) ≡ places_from n cs ++ record { from = m; to = m + length x } ∷ []
 unfolding total
-total_more l x = omega (arith, total_append length l (x ∷ []))
+places_more n m [] x e = let q : m ≡ n = omega arith in rw q
+places_more n m (c ∷ cs) x e = ap (λ y. record { from = n; to = n + length c } ∷ y) (places_more (n + length c) m cs x (omega arith))
 
-pairs_more : (n m : ℕ) (l : List (Calendar ℤ)) (x : Calendar ℤ) → m ≡ n + total length l → pairs_from n (l ++ x ∷ []) ≡ pairs_from n l ++ (m ∷ (m + length x) ∷ [])
-unfolding total
-pairs_more n m [] x e = let q : m ≡ n = omega arith in rw q
-pairs_more n m (c ∷ l) x e = ap (λ y. n ∷ (n + length c) ∷ y) (pairs_more (n + length c) m l x (omega arith))
+-- so many windows
+listed_length : (l : WindowList) → length (calendar_in l) ≡ length (listed l)
+unfolding calendar_in
+listed_length l = length-map (listed l) window_of
 
-pub over_none : (w cs : List ℕ) → Over [] w cs w cs (record { windows = 0; calendars = 0 })
-over_none w cs = record { numbers = unfold each in refl; pairs = refl; windows = unfold total in refl; calendars = refl }
+-- one calendar more
+pub out_more : (cs : List (Calendar ℤ)) {x : Calendar ℤ} {m : ℕ} {l l' : LaidCalendars} → LaidOut cs l → Added x m l l' → LaidOut (cs ++ x ∷ []) l'
+out_more cs {x} {m} {l} {l'} o a =
+    let n : length (listed l.windows) ≡ 0 + total length cs =
+    omega (arith, listed_length l.windows, ap length o.windows, row_total cs) in
+    record {
+      windows = a.windows ∙ ap (λ c. c ++ x) o.windows ∙ sym (row_more cs x);
+      places =
+          a.places
+          ∙ ap (λ p. p ++ record { from = length (listed l.windows); to = length (listed l.windows) + length x } ∷ []) o.places
+          ∙ sym (places_more 0 (length (listed l.windows)) cs x n);
+    }
 
-pub over_more : {l : List (Calendar ℤ)} {x : Calendar ℤ} {m : ℕ} {w₀ cs₀ w cs w' cs' : List ℕ} {g g' : Gathered}
-    → Over l w₀ cs₀ w cs g → Added x m w cs g w' cs' g' → Over (l ++ x ∷ []) w₀ cs₀ w' cs' g'
-over_more {l} {x} {w₀ = w₀} {cs₀} {g = g} o a = record {
-  numbers =
-      let q : 3 * g.windows ≡ 0 + length (each calendar_numbers l) = omega (arith, numbers_total l, o.windows) in
-      a.numbers
-      ∙ ap₂ (λ v i. sets v i (calendar_numbers x)) o.numbers q
-      ∙ sets_append w₀ 0 (each calendar_numbers l) (calendar_numbers x)
-      ∙ ap (sets w₀ 0) (sym (numbers_more l x));
-  pairs =
-      let q : 2 * g.calendars ≡ 0 + length (pairs_from 0 l) = omega (arith, pairs_total 0 l, o.calendars) in
-      let e : g.windows ≡ 0 + total length l = omega (arith, o.windows) in
-      a.pair
-      ∙ ap₂ (λ v i. sets v i (g.windows ∷ (g.windows + length x) ∷ [])) o.pairs q
-      ∙ sets_append cs₀ 0 (pairs_from 0 l) (g.windows ∷ (g.windows + length x) ∷ [])
-      ∙ ap (sets cs₀ 0) (sym (pairs_more 0 g.windows l x e));
-  windows = omega (arith, a.places, o.windows, total_more l x);
-  calendars = omega (arith, a.calendars, o.calendars, length-append l (x ∷ []));
-}
+-- a calendar behind others, read at its places
+calendar_from : (w : List TimeWindow) (p c r : Calendar ℤ) (n : ℕ) → map window_of w ≡ p ++ (c ++ r) → n ≡ length p → calendar_of w n (n + length c) ≡ c
+unfolding calendar_of windows_of
+calendar_from w p c r n e z =
+    sym (drop-map window_of n (take (n + length c) w))
+    ∙ ap (drop n) (sym (take-map window_of (n + length c) w) ∙ ap (take (n + length c)) e)
+    ∙ drop-take n (length c) (p ++ (c ++ r))
+    ∙ ap (take (length c)) (ap (λ (i : ℕ). drop i (p ++ (c ++ r))) z ∙ drop-append_seam p (c ++ r))
+    ∙ take-append_seam c r
 
--- ---- one calendar more
+laid_from : (w : List TimeWindow) (p : Calendar ℤ) (cs : List (Calendar ℤ)) (n : ℕ) → map window_of w ≡ p ++ in_a_row cs → n ≡ length p → calendars_of w (places_from n cs) ≡ cs
+unfolding calendars_of lists_of in_a_row each
+laid_from w p [] n e z = refl
+laid_from w p (c ∷ cs) n e z =
+    ap₂ ◌∷◌ (unfold calendar_of in calendar_from w p c (each (λ x. x) cs) n e z)
+    (laid_from w (p ++ c) cs (n + length c) (e ∙ sym (append_assoc p c (each (λ x. x) cs))) (omega (arith, z, length-append p c)))
 
-module _ (w cs w' : List ℕ) (g : Gathered) (to : ℕ) (x : Calendar ℤ) (u : Tidy w cs g) (l : g.calendars < 800) (h : Laid w w' g.windows to x) where
-  abbrev from_to : List ℕ
-  from_to = set (set cs (2 * g.calendars) g.windows) (2 * g.calendars + 1) to
-
-  -- what was noted before stays
-  noted : (i : ℕ) → i < 2 * g.calendars → get_or from_to i 0 ≡ get_or cs i 0
-  noted i b =
-      get_or-set_other (set cs (2 * g.calendars) g.windows) (2 * g.calendars + 1) i to 0 (λ e. omega arith)
-      ∙ get_or-set_other cs (2 * g.calendars) i g.windows 0 (λ e. omega arith)
-
-  from_is : get_or from_to (2 * g.calendars) 0 ≡ g.windows
-  from_is =
-      get_or-set_other (set cs (2 * g.calendars) g.windows) (2 * g.calendars + 1) (2 * g.calendars) to 0 (λ e. omega arith)
-      ∙ get_or-set_same cs (2 * g.calendars) g.windows 0 (omega (arith, u.pairs))
-
-  to_is : get_or from_to (2 * g.calendars + 1) 0 ≡ to
-  to_is =
-      get_or-set_same (set cs (2 * g.calendars) g.windows) (2 * g.calendars + 1) to 0
-      (omega (arith, length-set cs (2 * g.calendars) g.windows, u.pairs))
-
-  one_more_lem : laid_out w' from_to (g.calendars + 1) ≡ laid_out w cs g.calendars ++ (x ∷ [])
-  unfolding laid_out
-  one_more_lem =
-      collect_step (λ j. calendar_of w' (get_or from_to (2 * j) 0) (get_or from_to (2 * j + 1) 0) ∷ []) g.calendars
-      ∙ ap₂ ◌++◌
-      (collect_ext _ _ g.calendars
-      (λ j b.
-      ap (λ c. c ∷ [])
-      (ap₂ (calendar_of w') (noted (2 * j) (omega arith)) (noted (2 * j + 1) (omega arith))
-      ∙ h.kept (get_or cs (2 * j) 0) (get_or cs (2 * j + 1) 0) (u.ends j b))))
-      (ap (λ c. c ∷ []) (ap₂ (calendar_of w') from_is to_is ∙ h.calendar))
-
-  pub added : {cs' : List ℕ} (m : ℕ) → to ≡ g.windows + m → cs' ≡ from_to
-      → Added x m w cs g w' cs' (record { windows = to; calendars = g.calendars + 1 })
-  added m e q =
-      rw q
-      (record {
-        numbers = h.whole;
-        pair = let n : 2 * g.calendars + 1 ≡ suc (2 * g.calendars) = omega arith in rw (n, h.places) refl;
-        places = h.places;
-        tidy = record {
-          places = h.size;
-          pairs = length-set (set cs (2 * g.calendars) g.windows) (2 * g.calendars + 1) to ∙ length-set cs (2 * g.calendars) g.windows ∙ u.pairs;
-          ends = λ j b. ends j b (ℕ_discrete j g.calendars);
-        };
-        list = one_more_lem;
-        windows = e;
-        calendars = refl;
-      })
-    where
-      ends : (j : ℕ) → j < g.calendars + 1 → Dec (j ≡ g.calendars) → get_or from_to (2 * j + 1) 0 ≤ to
-      ends j b (yes d) = rw (d, to_is) (omega arith)
-      ends j b (no d) = let k : j < g.calendars = omega arith in omega (arith, noted (2 * j + 1) (omega arith), u.ends j k, e)
+-- as they are lent, they are the calendars that were laid out
+pub lent : (cs : List (Calendar ℤ)) (l : LaidCalendars) → LaidOut cs l → calendars_of (listed l.windows) (laid.placed l) ≡ cs
+lent cs l o = ap (calendars_of (listed l.windows)) o.places ∙ laid_from (listed l.windows) [] cs 0 (unfold calendar_in in o.windows) refl
 
 -- ---- counts of rows
 
@@ -206,59 +165,50 @@ module _ (rows : List ℤ) where
 
 module _ (rows : List ℤ) (marks : List ℕ) where
   -- there is place for one calendar more
-  module _ {r : ℕ} {w₀ cs₀ w cs : List ℕ} {g : Gathered} (h : Resources rows marks r w₀ cs₀ w cs g) (b : row_count rows ≤ 800) where
-    pub room_windows : g.windows + count_below (owned_by rows r 15) (row_count rows) ≤ 800
+  module _ {r : ℕ} (l : LaidCalendars) (h : Resources rows marks r l) (b : row_count rows ≤ 800) where
+    pub room_windows : length (listed l.windows) + count_below (owned_by rows r 15) (row_count rows) ≤ 800
     room_windows = omega (arith, windows_more rows r (row_count rows), count_le (window_above rows (suc r)) (row_count rows), h.windows)
 
-    pub room_calendars : {N : ℕ} → r < N → N ≡ row_count rows → g.calendars < 800
-    room_calendars l z = omega (arith, count_le (of_kind rows 11) r, h.calendars)
+    pub room_calendars : {N : ℕ} → r < N → N ≡ row_count rows → length (laid.placed l) < 800
+    room_calendars m z = omega (arith, count_le (of_kind rows 11) r, h.calendars)
 
-  module _ {r : ℕ} {w₀ cs₀ w cs : List ℕ} {g : Gathered} where
-    gather_more : {w' cs' : List ℕ} {g' : Gathered} → marked marks r ≡ true → is rows r 0 11 ≡ true
-        → Added (windows (sheet rows) 15 (num rows r 1)) (count_below (owned_by rows r 15) (row_count rows)) w cs g w' cs' g'
-        → Resources rows marks r w₀ cs₀ w cs g → Resources rows marks (suc r) w₀ cs₀ w' cs' g'
-    gather_more {w'} {cs'} {g'} e k a h = record {
-      over =
+  module _ {r : ℕ} (l l' : LaidCalendars) where
+    gather_more : marked marks r ≡ true → is rows r 0 11 ≡ true
+        → Added (windows (sheet rows) 15 (num rows r 1)) (count_below (owned_by rows r 15) (row_count rows)) l l'
+        → Resources rows marks r l → Resources rows marks (suc r) l'
+    gather_more e k a h = record {
+      out =
           let s : collect (calendar_at rows marks) r ++ windows (sheet rows) 15 (num rows r 1) ∷ [] ≡ collect (calendar_at rows marks) (suc r) =
           unfold collect calendar_at in rw e in
-          subst (λ l. Over l w₀ cs₀ w' cs' g') s (over_more h.over a);
-      tidy = a.tidy;
-      list =
-          a.list
-          ∙ ap (λ l. l ++ (windows (sheet rows) 15 (num rows r 1) ∷ [])) h.list
-          ∙ (unfold collect calendar_at in rw e);
-      windows = let b = windows_more rows r (row_count rows) in omega (arith, a.windows, h.windows);
-      calendars = let q = resource_more rows r k in omega (arith, a.calendars, h.calendars);
+          subst (λ c. LaidOut c l') s (out_more _ h.out a);
+      windows = let b = windows_more rows r (row_count rows) in omega (arith, a.count, h.windows);
+      calendars = let q = resource_more rows r k in omega (arith, ap length a.places, length_push (laid.placed l) (record { from = length (listed l.windows); to = length (listed l.windows) + length (windows (sheet rows) 15 (num rows r 1)) }), h.calendars);
     }
 
-    gather_none : marked marks r ≡ false → Resources rows marks r w₀ cs₀ w cs g → Resources rows marks (suc r) w₀ cs₀ w cs g
+    gather_none : marked marks r ≡ false → Resources rows marks r l → Resources rows marks (suc r) l
     gather_none e h = record {
-      over =
+      out =
           let s : collect (calendar_at rows marks) r ≡ collect (calendar_at rows marks) (suc r) = unfold collect calendar_at in rw e (sym (append-nil _)) in
-          subst (λ l. Over l w₀ cs₀ w cs g) s h.over;
-      tidy = h.tidy;
-      list = h.list ∙ (unfold collect calendar_at in rw e (sym (append-nil _)));
+          subst (λ c. LaidOut c l) s h.out;
       windows = let b = windows_more rows r (row_count rows) in omega (arith, h.windows);
       calendars = let b = h.calendars in unfold count_below in omega arith;
     }
 
     -- row r is judged
-    gather_at : {w' cs' : List ℕ} {g' : Gathered} → is rows r 0 11 ≡ true → AddedAt rows marks r w cs g w' cs' g'
-        → Resources rows marks r w₀ cs₀ w cs g → Resources rows marks (suc r) w₀ cs₀ w' cs' g'
-    gather_at {w'} {cs'} {g'} k a h = go (marked marks r) refl
+    gather_at : is rows r 0 11 ≡ true → AddedAt rows marks r l l' → Resources rows marks r l → Resources rows marks (suc r) l'
+    gather_at k a h = go (marked marks r) refl
       where
-        go : (b : Bool) → marked marks r ≡ b → Resources rows marks (suc r) w₀ cs₀ w' cs' g'
+        go : (b : Bool) → marked marks r ≡ b → Resources rows marks (suc r) l'
         go true e = gather_more e k (a.taken e) h
-        go false e = let p = a.passed e in rw (p.0, p.1, p.2) (gather_none e h)
+        go false e = rw (a.passed e) (gather_none e h)
 
-  -- row r's mark is read
-  module _ {r : ℕ} {w cs : List ℕ} {g : Gathered} where
-    pub added_taken : {w' cs' : List ℕ} {g' : Gathered} → Added (windows (sheet rows) 15 (num rows r 1)) (count_below (owned_by rows r 15) (row_count rows)) w cs g w' cs' g'
-        → get_or marks r 0 ≡ 1 → AddedAt rows marks r w cs g w' cs' g'
+    -- row r's mark is read
+    pub added_taken : Added (windows (sheet rows) 15 (num rows r 1)) (count_below (owned_by rows r 15) (row_count rows)) l l'
+        → get_or marks r 0 ≡ 1 → AddedAt rows marks r l l'
     added_taken a q = record { taken = λ e. a; passed = λ e. absurd (true≢false (sym (eq-eqb _ _ q) ∙ e)) }
 
-    pub added_passed : (get_or marks r 0 ≡ 1 → ⊥) → AddedAt rows marks r w cs g w cs g
-    added_passed q = record { taken = λ e. absurd (true≢false (sym e ∙ ne_eqb _ _ q)); passed = λ e. (refl, refl, refl) }
+    pub added_passed : (get_or marks r 0 ≡ 1 → ⊥) → AddedAt rows marks r l l
+    added_passed q = record { taken = λ e. absurd (true≢false (sym e ∙ ne_eqb _ _ q)); passed = λ e. refl }
 
   module _ (m : OnResources rows marks) where
     pub holder : {r : ℕ} → r < row_count rows → get_or marks r 0 ≡ 1 → Holder rows r 15
@@ -271,41 +221,53 @@ module _ (rows : List ℤ) (marks : List ℕ) where
     unmarked r l e false q = q
 
     -- what is known of row i, where it is one or the end
-    abbrev At : List ℕ → List ℕ → List ℕ → List ℕ → Gathered → ℕ → Type 0
-    At w₀ cs₀ w cs g i = i ≤ row_count rows → Resources rows marks i w₀ cs₀ w cs g
+    abbrev At : LaidCalendars → ℕ → Type 0
+    At l i = i ≤ row_count rows → Resources rows marks i l
 
-    still : (w₀ cs₀ w cs : List ℕ) (g : Gathered) (r : ℕ) → of_kind rows 11 r ≡ false → At w₀ cs₀ w cs g r → At w₀ cs₀ w cs g (r + 1)
-    still w₀ cs₀ w cs g r e h l =
+    still : (l : LaidCalendars) (r : ℕ) → of_kind rows 11 r ≡ false → At l r → At l (r + 1)
+    still l r e h b =
         let q : r + 1 ≡ suc r = omega arith in
-        rw q (gather_none (unmarked r (omega arith) e (marked marks r) refl) (h (omega arith)))
+        rw q (gather_none l l (unmarked r (omega arith) e (marked marks r) refl) (h (omega arith)))
 
-    pub gather_first : {i : ℕ} {w cs : List ℕ} → First (of_kind rows 11) 0 (row_count rows) i → length w ≡ 2400 → length cs ≡ 1600
-        → Resources rows marks i w cs w cs (record { windows = 0; calendars = 0 })
-    gather_first {i} {w} {cs} f a b =
-        over (At w cs w cs (record { windows = 0; calendars = 0 })) (of_kind rows 11) 0 _ _ (still w cs w cs (record { windows = 0; calendars = 0 })) f
+    pub gather_first : {i : ℕ} (l : LaidCalendars) → First (of_kind rows 11) 0 (row_count rows) i → LaidOut [] l → Resources rows marks i l
+    gather_first {i} l f o =
+        over (At l) (of_kind rows 11) 0 _ _ (still l) f
         (λ z.
         record {
-          over = unfold collect in over_none w cs;
-          tidy = record { places = a; pairs = b; ends = λ j l. absurd (omega arith) };
-          list = unfold laid_out collect in refl;
-          windows = omega arith;
-          calendars = omega arith;
+          out = unfold collect in o;
+          windows = let e : length (calendar_in l.windows) ≡ 0 = ap length o.windows ∙ row_none in omega (arith, e, listed_length l.windows);
+          calendars = let e = ap length o.places in omega arith;
         })
         f.high
 
-    pub gather_next : {N i j : ℕ} {w₀ cs₀ w cs w' cs' : List ℕ} {g g' : Gathered} → Resources rows marks i w₀ cs₀ w cs g → First (of_kind rows 11) (suc i) (row_count rows) j
-        → i < N → N ≡ row_count rows → Stands (of_kind rows 11) (row_count rows) i → AddedAt rows marks i w cs g w' cs' g' → Resources rows marks j w₀ cs₀ w' cs' g'
-    gather_next {i = i} {w₀ = w₀} {cs₀} {w' = w'} {cs'} {g' = g'} h f l z s a =
-        over (At w₀ cs₀ w' cs' g') (of_kind rows 11) (suc i) _ _ (still w₀ cs₀ w' cs' g') f (λ _. gather_at (stands_kind rows 11 l z s) a h) f.high
+    pub gather_next : {N i j : ℕ} (l l' : LaidCalendars) → Resources rows marks i l → First (of_kind rows 11) (suc i) (row_count rows) j
+        → i < N → N ≡ row_count rows → Stands (of_kind rows 11) (row_count rows) i → AddedAt rows marks i l l' → Resources rows marks j l'
+    gather_next l l' h f m z s a =
+        over (At l') (of_kind rows 11) (suc _) _ _ (still l') f (λ _. gather_at l l' (stands_kind rows 11 m z s) a h) f.high
 
-  pub gather_end : {N i : ℕ} {w₀ cs₀ w cs : List ℕ} {g : Gathered} → N ≤ i → N ≡ row_count rows → Stands (of_kind rows 11) (row_count rows) i
-      → Resources rows marks i w₀ cs₀ w cs g → Resources rows marks (row_count rows) w₀ cs₀ w cs g
-  gather_end l z s h = rw (stands_end s l z) at h
+  pub gather_end : {N i : ℕ} (l : LaidCalendars) → N ≤ i → N ≡ row_count rows → Stands (of_kind rows 11) (row_count rows) i
+      → Resources rows marks i l → Resources rows marks (row_count rows) l
+  gather_end l m z s h = rw (stands_end s m z) at h
 
   -- there is place for the calendar of the activity of row a, which booking k is of
-  module _ {w₀ cs₀ w cs : List ℕ} {g : Gathered} (h : Resources rows marks (row_count rows) w₀ cs₀ w cs g) (b : row_count rows ≤ 800) where
-    pub last_windows : (a : ℕ) → g.windows + count_below (owned_by rows a 16) (row_count rows) ≤ 800
+  module _ (l : LaidCalendars) (h : Resources rows marks (row_count rows) l) (b : row_count rows ≤ 800) where
+    pub last_windows : (a : ℕ) → length (listed l.windows) + count_below (owned_by rows a 16) (row_count rows) ≤ 800
     last_windows a = omega (arith, windows_all rows (row_count rows) a (row_count rows), h.windows)
 
-    pub last_calendars : (k : ℕ) → is rows k 0 23 ≡ true → k < row_count rows → g.calendars < 800
-    last_calendars k e l = omega (arith, resources_few rows k (row_count rows) l e, h.calendars)
+    pub last_calendars : (k : ℕ) → is rows k 0 23 ≡ true → k < row_count rows → length (laid.placed l) < 800
+    last_calendars k e m = omega (arith, resources_few rows k (row_count rows) m e, h.calendars)
+
+-- ---- a calendar more in the room that is lent
+
+pub added : (l : LaidCalendars) (w : WindowList) {x : Calendar ℤ} {m from to : ℕ} {room within : _} → from ≡ length (listed l.windows) → to ≡ length (listed w) → calendar_in w ≡ calendar_in l.windows ++ x
+    → length (listed w) ≡ length (listed l.windows) + m → length (laid.placed l) < 800
+    → Added x m l (record { windows = w; places = set l.places l.count (record { from = from; to = to }); count = l.count + 1; room = room; within = within })
+unfolding laid.placed
+added l w {x} {from = from} {to = to} e f g h b = record {
+  windows = g;
+  places =
+      let t : to ≡ length (listed l.windows) + length x = omega (arith, f, listed_length w, ap length g, length-append (calendar_in l.windows) x, listed_length l.windows) in
+      take_more_set l.places l.count (record { from = from; to = to }) (omega (arith, l.room, room_left l.places l.count l.room l.within b))
+      ∙ ap₂ (λ (i j : ℕ). take l.count l.places ++ record { from = i; to = j } ∷ []) e t;
+  count = h;
+}

@@ -1,23 +1,19 @@
 -- The calendars that are laid out work together when those of the definition do. Assumes nothing.
-use Prim.Native.Nat.{ℕ, ◌+◌, ◌*◌, ◌/◌, ◌<◌, ◌≤◌}
-use mathlib.Core.Path.{◌≡◌, refl, ap, ap₂, sym, subst, ◌∙◌}
+use Prim.Native.Nat.{ℕ, ◌<◌}
+use mathlib.Core.Path.{◌≡◌, refl, ap, sym, subst, ◌∙◌}
 use mathlib.Core.Bool.{Bool, true, false, not, ◌&&◌, and-true, or-false}
-use mathlib.Core.List.{List, [], ◌∷◌, ◌++◌, map}
+use mathlib.Core.List.{List, [], ◌∷◌, ◌++◌}
 use mathlib.Core.Logic.{inl}
 use Rattle.std.specs.Prelude.{Some}
-use native.Mathlib.Omega.{arith}
 use lib.IntN.{ℤ}
-use lib.ListN.{length, get_or, take}
-use lib.Seq.{length-take-le, get_or-take}
 use Rattle.loops.specs.Lists.{given, any_of, all_of}
 use Rattle.loops.specs.Range.{collect}
 use Rattle.loops.specs.Search.{any_below, count_below}
-use Rattle.loops.proofs.ListLaws.{map_collect, any_collect, all_append}
+use Rattle.loops.proofs.ListLaws.{any_collect, all_append}
 use Rattle.loops.proofs.RangeLaws.{collect_ext}
 use Rattle.loops.proofs.PlaceLaws.{any_same}
 use Rattle.calendar.specs.Clock.{clock}
 use Rattle.calendar.specs.Calendar.{Calendar, is_working_time, joint_working}
-use Rattle.calendar.specs.Layout as layout
 use Rattle.rows.specs.Cells.{row_count, num, is}
 use Rattle.sheet.specs.inner.Accepted.{Accepted}
 use Rattle.sheet.specs.Places.{place_of}
@@ -28,26 +24,14 @@ use Rattle.model.specs.inner.Records.{activity_of, assignment_of}
 use Rattle.model.proofs.Finds.{found_self}
 use Rattle.definition.specs.CheckCalendars.{piece_calendars}
 use Rattle.window_rows.specs.inner.Laid.{Holder}
-use Rattle.check6_joint_calendars.specs.declared.Gathered.{Gathered}
+use Rattle.check6_joint_calendars.specs.declared.laid_calendars.LaidCalendars.{LaidCalendars}
+use Rattle.check6_joint_calendars.specs.Laid.{taken_at, laid_calendars, LaidOut}
 use Rattle.check6_joint_calendars.specs.inner.Taken.{taken, Marked}
-use Rattle.check6_joint_calendars.specs.inner.Laying.{laid_out, Over, Added, calendar_at, taken_at, Resources, laid_calendars, LaidOut}
+use Rattle.check6_joint_calendars.specs.inner.Laying.{Added, calendar_at, Resources}
 use Rattle.check6_joint_calendars.proofs.Joint.{all_any, joint_is}
-use Rattle.check6_joint_calendars.proofs.Gathering.{over_more}
+use Rattle.check6_joint_calendars.proofs.Gathering.{out_more}
 use Rattle.check6_joint_calendars.proofs.Marking.{marked_is}
 use Rattle.check6_joint_calendars.proofs.Once.{taken_rests, once_each}
-
--- the pairs of places that are lent are those of the first c calendars
-lent : (w cs : List ℕ) (c : ℕ) → 2 * c ≤ length cs → layout.calendars_of w (take (2 * c) cs) ≡ laid_out w cs c
-unfolding layout.calendars_of layout.lists_of layout.calendar_of laid_out
-lent w cs c l =
-    let n : length (take (2 * c) cs) / 2 ≡ c = omega (arith, length-take-le (2 * c) cs l) in
-    ap (λ k. map (map layout.window_of) (collect (λ j. given true (layout.windows_of w (get_or (take (2 * c) cs) (2 * j) 0) (get_or (take (2 * c) cs) (2 * j + 1) 0))) k)) n
-    ∙ map_collect (map layout.window_of) (λ j. given true (layout.windows_of w (get_or (take (2 * c) cs) (2 * j) 0) (get_or (take (2 * c) cs) (2 * j + 1) 0))) c
-    ∙ collect_ext _ _ c
-    (λ j b.
-    ap (λ x. x ∷ [])
-    (ap (map layout.window_of)
-    (ap₂ (layout.windows_of w) (get_or-take (2 * c) cs (2 * j) 0 (omega arith)) (get_or-take (2 * c) cs (2 * j + 1) 0 (omega arith)))))
 
 -- the activity of a booking holds its windows
 pub activity_holder : (rows : List ℤ) (k : ℕ) {a : ℕ} → place_of rows 2 (num rows k 1) ≡ Some a → Holder rows a 16
@@ -86,20 +70,7 @@ unfolding calendar_at
 marks_taken rows k m = collect_ext _ _ (row_count rows) (λ r b. ap (λ y. given y (windows (sheet rows) 15 (num rows r 1))) (marked_is rows k m r b))
 
 -- what is promised of the calendars that are laid out
-pub whole : (rows : List ℤ) (k a : ℕ) {marks w₀ cs₀ w cs w' cs' : List ℕ} {g g' : Gathered}
-    → Marked rows k (row_count rows) marks → Resources rows marks (row_count rows) w₀ cs₀ w cs g → g.calendars < 800
-    → Added (windows (sheet rows) 16 (num rows a 1)) (count_below (owned_by rows a 16) (row_count rows)) w cs g w' cs' g' → LaidOut rows k a w₀ cs₀ w' cs' g'.calendars
-whole rows k a {w₀ = w₀} {cs₀ = cs₀} {w' = w'} {cs' = cs'} {g' = g'} p r b s =
-    let o : Over (laid_calendars rows k a) w₀ cs₀ w' cs' g' =
-    subst (λ l. Over (l ++ windows (sheet rows) 16 (num rows a 1) ∷ []) w₀ cs₀ w' cs' g') (marks_taken rows k p) (over_more r.over s) in record {
-      answer = o.calendars;
-      numbers = o.numbers;
-      pairs = o.pairs;
-      few = omega (arith, s.calendars);
-      list =
-          lent w' cs' g'.calendars (omega (arith, s.calendars, s.tidy.pairs))
-          ∙ s.list
-          ∙ ap (λ y. y ++ (windows (sheet rows) 16 (num rows a 1) ∷ [])) (r.list ∙ marks_taken rows k p);
-      windows_size = s.tidy.places;
-      pairs_size = s.tidy.pairs;
-    }
+pub whole : (rows : List ℤ) (k a : ℕ) {marks : List ℕ} (l l' : LaidCalendars) → Marked rows k (row_count rows) marks → Resources rows marks (row_count rows) l
+    → Added (windows (sheet rows) 16 (num rows a 1)) (count_below (owned_by rows a 16) (row_count rows)) l l' → LaidOut (laid_calendars rows k a) l'
+whole rows k a l l' p r s =
+    subst (λ c. LaidOut (c ++ windows (sheet rows) 16 (num rows a 1) ∷ []) l') (marks_taken rows k p) (out_more _ r.out s)

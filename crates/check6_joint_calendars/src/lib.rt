@@ -12,10 +12,15 @@ ghost use Rattle.owners.specs.inner.Owners.{Linked, Owned, owned_by};
 ghost use Rattle.model.specs.Sheet.{sheet};
 ghost use Rattle.model.specs.inner.Indexed.{Indexed};
 ghost use Rattle.model.specs.Resource.{windows};
-ghost use Rattle.window_rows.specs.inner.Laid.{Holder};
+ghost use Rattle.calendar.specs.Layout.{calendars_of};
+ghost use Rattle.window_rows.specs.Listed.{listed};
+ghost use Rattle.check6_joint_calendars.specs.Laid.{placed, LaidOut, laid_calendars};
 ghost use Rattle.check6_joint_calendars.specs.inner.Taken.{Marked, OnResources};
-ghost use Rattle.check6_joint_calendars.specs.inner.Laying.{Tidy, Added, AddedAt, Resources, LaidOut};
+ghost use Rattle.check6_joint_calendars.specs.inner.Laying.{AddedAt};
 
+mod laid_calendars;
+
+pub use laid_calendars::LaidCalendars;
 use sheet::Found;
 
 // ---- the resources of a piece
@@ -56,80 +61,23 @@ fn mark_resources(
 
 // ---- calendars laid out
 
-// So many windows and so many calendars are laid out.
-#[derive(Clone, Copy)]
-struct Gathered {
-    pub windows: usize,
-    pub calendars: usize,
-}
-
-// The windows of kind x of row o, as one calendar more.
-fn add_calendar(
-    rows: &[i64],
-    owned: &[u16; 8810],
-    o: usize,
-    x: usize,
-    w: &mut [u64; 2400],
-    cs: &mut [usize; 1600],
-    g: Gathered,
-) -> Gathered
-    requires { Owned rows.now owned.now × (o ≤ row_count rows.now) × Holder rows.now o x × Tidy w.old cs.old g × (g.windows + count_below (owned_by rows.now o x) (row_count rows.now) ≤ 800) × (g.calendars < 800) }
-    ensures { Added (windows (sheet rows.now) x (num rows.now o 1)) (count_below (owned_by rows.now o x) (row_count rows.now)) w.old cs.old g w.new cs.new result }
-{
-    let to = window_rows::gather_windows(rows, owned, o, x, w, g.windows);
-    cs[2 * g.calendars] = g.windows;
-    cs[2 * g.calendars + 1] = to;
-    Gathered {
-        windows: to,
-        calendars: g.calendars + 1,
-    }
-}
-
 // The calendar of the resource of row r, if it is marked.
 fn add_resource(
     rows: &[i64],
     owned: &[u16; 8810],
     marks: &[u8; 800],
     r: usize,
-    w: &mut [u64; 2400],
-    cs: &mut [usize; 1600],
-    g: Gathered,
-) -> Gathered
-    requires { Owned rows.now owned.now × OnResources rows.now marks.now × (r < row_count rows.now) × Tidy w.old cs.old g × (g.windows + count_below (owned_by rows.now r 15) (row_count rows.now) ≤ 800) × (g.calendars < 800) }
-    ensures { AddedAt rows.now marks.now r w.old cs.old g w.new cs.new result }
+    laid: &mut LaidCalendars,
+)
+    requires { Owned rows.now owned.now × OnResources rows.now marks.now × (r < row_count rows.now) × (length (listed laid.old.windows) + count_below (owned_by rows.now r 15) (row_count rows.now) ≤ 800) × (length (placed laid.old) < 800) }
+    ensures { AddedAt rows.now marks.now r laid.old laid.new }
 {
     if marks[r] == 1 {
-        return add_calendar(rows, owned, r, 15, w, cs, g);
+        laid.add(rows, owned, r, 15);
     }
-    g
 }
 
-// The calendars of the marked resources.
-fn gather_resources(
-    rows: &[i64],
-    kinds: &[u16; 3680],
-    owned: &[u16; 8810],
-    marks: &[u8; 800],
-    w: &mut [u64; 2400],
-    cs: &mut [usize; 1600],
-) -> Gathered
-    requires { Kinds rows.now kinds.now × Owned rows.now owned.now × OnResources rows.now marks.now × (length w.old ≡ 2400) × (length cs.old ≡ 1600) }
-    ensures { Resources rows.now marks.now (row_count rows.now) w.old cs.old w.new cs.new result }
-{
-    let n = rows::row_count(rows);
-    let mut g = Gathered {
-        windows: 0,
-        calendars: 0,
-    };
-    let mut r = sheet::first_of(rows, kinds, 11);
-    while r < n {
-        g = add_resource(rows, owned, marks, r, w, cs, g);
-        r = sheet::next_of(rows, kinds, 11, r);
-    }
-    g
-}
-
-// The calendars of booking k's piece, of the activity of row a, and how many they are: two places of cs to each.
+// The calendars of booking k's piece, of the activity of row a.
 pub fn lay_calendars(
     rows: &[i64],
     kinds: &[u16; 3680],
@@ -137,14 +85,19 @@ pub fn lay_calendars(
     owned: &[u16; 8810],
     a: usize,
     k: usize,
-    w: &mut [u64; 2400],
-    cs: &mut [usize; 1600],
-) -> usize
-    requires { Indexed rows.now kinds.now links.now owned.now × (k < row_count rows.now) × (is rows.now k 0 23 ≡ true) × (place_of rows.now 2 (num rows.now k 1) ≡ Some a) × (length w.old ≡ 2400) × (length cs.old ≡ 1600) }
-    ensures { LaidOut rows.now k a w.old cs.old w.new cs.new result }
+) -> LaidCalendars
+    requires { Indexed rows.now kinds.now links.now owned.now × (k < row_count rows.now) × (is rows.now k 0 23 ≡ true) × (place_of rows.now 2 (num rows.now k 1) ≡ Some a) }
+    ensures laid { LaidOut (laid_calendars rows.now k a) result }
+    ensures calendars { calendars_of (listed result.windows) (placed result) ≡ laid_calendars rows.now k a }
 {
     let marks = mark_resources(rows, links, owned, a, k);
-    let g = gather_resources(rows, kinds, owned, &marks, w, cs);
-    let all = add_calendar(rows, owned, a, 16, w, cs, g);
-    all.calendars
+    let n = rows::row_count(rows);
+    let mut laid = LaidCalendars::new();
+    let mut r = sheet::first_of(rows, kinds, 11);
+    while r < n {
+        add_resource(rows, owned, &marks, r, &mut laid);
+        r = sheet::next_of(rows, kinds, 11, r);
+    }
+    laid.add(rows, owned, a, 16);
+    laid
 }

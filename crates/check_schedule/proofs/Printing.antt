@@ -22,7 +22,7 @@ use Rattle.printing.specs.Decimal.{decimal}
 use Rattle.printing.specs.NumberLines.{number_line, line_at, number_lines}
 use Rattle.printing.specs.Printed.{accepted_word, printed_accepted, printed}
 use Rattle.printing.proofs.FitLaws.{Small, accepted_fits, refused_fits}
-use Rattle.text_program.proofs.Printing.{Bounded, stands}
+use Rattle.text_program.proofs.Printing.{Bounded, refusal_fits, stands}
 use Rattle.check_schedule.specs.Program.{printed_sheet}
 
 -- ---- what is printed of findings is that of their lines, whatever follows them
@@ -52,7 +52,7 @@ few rows (Some x) e = tt
 
 fits : (a : Result ℕ Refusal) (found : List ℤ) → Small found → Bounded a → Few a → length (printed a found) ≤ 168030
 fits (Ok n) found s b f = accepted_fits found s n f
-fits (Err e) found s b f = omega (arith, refused_fits number place b.0 b.1)
+fits (Err e) found s b f = omega (arith, refusal_fits e b)
 
 as_written : (rows before : List ℤ) (o : Option Refusal)
     → printed (answered o (length (findings rows))) (lent_after o (flat (findings rows)) before) ≡ printed (answered o (length (findings rows))) (flat (findings rows))

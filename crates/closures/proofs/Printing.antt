@@ -15,6 +15,7 @@ use Rattle.loops.specs.Range.{collect}
 use Rattle.loops.specs.inner.Wrote.{Wrote}
 use Rattle.loops.proofs.RangeLaws.{collect_zero, collect_front, collect_ext}
 use Rattle.line_buffer.specs.Lines.{flat_lines}
+use Rattle.refusals.specs.Refusals.{number_of}
 use Rattle.refusals.specs.declared.Refusal.{Refusal}
 use Rattle.refusals.specs.Lending.{answered, lent_after}
 use Rattle.refusals.proofs.AnswerLaws.{no_accept, same_count}
@@ -114,8 +115,8 @@ module _ (text : List ℕ) (resource : ℤ) (before : List ℤ) (room : 8000 ≡
         let z : freebusy_answer text resource 800 ≡ Ok n = sym answer_is ∙ q in
         stood.1 ∙ ap₂ rows_bytes (left ∙ (found_is q).first) (found_is q).all ∙ lines_are resource (closures text) _ ∙ rw z
 
-  pub refusal_printed : {o o' : List ℕ} {r number place : ℕ} → Wrote o 0 o' r (printed_refused number place) → length o ≡ 84000 → a ≡ Err e
-      → number < 2 ^ 64 → place < 2 ^ 64 → take r o' ≡ printed_closures text resource
+  pub refusal_printed : {o o' : List ℕ} {r : ℕ} {e : Refusal} → Wrote o 0 o' r (printed_refused (number_of e.reason) e.place) → length o ≡ 84000 → a ≡ Err e
+      → e.place < 2 ^ 64 → take r o' ≡ printed_closures text resource
   unfolding printed_closures
-  refusal_printed {number = number} {place = place} w long q h l =
-      let z : freebusy_answer text resource 800 ≡ Err e = sym answer_is ∙ q in rw z (refused_first w long (omega arith) h l)
+  refusal_printed {e = e} w long q l =
+      let z : freebusy_answer text resource 800 ≡ Err e = sym answer_is ∙ q in rw z (refused_first e w long (omega arith) l)

@@ -2,32 +2,14 @@
 use Prim.Native.Nat.{ℕ, zero, suc, ◌+◌, ◌*◌, ◌-◌, ◌/◌, ◌%◌, ◌≤◌, ◌<◌}
 use mathlib.Core.Bool.{Bool, true, false, cond, ◌&&◌, ◌||◌, not, and-eq-true_iff}
 use mathlib.Core.List.{List, [], ◌∷◌}
-use mathlib.Core.Path.{◌≡◌, refl, sym, ap, ◌∙◌}
+use mathlib.Core.Path.{◌≡◌, refl, sym, ◌∙◌}
 use native.Mathlib.Omega.{arith}
 use native.Mathlib.Numerals.{add-one}
 use lib.Dec.{eqb, leb}
-use mir.Syntax.{w64}
-use mir.Val.{Fits}
 use lib.ListN.{get_or, set, get_or-eq_default}
-use lib.Seq.{get_or-set_other}
-use borrow.Author.Rules.{rules}
-use borrow.Author.Tests.{eq-eqb, ne_eqb, eqb-true, eqb-false, leb-true}
+use borrow.Author.Tests.{eqb-true, eqb-false, leb-true}
 use Rattle.loops.specs.Lists.{all_of}
 use Rattle.dates.specs.Calendar.{is_leap, year_days, month_days, years_days, months_days}
-
--- ---- leap years, by the tests one after the other
-
-module _ (y : ℕ) where
-  pub no_fourth : (y % 4 ≡ 0 → ⊥) → false ≡ is_leap y
-  no_fourth n = rw (ne_eqb (y % 4) 0 n)
-
-  pub no_hundredth : y % 4 ≡ 0 → (y % 100 ≡ 0 → ⊥) → true ≡ is_leap y
-  no_hundredth e n = rw (eq-eqb (y % 4) 0 e, ne_eqb (y % 100) 0 n)
-
-  pub of_hundreds : {b : Bool} → y % 4 ≡ 0 → y % 100 ≡ 0 → b ≡ eqb (y % 400) 0 → b ≡ is_leap y
-  of_hundreds e h q = rw (eq-eqb (y % 4) 0 e, eq-eqb (y % 100) 0 h, q)
-
-pub ruleset leaps = (no_fourth, no_hundredth, of_hundreds)
 
 -- ---- the days of years
 
@@ -90,28 +72,23 @@ years_closed y = less _ _ _ (years_sum y)
     less : (a b c : ℕ) → a + b ≡ c → c - b ≡ a
     less a b c h = omega arith
 
--- the days of a month: past 12, February, and any other
-abbrev pub common : List ℕ
+-- no month but 1 to 12 has days
+abbrev common : List ℕ
 common = 0 ∷ 31 ∷ 28 ∷ 31 ∷ 30 ∷ 31 ∷ 30 ∷ 31 ∷ 31 ∷ 30 ∷ 31 ∷ 30 ∷ 31 ∷ []
 
-module _ (y m : ℕ) where
-  pub month_past : 12 < m → 0 ≡ month_days y m
-  unfolding month_days
-  month_past h = sym (get_or-eq_default (set common 2 (cond (is_leap y) 29 28)) 0 h)
+pub no_month : (y m : ℕ) → (0 < m → 12 < m) → 0 ≡ month_days y m
+unfolding month_days
+no_month y zero h = refl
+no_month y (suc m) h = sym (get_or-eq_default (set common 2 (cond (is_leap y) 29 28)) 0 (h (omega arith)))
 
-  pub leap_february : {b : Bool} → m ≡ 2 → b ≡ is_leap y → b ≡ true → 29 ≡ month_days y m
+module _ (y m : ℕ) {b : Bool} (h : m ≡ 2) (e : b ≡ is_leap y) where
+  pub leap_february : b ≡ true → 29 ≡ month_days y m
   unfolding month_days
-  leap_february h e t = rw h (ap (λ (b : Bool). cond b 29 28) (sym t ∙ e))
+  leap_february t = rw (h, sym e ∙ t)
 
-  pub plain_february : {b : Bool} → m ≡ 2 → b ≡ is_leap y → b ≡ false → 28 ≡ month_days y m
+  pub plain_february : b ≡ false → 28 ≡ month_days y m
   unfolding month_days
-  plain_february h e t = rw h (ap (λ (b : Bool). cond b 29 28) (sym t ∙ e))
-
-  pub month_other : (m ≡ 2 → ⊥) → get_or common m 0 ≡ month_days y m
-  unfolding month_days
-  month_other h = sym (get_or-set_other common 2 m (cond (is_leap y) 29 28) 0 h)
-
-pub ruleset months = (rules, month_past, leap_february, plain_february, month_other)
+  plain_february t = rw (h, sym e ∙ t)
 
 -- no month is longer than 31 days
 most : (l : List ℕ) (m : ℕ) → all_of (λ x. leb x 31) l ≡ true → get_or l m 0 ≤ 31
@@ -128,32 +105,7 @@ month_most y m = go (is_leap y)
     go true = most (set common 2 29) m refl
     go false = most common m refl
 
--- the days of the months 0 to k - 1 of m
-pub record Summed (y m k days : ℕ) : Type 0 where
-  pub within : k ≤ m
-  pub so_far : days ≡ months_days y k
-  pub small : days ≤ 31 * k
-
-module _ {y m : ℕ} where
-  pub summed_start : Summed y m 0 0
-  unfolding months_days
-  summed_start = record { within = omega arith; so_far = refl; small = omega arith }
-
-  pub summed_turn : {k days e : ℕ} → Summed y m k days → k < m → e ≡ month_days y k → Summed y m (k + 1) (days + e)
-  unfolding months_days
-  summed_turn {k} {days} {e} c h q = record {
-    within = omega arith;
-    so_far = rw (add-one k, q, c.so_far);
-    small = omega (arith, c.small, q, month_most y k);
-  }
-
-  pub summed_fits : {k days e : ℕ} → Summed y m k days → k < m → m < 3000 → e ≡ month_days y k → Fits w64 (days + e)
-  summed_fits {k} c h l q = record { fits = omega (arith, c.small, q, month_most y k) }
-
-  pub summed_all : {k days : ℕ} → Summed y m k days → m ≤ k → days ≡ months_days y m
-  summed_all {k} c h = c.so_far ∙ ap (months_days y) (omega (arith, c.within))
-
-  pub summed_small : {k days : ℕ} → Summed y m k days → days ≤ 31 * m
-  summed_small c = omega (arith, c.small, c.within)
-
-pub ruleset summing = (rules, summed_start, summed_turn, summed_fits, summed_all, summed_small)
+-- the days of one month more
+pub months_more : (y m days e : ℕ) → days ≡ months_days y m → e ≡ month_days y m → days + e ≡ months_days y (m + 1)
+unfolding months_days
+months_more y m days e p q = rw (add-one m, p, q)

@@ -5,45 +5,15 @@ use mathlib.Core.List.{List, [], ◌∷◌}
 use Rattle.std.specs.Prelude.{None, Some}
 use mathlib.Core.Path.{◌≡◌, sym, ◌∙◌}
 use native.Mathlib.Omega.{arith}
-use lib.Dec.{ltb, leb, eqb}
+use lib.Dec.{leb, eqb}
 use lib.ListN.{length, get_or}
 use lib.Seq.{drop-cons}
 use borrow.Author.Rules.{rules}
-use borrow.Author.Tests.{lt-ltb, le-ltb, le-leb, lt-leb, eq-eqb, ne_eqb, eqb-true, not-true, not-false}
-use Rattle.loops.specs.Lists.{all_of}
+use borrow.Author.Tests.{le-leb, lt-leb, eqb-true, not-true, not-false}
 use Rattle.loops.proofs.BoolLaws.{and_left}
-use Rattle.text_fields.specs.Spelling.{is_digit}
-use Rattle.letters.specs.Letters.{is_letter, LETTER_T, LETTER_Z}
-use Rattle.dates.specs.Calendar.{month_days, years_days, months_days}
-use Rattle.dates.specs.DateTime.{digits_on, field, year, month, day, hour, minute, second, in_calendar, on_clock, exists, date, time, date_time, milliseconds, epoch, last_instant, instant}
-
--- ---- the grammar, step by step
-
-module _ (s : List ℕ) where
-  pub other_length : (length s ≡ 16 → ⊥) → false ≡ date_time s
-  unfolding date_time
-  other_length n = rw (ne_eqb (length s) 16 n)
-
-  module _ {d : Bool} (l : length s ≡ 16) (p : d ≡ all_of is_digit (field 0 8 s)) where
-    pub no_date_lem : not d ≡ true → false ≡ date_time s
-    unfolding date_time date
-    no_date_lem h = rw (eq-eqb (length s) 16 l, sym p ∙ not-true d h)
-
-    module _ {t : Bool} (h : not d ≡ false) (q : t ≡ is_letter LETTER_T (get_or s 8 0)) where
-      pub no_t : not t ≡ true → false ≡ date_time s
-      unfolding date_time date
-      no_t k = rw (eq-eqb (length s) 16 l, sym p ∙ not-false d h, sym q ∙ not-true t k)
-
-      module _ {c : Bool} (k : not t ≡ false) (r : c ≡ all_of is_digit (field 9 6 s)) where
-        pub no_clock : not c ≡ true → false ≡ date_time s
-        unfolding date_time date time
-        no_clock i = rw (eq-eqb (length s) 16 l, sym p ∙ not-false d h, sym q ∙ not-false t k, sym r ∙ not-true c i)
-
-        pub with_z : {z : Bool} → not c ≡ false → z ≡ is_letter LETTER_Z (get_or s 15 0) → z ≡ date_time s
-        unfolding date_time date time
-        with_z i e = rw (eq-eqb (length s) 16 l, sym p ∙ not-false d h, sym q ∙ not-false t k, sym r ∙ not-false c i) e
-
-pub ruleset spellings = (rules, other_length, no_date_lem, no_t, no_clock, with_z)
+use Rattle.letters.specs.Letters.{is_letter, LETTER_T}
+use Rattle.dates.specs.Calendar.{years_days, months_days}
+use Rattle.dates.specs.DateTime.{digits_on, field, year, month, day, hour, minute, second, exists, date, time, date_time, milliseconds, epoch, last_instant, instant}
 
 -- two digits at a place
 pub two_digits : (s : List ℕ) (i a b : ℕ) → i + 2 ≤ length s → a ≡ get_or s i 0 - 48 → b ≡ get_or s (i + 1) 0 - 48 → a * 10 + b ≡ digits_on 0 (field i 2 s)
@@ -65,43 +35,6 @@ pub year_sum : (s : List ℕ) (a b : ℕ) → a ≡ digits_on 0 (field 0 2 s) �
 year_sum s a b p q h = rw (p, q) (year_two_two s h)
 
 pub ruleset numbers = (rules, two_digits, year_sum)
-
--- ---- what there is of days and seconds
-
-module _ (y m d : ℕ) where
-  pub no_day : d ≡ 0 → false ≡ in_calendar y m d
-  no_day z = rw z
-
-  pub day_of_month : {n : ℕ} → (d ≡ 0 → ⊥) → n ≡ month_days y m → leb d n ≡ in_calendar y m d
-  day_of_month z e = rw (e, lt-ltb 0 d (omega arith))
-
-module _ (h m s : ℕ) where
-  pub no_hour : 23 < h → false ≡ on_clock h m s
-  no_hour l = rw (le-ltb h 24 (omega arith))
-
-  pub no_minute : h ≤ 23 → 59 < m → false ≡ on_clock h m s
-  no_minute k l = rw (lt-ltb h 24 (omega arith), le-ltb m 60 (omega arith))
-
-  pub second_of_minute : h ≤ 23 → m ≤ 59 → ltb s 60 ≡ on_clock h m s
-  second_of_minute k l = rw (lt-ltb h 24 (omega arith), lt-ltb m 60 (omega arith))
-
-pub ruleset calendars = (rules, no_day, day_of_month)
-
-pub ruleset clocks = (rules, no_hour, no_minute, second_of_minute)
-
-module _ (s : List ℕ) {r : Bool} {y m d : ℕ} (e : r ≡ in_calendar y m d) (py : y ≡ year s) (pm : m ≡ month s) (pd : d ≡ day s) where
-  in_calendar_lem : in_calendar (year s) (month s) (day s) ≡ r
-  in_calendar_lem = sym (e ∙ rw (py, pm, pd))
-
-  pub no_such_day : not r ≡ true → false ≡ exists s
-  unfolding exists
-  no_such_day t = rw (in_calendar_lem ∙ not-true r t)
-
-  pub such_a_second : {o : Bool} {h mi se : ℕ} → not r ≡ false → o ≡ on_clock h mi se → h ≡ hour s → mi ≡ minute s → se ≡ second s → o ≡ exists s
-  unfolding exists
-  such_a_second t q ph pmi pse = rw (in_calendar_lem ∙ not-false r t) (q ∙ rw (ph, pmi, pse))
-
-pub ruleset reals = (rules, no_such_day, such_a_second)
 
 -- ---- the milliseconds, and the instant
 

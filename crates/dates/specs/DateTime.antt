@@ -1,14 +1,12 @@
 -- A date and time in sixteen bytes, as 20240229T235959Z: RFC 5545, 3.3.4, 3.3.5 and 3.3.12, the form with UTC time. Bytes are given by their numbers.
 -- Assumes nothing.
 use Rattle.std.specs.Prelude.{ℕ, ◌+◌, ◌*◌, ◌-◌, Bool, ◌&&◌, List, [], ◌∷◌, ltb, leb, eqb, length, get_or, take, drop}
-use Rattle.std.specs.Prelude.{Option, None, Some}
+use Rattle.std.specs.Prelude.{Option}
 use Rattle.loops.specs.Lists.{all_of}
 use Rattle.loops.specs.Search.{some_if}
 use Rattle.text_fields.specs.Spelling.{is_digit}
 use Rattle.letters.specs.Letters.{is_letter, LETTER_T, LETTER_Z}
 use Rattle.dates.specs.Calendar.{month_days, day_number}
-use Rattle.dates.specs.declared.Instant.{Instant}
-use Rattle.dates.specs.declared.Instant.TheVariants.{At, Outside}
 
 -- the n bytes from place i on
 abbrev pub field : ℕ → ℕ → List ℕ → List ℕ
@@ -83,8 +81,3 @@ in_range t = leb epoch t && leb t (epoch + last_instant)
 -- the instant of a date and time, where there is one in the range
 unfoldable pub instant : List ℕ → Option ℕ
 instant s = some_if (date_time s && (exists s && in_range (milliseconds s))) (milliseconds s - epoch)
-
--- what the code says of it
-abbrev pub told : Instant → Option ℕ
-told (At t) = Some t
-told Outside = None

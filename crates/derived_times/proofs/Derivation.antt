@@ -21,12 +21,12 @@ use Rattle.sheet.specs.inner.Found.{found_of}
 use Rattle.sheet.specs.inner.Accepted.{Accepted}
 use Rattle.sheet.proofs.Lookups.{placed}
 use Rattle.owners.specs.inner.Owners.{own_place, owned_by}
+use Rattle.resource_timing.specs.declared.ActivityDuration.{ActivityDuration}
 use Rattle.resource_timing.specs.declared.ResourceTiming.{ResourceTiming}
 use Rattle.resource_timing.specs.declared.Piece.{Piece}
 use Rattle.resource_timing.specs.declared.Timed.{Timed}
-use Rattle.resource_timing.specs.declared.Derived.{Derived}
 use Rattle.resource_timing.specs.Durations.{TimedSoFar, start, timed_on, piece_timing, piece_duration, timed, timed_duration}
-use Rattle.resource_timing.specs.inner.Limits.{within, timed_of, timed_with, derived_of, PieceAmounts}
+use Rattle.resource_timing.specs.inner.Limits.{Derived, within, timed_of, timed_with, derived_of, PieceAmounts}
 use Rattle.resource_timing.proofs.Laws.{timed_known, derived_known}
 use Rattle.model.specs.Sheet.{sheet}
 use Rattle.model.specs.Activity.{piece_of, timing, duration_on}
@@ -180,12 +180,12 @@ module _ (rows : List ℤ) where
       ∙ ap (λ z. timed (piece_duration z (columns_of rows o 4)) (foldl timed_on start (map (piece_timing z) (each (λ r. option (timing (sheet rows) (num rows o 1) r) [] (λ t. t ∷ [])) (runs_on (sheet rows) (assignment_of rows k)))))) p
 
   -- the same, of what the code found
-  pub duration_found : (k o : ℕ) {d : Derived} {t : Timed} {piece : Piece} {a b c : ℕ} → t ≡ timed_of (fold (timed_at rows k piece) start (row_count rows))
-      → d ≡ derived_of t (piece_duration piece (record { setup_ms = a; process_ms = b; teardown_ms = c })) → a ≡ num rows o 4 → b ≡ num rows o 5 → c ≡ num rows o 6
+  pub duration_found : (k o : ℕ) {d : Derived} {t : Timed} {piece : Piece} {base : ActivityDuration} → t ≡ timed_of (fold (timed_at rows k piece) start (row_count rows))
+      → d ≡ derived_of t (piece_duration piece base) → base ≡ columns_of rows o 4
       → piece ≡ piece_of (sheet rows) (activity_of rows o) (part_at rows k) → Accepted rows → k < row_count rows → is rows k 0 23 ≡ true → place_of rows 2 (num rows k 1) ≡ Some o
       → d ≡ within (derived (sheet rows) (assignment_of rows k) (activity_of rows o))
-  duration_found k o {d} {t} {piece} e f p q r w acc l h z =
-      let u : d ≡ derived_of t (piece_duration piece (columns_of rows o 4)) = rw (p, q, r) at f in
+  duration_found k o {d} {t} {piece} e f p w acc l h z =
+      let u : d ≡ derived_of t (piece_duration piece (columns_of rows o 4)) = rw p at f in
       u
       ∙ ap (λ y. derived_of y (piece_duration piece (columns_of rows o 4))) e
       ∙ derived_known (fold (timed_at rows k piece) start (row_count rows)) (piece_duration piece (columns_of rows o 4))

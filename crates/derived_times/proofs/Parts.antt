@@ -31,6 +31,7 @@ use Rattle.sheet.specs.inner.Accepted.{Accepted}
 use Rattle.sheet.specs.Refusals.{lacks}
 use Rattle.sheet.proofs.Lookups.{is_num, placed, found_some, found_none, place_kind}
 use Rattle.sheet.proofs.Keeping.{Keeping, keeping_start, keeping_turn, keeping_end, kept_at}
+use Rattle.owners.specs.declared.Owner.TheVariants.{ActivityRow}
 use Rattle.owners.specs.inner.Owners.{owner_kind, owned_by}
 use Rattle.resource_timing.specs.declared.ActivityDuration.{ActivityDuration}
 use Rattle.resource_timing.specs.declared.PartTimes.{PartTimes}
@@ -50,10 +51,10 @@ use Rattle.derived_times.specs.inner.Rows.{columns_of, part_at, timed_by, timing
 use Rattle.derived_times.specs.inner.Needs.{rest_at, Times}
 use Rattle.derived_times.proofs.Finds.{split_of, split_is, earlier_is}
 
-pub kind_9 : owner_kind 9 ≡ 2
+pub kind_9 : owner_kind 9 ≡ Some ActivityRow
 kind_9 = unfold owner_kind in refl
 
-pub kind_10 : owner_kind 10 ≡ 2
+pub kind_10 : owner_kind 10 ≡ Some ActivityRow
 kind_10 = unfold owner_kind in refl
 
 -- ---- what is found
@@ -69,7 +70,7 @@ module _ {i j : ℕ} {r e : Option ℕ} where
 module _ (rows : List ℤ) where
   -- ---- the activity's row
 
-  pub found_blind : (k o : ℕ) {r : Found} → found_of r ≡ place_of rows 2 (num rows k 1) → r ≡ At o → (x b : ℕ) {a : ℕ} → a ≡ num rows k 1 → owner_kind x ≡ 2 → Blind (owned_by rows o x) (names rows x a b)
+  pub found_blind : (k o : ℕ) {r : Found} → found_of r ≡ place_of rows 2 (num rows k 1) → r ≡ At o → (x b : ℕ) {a : ℕ} → a ≡ num rows k 1 → owner_kind x ≡ Some ActivityRow → Blind (owned_by rows o x) (names rows x a b)
   found_blind k o e f x b p z = timings_blind rows x o b z p (sym (found_some f e))
 
   -- ---- the split's row

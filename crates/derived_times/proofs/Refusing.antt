@@ -5,7 +5,7 @@ use Prim.Native.Nat.{ℕ, ◌+◌, ◌^◌, ◌<◌, ◌≤◌}
 use mathlib.Core.Path.{◌≡◌, refl, sym, ap, ◌∙◌}
 use mathlib.Core.Bool.{Bool, true, false, cond, not, ◌||◌, true≢false, or-false}
 use mathlib.Core.List.{List, [], ◌∷◌}
-use Rattle.std.specs.Prelude.{Option, None, Some}
+use Rattle.std.specs.Prelude.{Option, None, Some, Ok}
 use native.Mathlib.Omega.{arith}
 use lib.Dec.{ltb, leb}
 use lib.IntN.{ℤ}
@@ -20,10 +20,9 @@ use Rattle.loops.proofs.SearchLaws.{first_hit, first_done}
 use Rattle.rows.specs.Cells.{row_count, num, is}
 use Rattle.sheet.specs.Places.{place_of}
 use Rattle.resource_timing.specs.declared.ActivityDuration.{ActivityDuration}
-use Rattle.resource_timing.specs.declared.Derived.{Derived}
-use Rattle.resource_timing.specs.declared.Derived.TheVariants.{Within, TooLarge}
 use Rattle.resource_timing.specs.Durations.{total_ms}
-use Rattle.resource_timing.specs.inner.Limits.{within}
+use Rattle.resource_timing.specs.inner.Limits.{Derived, within}
+use Rattle.rounding.specs.inner.Limited as limited
 use Rattle.model.specs.Sheet.{sheet}
 use Rattle.model.specs.Activity.{Activity, find_activity, duration_on, needed_ms}
 use Rattle.model.specs.Schedule.{Assignment, assignment_at}
@@ -41,7 +40,7 @@ unfolding within
 most None = omega arith
 most (Some d) = go (ltb (total_ms d) (2 ^ 53)) refl
   where
-    go : (b : Bool) → ltb (total_ms d) (2 ^ 53) ≡ b → rest_ms (cond b (Within d) TooLarge) ≤ 9007199254740992
+    go : (b : Bool) → ltb (total_ms d) (2 ^ 53) ≡ b → rest_ms (cond b (Ok d) limited.too_large) ≤ 9007199254740992
     go true h = let l : total_ms d < 9007199254740992 = ltb-true (total_ms d) 9007199254740992 h in omega arith
     go false h = omega arith
 
@@ -53,12 +52,12 @@ unfolding within
 large_is None = le-leb 9007199254740992 9007199254740992 (omega arith)
 large_is (Some d) = go (ltb (total_ms d) (2 ^ 53)) refl
   where
-    go : (b : Bool) → ltb (total_ms d) (2 ^ 53) ≡ b → leb 9007199254740992 (rest_ms (cond b (Within d) TooLarge)) ≡ not b
+    go : (b : Bool) → ltb (total_ms d) (2 ^ 53) ≡ b → leb 9007199254740992 (rest_ms (cond b (Ok d) limited.too_large)) ≡ not b
     go true h = let l : total_ms d < 9007199254740992 = ltb-true (total_ms d) 9007199254740992 h in lt-leb 9007199254740992 (d.process_ms + d.teardown_ms) (omega arith)
     go false h = le-leb 9007199254740992 9007199254740992 (omega arith)
 
-pub rest_fits : (d : ActivityDuration) {x : Derived} → x ≡ Within d → rest_ms x ≤ 9007199254740992 → Fits w64 (d.process_ms + d.teardown_ms)
-rest_fits d e h = let g : rest_ms (Within d) ≤ 9007199254740992 = rw e at h in record { fits = omega arith }
+pub rest_fits : (d : ActivityDuration) {x : Derived} → x ≡ Ok d → rest_ms x ≤ 9007199254740992 → Fits w64 (d.process_ms + d.teardown_ms)
+rest_fits d e h = let g : rest_ms (Ok d) ≤ 9007199254740992 = rw e at h in record { fits = omega arith }
 
 -- ---- a row
 
@@ -122,7 +121,7 @@ module _ (rows : List ℤ) where
   needed None setup f = absurd (true≢false f)
   needed (Some d) setup f = go (ltb (total_ms d) (2 ^ 53)) f
     where
-      go : (b : Bool) → not b ≡ false → setup + d.process_ms + d.teardown_ms ≡ setup + rest_ms (cond b (Within d) TooLarge)
+      go : (b : Bool) → not b ≡ false → setup + d.process_ms + d.teardown_ms ≡ setup + rest_ms (cond b (Ok d) limited.too_large)
       go true f = omega arith
       go false f = absurd (true≢false f)
 

@@ -24,6 +24,7 @@ ghost use Rattle.derived_times.specs.inner.Needs.{rest_ms, rest_at, Times};
 
 use refusals::{Reason, Verdict};
 use resource_timing::{ActivityDuration, Derived, Piece, ResourceTiming, Timed};
+use rounding::TooLarge;
 use sheet::Found;
 
 // ---- timings
@@ -32,16 +33,11 @@ use sheet::Found;
 fn earlier(x: Found, y: Found) -> Found
     ensures { found_of result ≡ earlier_of (found_of x) (found_of y) }
 {
-    let Found::At(i) = x else {
-        return y;
-    };
-    let Found::At(j) = y else {
-        return x;
-    };
-    if i < j {
-        return x;
+    match (x, y) {
+        (Found::At(i), Found::At(j)) => Found::At(i.min(j)),
+        (Found::Nothing, _) => y,
+        (_, Found::Nothing) => x,
     }
-    y
 }
 
 // The row of the timing of booking k's activity on its resource.
@@ -69,10 +65,8 @@ pub fn timings_of(rows: &[i64], links: &[u16; 1600], owned: &[u16; 8810]) -> [u1
 {
     let n = rows::row_count(rows);
     let mut t = [0u16; 800];
-    let mut k = 0;
-    while k < n {
+    for k in 0..n {
         sheet::keep_place(rows, &mut t, k, timing_row(rows, links, owned, k));
-        k += 1;
     }
     t
 }
@@ -90,13 +84,10 @@ fn duration_at(rows: &[i64], k: usize, c: usize) -> ActivityDuration
     requires { c < 8 }
     ensures { result ≡ columns_of rows.now k c }
 {
-    let setup = rows::num_at(rows, k, c);
-    let process = rows::num_at(rows, k, c + 1);
-    let teardown = rows::num_at(rows, k, c + 2);
     ActivityDuration {
-        setup_ms: setup,
-        process_ms: process,
-        teardown_ms: teardown,
+        setup_ms: rows::num_at(rows, k, c),
+        process_ms: rows::num_at(rows, k, c + 1),
+        teardown_ms: rows::num_at(rows, k, c + 2),
     }
 }
 
@@ -105,9 +96,10 @@ fn timing_at(rows: &[i64], i: usize) -> ResourceTiming
     ensures { result ≡ timing_of rows.now i }
 {
     if rows::is_at(rows, i, 0, 9) {
-        return ResourceTiming::Speed(rounding::float_from_bits(rows::num_at(rows, i, 3)));
+        ResourceTiming::Speed(rounding::float_from_bits(rows::num_at(rows, i, 3)))
+    } else {
+        ResourceTiming::Duration(duration_at(rows, i, 3))
     }
-    ResourceTiming::Duration(duration_at(rows, i, 3))
 }
 
 // ---- a booking's piece
@@ -128,8 +120,7 @@ fn piece_at(rows: &[i64], owned: &[u16; 8810], o: usize, k: usize) -> Piece
     let work = rows::num_at(rows, k, 8);
     let whole = rows::num_at(rows, o, 5);
     let overhead = rows::num_at(rows, i, 4);
-    let part = resource_timing::part_of(index, work, whole, overhead);
-    Piece::InPart(part)
+    Piece::InPart(resource_timing::part_of(index, work, whole, overhead))
 }
 
 // ---- what its resources make of its time
@@ -147,16 +138,13 @@ fn timed_on(
     requires { Accepted rows.now × Held rows.now held.now × Timings rows.now t.now × PieceAmounts piece × (j < row_count rows.now) }
     ensures { (g : TimedSoFar) → f ≡ timed_of g → result ≡ timed_of (timed_at rows.now k piece g j) }
 {
-    if pieces::in_piece(rows, k, j) {
-        if pieces::is_marked(rows, held, j) {
-            return f;
-        }
-        let Found::At(i) = timing_of(rows, t, j) else {
-            return f;
-        };
-        return f.on(piece, timing_at(rows, i));
+    if !pieces::in_piece(rows, k, j) || pieces::is_marked(rows, held, j) {
+        return f;
     }
-    f
+    match timing_of(rows, t, j) {
+        Found::At(i) => f.on(piece, timing_at(rows, i)),
+        Found::Nothing => f,
+    }
 }
 
 // All that booking k's piece, of the activity of row o, runs on.
@@ -196,18 +184,13 @@ pub fn duration_on(
 {
     let piece = piece_at(rows, owned, o, k);
     let f = timed_of(rows, owned, held, t, o, k, piece);
-    let setup = rows::num_at(rows, o, 4);
-    let process = rows::num_at(rows, o, 5);
-    let teardown = rows::num_at(rows, o, 6);
-    let base = ActivityDuration {
-        setup_ms: setup,
-        process_ms: process,
-        teardown_ms: teardown,
-    };
-    f.duration(piece, base)
+    f.duration(piece, duration_at(rows, o, 4))
 }
 
 // ---- what each booking needs
+
+// 2^53: no time that is not refused reaches it.
+const REFUSED: u64 = 9007199254740992;
 
 // Processing and teardown; 2^53 where the time is refused.
 fn rest_ms(d: Derived) -> u64
@@ -215,8 +198,8 @@ fn rest_ms(d: Derived) -> u64
     ensures { result ≡ rest_ms d }
 {
     match d {
-        Derived::Within(d) => d.process_ms + d.teardown_ms,
-        Derived::TooLarge => 9007199254740992,
+        Ok(d) => d.process_ms + d.teardown_ms,
+        Err(TooLarge) => REFUSED,
     }
 }
 
@@ -232,20 +215,13 @@ fn rest_at(
     requires { Accepted rows.now × Linked rows.now links.now × Owned rows.now owned.now × Held rows.now held.now × Timings rows.now t.now × (k < row_count rows.now) }
     ensures { result ≡ rest_at rows.now k }
 {
-    if rows::is_at(rows, k, 0, 23) {
-        let Found::At(o) = owners::activity_of(rows, links, k) else {
-            return 0;
-        };
-        return rest_ms(duration_on(rows, owned, held, t, o, k));
+    if !rows::is_at(rows, k, 0, 23) {
+        return 0;
     }
-    0
-}
-
-fn set_need(need: &mut [u64; 800], k: usize, ms: u64)
-    requires { k < 800 }
-    ensures { need.new ≡ set need.old k ms }
-{
-    need[k] = ms;
+    match owners::activity_of(rows, links, k) {
+        Found::At(o) => rest_ms(duration_on(rows, owned, held, t, o, k)),
+        Found::Nothing => 0,
+    }
 }
 
 // What each booking of a known activity needs besides its own setup.
@@ -261,10 +237,8 @@ pub fn needs_of(
     let n = rows::row_count(rows);
     let t = timings_of(rows, links, owned);
     let mut need = [0u64; 800];
-    let mut k = 0;
-    while k < n {
-        set_need(&mut need, k, rest_at(rows, links, owned, held, &t, k));
-        k += 1;
+    for k in 0..n {
+        need[k] = rest_at(rows, links, owned, held, &t, k);
     }
     need
 }
@@ -275,7 +249,7 @@ fn is_too_large(rows: &[i64], need: &[u64; 800], k: usize) -> bool
     requires { Times rows.now need.now × (k < row_count rows.now) }
     ensures { result ≡ any_of (is_too_large (sheet rows.now)) (assignment_at (sheet rows.now) k) }
 {
-    9007199254740992 <= need[k]
+    REFUSED <= need[k]
 }
 
 // The first booking of a known activity whose derived time is not finite, or 2^53 or more.
@@ -283,13 +257,10 @@ pub fn refused(rows: &[i64], need: &[u64; 800]) -> Verdict
     requires { Times rows.now need.now }
     ensures { verdict_of result ≡ time_refusal rows.now }
 {
-    let n = rows::row_count(rows);
-    let mut k = 0;
-    while k < n {
+    for k in 0..rows::row_count(rows) {
         if is_too_large(rows, need, k) {
             return Err(Reason::Stretched.at(k));
         }
-        k += 1;
     }
     Ok(())
 }

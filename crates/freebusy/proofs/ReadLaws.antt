@@ -3,12 +3,12 @@ use Prim.Native.Nat.{ℕ, ◌+◌, ◌^◌, ◌<◌, ◌≤◌}
 use mathlib.Core.Bool.{Bool, true, false, cond, ◌&&◌, not}
 use mathlib.Core.List.{List, [], ◌∷◌, ◌++◌, append-nil}
 use mathlib.Core.Logic.{◌⊎◌, inl, inr}
-use Rattle.std.specs.Prelude.{Option, None, Some}
+use Rattle.std.specs.Prelude.{Option, None, Some, Result, Ok, Err}
 use mathlib.Core.Path.{◌≡◌, refl, sym, ap, ◌∙◌}
 use native.Mathlib.Omega.{arith}
 use native.Mathlib.Nat.{add-zero}
 use lib.Dec.{ltb}
-use lib.IntN.{ℤ, pos}
+use lib.IntN.{ℤ}
 use lib.ListN.{length, length-append}
 use borrow.Author.Tests.{ltb-true}
 use Rattle.loops.specs.Lists.{each}
@@ -19,11 +19,11 @@ use Rattle.loops.proofs.PlaceLaws.{or_none_lem, or_assoc, or_none_left, or_none_
 use Rattle.line_buffer.specs.inner.Sink.{Sink, sink, more, put_line, put_lines}
 use Rattle.line_buffer.proofs.LineLaws.{more_below, lines_append, lines_none, lines_kept}
 use Rattle.refusals.specs.Refusals.{refuse, verdict_of}
+use Rattle.refusals.specs.declared.Reason.{Reason}
 use Rattle.refusals.specs.declared.Reason.TheVariants.{Overfull}
 use Rattle.refusals.specs.declared.Refusal.{Refusal}
 use Rattle.freebusy_periods.specs.Period.{window_of}
-use Rattle.freebusy_periods.specs.declared.Window.{Window}
-use Rattle.freebusy_periods.specs.declared.Window.TheVariants.{Span, Wrong}
+use Rattle.freebusy_periods.specs.declared.Span.{Span}
 use Rattle.freebusy_components.specs.Components.{Busy}
 use Rattle.freebusy.specs.declared.Reading.{Reading}
 use Rattle.freebusy.specs.Call.{Closure, closure_row, window_closures, closures_of, window_refusal, period_refusal, periods_refusal}
@@ -36,12 +36,12 @@ passed_one : (room n : ℕ) (b : Busy) → period_refusal room n b ≡ None → 
 unfolding period_refusal closures_of
 passed_one room n b e = go b.free (window_of b.bytes) (ltb n room) refl e
   where
-    go : (f : Bool) (w : Window) (t : Bool) → ltb n room ≡ t → or_else (window_refusal b.place w) (refuse (not f && not t) Overfull b.place) ≡ None
+    go : (f : Bool) (w : Result Span Reason) (t : Bool) → ltb n room ≡ t → or_else (window_refusal b.place w) (refuse (not f && not t) Overfull b.place) ≡ None
         → (cond f [] (window_closures w) ≡ []) ⊎ ((c : Closure) × (cond f [] (window_closures w) ≡ c ∷ []) × (n < room))
-    go f (Wrong k) t q e = absurd (none_some (sym e))
-    go true (Span a e') t q e = inl refl
-    go false (Span a e') true q e = inr (_, refl, ltb-true n room q)
-    go false (Span a e') false q e = absurd (none_some (sym e))
+    go f (Err k) t q e = absurd (none_some (sym e))
+    go true (Ok v) t q e = inl refl
+    go false (Ok v) true q e = inr (_, refl, ltb-true n room q)
+    go false (Ok v) false q e = absurd (none_some (sym e))
 
 -- ---- some periods, and then others
 
@@ -54,7 +54,7 @@ refusal_append room n (x ∷ a) b =
     rw (k, refusal_append room (n + length (closures_of x)) a b)
     (sym (or_assoc (period_refusal room n x) (periods_refusal room (n + length (closures_of x)) a) (periods_refusal room (n + length (closures_of x) + length (each closures_of a)) b)))
 
-module _ (room id : ℕ) where
+module _ (room : ℕ) (resource : ℤ) where
   -- periods that pass have rows that fit
   pub passed_fit : (bs : List Busy) (n : ℕ) → n ≤ room → periods_refusal room n bs ≡ None → n + length (each closures_of bs) ≤ room
   unfolding periods_refusal each
@@ -73,7 +73,7 @@ module _ (room id : ℕ) where
   module _ (small : room < 2 ^ 60) where
     -- and are counted right
     passed_count : (bs : List Busy) (o : List ℤ) (n : ℕ) → periods_refusal room n bs ≡ None
-        → (put_closures id (sink o n) (each closures_of bs)).count ≡ n + length (each closures_of bs)
+        → (put_closures resource (sink o n) (each closures_of bs)).count ≡ n + length (each closures_of bs)
     unfolding periods_refusal each put_lines put_line
     passed_count [] o n e = sym (add-zero n)
     passed_count (b ∷ bs) o n e =
@@ -82,16 +82,16 @@ module _ (room id : ℕ) where
         go (closures_of b) (passed_one room n b p) q (λ o n e. passed_count bs o n e)
       where
         go : (cs : List Closure) → (cs ≡ []) ⊎ ((c : Closure) × (cs ≡ c ∷ []) × (n < room)) → periods_refusal room (n + length cs) bs ≡ None
-            → ((o : List ℤ) (n : ℕ) → periods_refusal room n bs ≡ None → (put_closures id (sink o n) (each closures_of bs)).count ≡ n + length (each closures_of bs))
-            → (put_closures id (sink o n) (cs ++ each closures_of bs)).count ≡ n + length (cs ++ each closures_of bs)
+            → ((o : List ℤ) (n : ℕ) → periods_refusal room n bs ≡ None → (put_closures resource (sink o n) (each closures_of bs)).count ≡ n + length (each closures_of bs))
+            → (put_closures resource (sink o n) (cs ++ each closures_of bs)).count ≡ n + length (cs ++ each closures_of bs)
         go cs (inl q) e k = rw q (k o n (rw (q, add-zero n) at e))
         go cs (inr q) e k =
-            let b : List ℤ = (put_line 10 (sink o n) (closure_row (pos id) q.0)).buf in
+            let b : List ℤ = (put_line 10 (sink o n) (closure_row resource q.0)).buf in
             rw q.1
-            (ap (λ (m : ℕ). (put_closures id (sink b m) (each closures_of bs)).count) (more_below n (omega (arith, q.2)))
+            (ap (λ (m : ℕ). (put_closures resource (sink b m) (each closures_of bs)).count) (more_below n (omega (arith, q.2)))
             ∙ k b (n + 1) (rw q.1 at e) ∙ omega arith)
 
-    count_then : {rows rows' : List ℤ} {from to : Reading} (a b : List Busy) → ReadOn room id rows from a rows' to → (v : Option Refusal)
+    count_then : {rows rows' : List ℤ} {from to : Reading} (a b : List Busy) → ReadOn room resource rows from a rows' to → (v : Option Refusal)
         → or_else (or_else v (periods_refusal room from.count a)) (periods_refusal room to.count b) ≡ or_else v (periods_refusal room from.count (a ++ b))
     count_then {rows = rows} {from = from} {to = to} a b r (Some x) = refl
     count_then {rows = rows} {from = from} {to = to} a b r None =
@@ -102,55 +102,55 @@ module _ (room id : ℕ) where
         go (Some x) e = refl
         go None e = ap (λ (k : ℕ). periods_refusal room k b) (ap (λ (s : Sink). s.count) r.numbers ∙ passed_count a rows from.count e)
 
-    pub read_then : {rows rows' rows'' : List ℤ} {from to on : Reading} (a b : List Busy) → ReadOn room id rows from a rows' to → ReadOn room id rows' to b rows'' on
-        → ReadOn room id rows from (a ++ b) rows'' on
+    pub read_then : {rows rows' rows'' : List ℤ} {from to on : Reading} (a b : List Busy) → ReadOn room resource rows from a rows' to → ReadOn room resource rows' to b rows'' on
+        → ReadOn room resource rows from (a ++ b) rows'' on
     read_then {rows = rows} {from = from} {to = to} a b r s =
         record {
           refusal = s.refusal ∙ ap (λ (v : Option Refusal). or_else v (periods_refusal room to.count b)) r.refusal ∙ count_then a b r (verdict_of from.refused);
           numbers =
-              s.numbers ∙ ap (λ (k : Sink). put_closures id k (each closures_of b)) r.numbers
-              ∙ lines_append 10 (closure_row (pos id)) (each closures_of a) (each closures_of b) (sink rows from.count)
-              ∙ ap (put_closures id (sink rows from.count)) (sym (each_append closures_of a b));
+              s.numbers ∙ ap (λ (k : Sink). put_closures resource k (each closures_of b)) r.numbers
+              ∙ lines_append 10 (closure_row resource) (each closures_of a) (each closures_of b) (sink rows from.count)
+              ∙ ap (put_closures resource (sink rows from.count)) (sym (each_append closures_of a b));
         }
 
-  pub read_none : (rows : List ℤ) (from : Reading) → ReadOn room id rows from [] rows from
+  pub read_none : (rows : List ℤ) (from : Reading) → ReadOn room resource rows from [] rows from
   unfolding periods_refusal each
-  read_none rows from = record { refusal = sym (or_none_lem (verdict_of from.refused)); numbers = sym (lines_none 10 (closure_row (pos id)) (sink rows from.count)) }
+  read_none rows from = record { refusal = sym (or_none_lem (verdict_of from.refused)); numbers = sym (lines_none 10 (closure_row resource) (sink rows from.count)) }
 
   pub read_one : {rows rows' : List ℤ} (from : Reading) {to : Reading} (b : Busy)
       → verdict_of to.refused ≡ or_else (verdict_of from.refused) (period_refusal room from.count b)
-      → sink rows' to.count ≡ put_closures id (sink rows from.count) (closures_of b) → ReadOn room id rows from (b ∷ []) rows' to
+      → sink rows' to.count ≡ put_closures resource (sink rows from.count) (closures_of b) → ReadOn room resource rows from (b ∷ []) rows' to
   unfolding periods_refusal each
   read_one {rows = rows} from b p q =
       record {
         refusal = p ∙ ap (or_else (verdict_of from.refused)) (sym (or_none_lem (period_refusal room from.count b)));
-        numbers = q ∙ ap (put_closures id (sink rows from.count)) (sym (append-nil (closures_of b)));
+        numbers = q ∙ ap (put_closures resource (sink rows from.count)) (sym (append-nil (closures_of b)));
       }
 
 -- ---- a loop over periods: to read the rest from here gives what it gave to read all from the start
 
-pub record Going (room id : ℕ) (rows₀ : List ℤ) (from : Reading) (all : List Busy) (rows : List ℤ) (so_far : Reading) (rest : List Busy) : Type 0 where
-  pub on : (rows' : List ℤ) (to : Reading) → ReadOn room id rows so_far rest rows' to → ReadOn room id rows₀ from all rows' to
+pub record Going (room : ℕ) (resource : ℤ) (rows₀ : List ℤ) (from : Reading) (all : List Busy) (rows : List ℤ) (so_far : Reading) (rest : List Busy) : Type 0 where
+  pub on : (rows' : List ℤ) (to : Reading) → ReadOn room resource rows so_far rest rows' to → ReadOn room resource rows₀ from all rows' to
   pub long : length rows ≡ length rows₀
 
-pub going_start : (room id : ℕ) (rows : List ℤ) (from : Reading) (all : List Busy) → Going room id rows from all rows from all
-going_start room id rows from all = record { on = λ rows' to r. r; long = refl }
+pub going_start : (room : ℕ) (resource : ℤ) (rows : List ℤ) (from : Reading) (all : List Busy) → Going room resource rows from all rows from all
+going_start room resource rows from all = record { on = λ rows' to r. r; long = refl }
 
-module _ {room id : ℕ} {rows₀ : List ℤ} {from : Reading} {all : List Busy} {rows : List ℤ} {so_far : Reading} {rest : List Busy}
-    (g : Going room id rows₀ from all rows so_far rest) {rows' : List ℤ} {to : Reading} where
-  pub going_on : room < 2 ^ 60 → (a more : List Busy) → rest ≡ a ++ more → ReadOn room id rows so_far a rows' to → Going room id rows₀ from all rows' to more
+module _ {room : ℕ} {resource : ℤ} {rows₀ : List ℤ} {from : Reading} {all : List Busy} {rows : List ℤ} {so_far : Reading} {rest : List Busy}
+    (g : Going room resource rows₀ from all rows so_far rest) {rows' : List ℤ} {to : Reading} where
+  pub going_on : room < 2 ^ 60 → (a more : List Busy) → rest ≡ a ++ more → ReadOn room resource rows so_far a rows' to → Going room resource rows₀ from all rows' to more
   going_on small a more e r =
       record {
-        on = λ rows'' on s. g.on rows'' on (rw e (read_then room id small a more r s));
-        long = lines_kept 10 (closure_row (pos id)) rows so_far.count (each closures_of a) r.numbers ∙ g.long;
+        on = λ rows'' on s. g.on rows'' on (rw e (read_then room resource small a more r s));
+        long = lines_kept 10 (closure_row resource) rows so_far.count (each closures_of a) r.numbers ∙ g.long;
       }
 
-  pub going_last : (a : List Busy) → rest ≡ a → ReadOn room id rows so_far a rows' to → ReadOn room id rows₀ from all rows' to
+  pub going_last : (a : List Busy) → rest ≡ a → ReadOn room resource rows so_far a rows' to → ReadOn room resource rows₀ from all rows' to
   going_last a e r = g.on rows' to (rw e r)
 
-  pub last_long : (a : List Busy) → ReadOn room id rows so_far a rows' to → length rows' ≡ length rows₀
-  last_long a r = lines_kept 10 (closure_row (pos id)) rows so_far.count (each closures_of a) r.numbers ∙ g.long
+  pub last_long : (a : List Busy) → ReadOn room resource rows so_far a rows' to → length rows' ≡ length rows₀
+  last_long a r = lines_kept 10 (closure_row resource) rows so_far.count (each closures_of a) r.numbers ∙ g.long
 
-pub going_end : {room id : ℕ} {rows₀ : List ℤ} {from : Reading} {all : List Busy} {rows : List ℤ} {so_far : Reading} {rest : List Busy}
-    → Going room id rows₀ from all rows so_far rest → rest ≡ [] → ReadOn room id rows₀ from all rows so_far
-going_end {room = room} {id = id} {rows = rows} {so_far = so_far} g e = g.on rows so_far (rw e (read_none room id rows so_far))
+pub going_end : {room : ℕ} {resource : ℤ} {rows₀ : List ℤ} {from : Reading} {all : List Busy} {rows : List ℤ} {so_far : Reading} {rest : List Busy}
+    → Going room resource rows₀ from all rows so_far rest → rest ≡ [] → ReadOn room resource rows₀ from all rows so_far
+going_end {room = room} {resource = resource} {rows = rows} {so_far = so_far} g e = g.on rows so_far (rw e (read_none room resource rows so_far))

@@ -1,17 +1,14 @@
 -- The ends of a window are instants of a sheet. Assumes nothing.
-use Prim.Native.Nat.{ℕ}
+use Rattle.std.specs.Prelude.{Result, Ok, Err, IfOk}
+use Rattle.refusals.specs.declared.Reason.{Reason}
+use Prim.Native.Nat.{ℕ, ◌≤◌}
 use mathlib.Core.List.{List}
-use mathlib.Core.Path.{◌≡◌, refl}
+use mathlib.Core.Path.{◌≡◌, sym}
 use native.Mathlib.Omega.{arith}
 use Rattle.freebusy_periods.specs.Period.{window_of}
-use Rattle.freebusy_periods.specs.declared.Window.{Window}
-use Rattle.freebusy_periods.specs.declared.Window.TheVariants.{Span, Wrong}
+use Rattle.freebusy_periods.specs.declared.Span.{Span}
 use Rattle.freebusy_periods.proofs.PeriodLaws.{window_in_range}
-use Rattle.freebusy.specs.inner.Reading.{Early}
 
-pub window_early : (s : List ℕ) {w : Window} → w ≡ window_of s → Early w
-window_early s e = rw e (go (window_of s) refl)
-  where
-    go : (w : Window) → window_of s ≡ w → Early w
-    go (Span a e) q = let h = window_in_range s a e q in (omega (arith, h.0, h.1), h.1)
-    go (Wrong k) q = tt
+pub window_early : (s : List ℕ) {w : Result Span Reason} → w ≡ window_of s → IfOk w (λ v. (v.start ≤ 4000000000000) × (v.end ≤ 4000000000000))
+window_early s {Ok v} e = let h = window_in_range s v (sym e) in (omega (arith, h.0, h.1), h.1)
+window_early s {Err k} e = tt

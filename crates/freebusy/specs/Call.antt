@@ -1,20 +1,20 @@
 -- The call `read_freebusy`: what it answers for any bytes, any resource number and any lent numbers, and what it leaves in them. Assumes nothing.
-use Rattle.std.specs.Prelude.{Result}
+use Rattle.std.specs.Prelude.{Result, Ok, Err}
 use Rattle.std.specs.Prelude.{ℕ, ◌+◌, ◌/◌, cond, ◌&&◌, not, List, [], ◌∷◌, ltb, length, ℤ, pos}
 use Rattle.std.specs.Prelude.{Option, None, Some}
 use Rattle.loops.specs.Lists.{each}
 use Rattle.loops.specs.Search.{or_else}
-use Rattle.refusals.specs.Refusals.{refuse}
+use Rattle.refusals.specs.Refusals.{at, refuse}
+use Rattle.refusals.specs.declared.Reason.{Reason}
 use Rattle.refusals.specs.declared.Reason.TheVariants.{OutOfRange, Overlong, Malformed, Overfull}
 use Rattle.refusals.specs.declared.Refusal.{Refusal}
 use Rattle.refusals.specs.Lending.{answered, lent_after}
-use Rattle.rows.specs.Class.{id_c}
+use Rattle.rows.specs.declared.Class.TheVariants.{Id}
 use Rattle.rows.specs.Ranges.{in_class}
 use Rattle.line_buffer.specs.Lines.{flat_lines}
 use Rattle.freebusy_lines.specs.Lines.{lines}
 use Rattle.freebusy_periods.specs.Period.{window_of}
-use Rattle.freebusy_periods.specs.declared.Window.{Window}
-use Rattle.freebusy_periods.specs.declared.Window.TheVariants.{Span, Wrong}
+use Rattle.freebusy_periods.specs.declared.Span.{Span}
 use Rattle.freebusy_components.specs.Components.{Busy, wrong_from, periods_from}
 
 -- the periods of a text, in its order
@@ -32,9 +32,9 @@ abbrev pub closure : ℕ → ℕ → Closure
 closure a e = record { start = a; end = e }
 
 -- of a window
-abbrev pub window_closures : Window → List Closure
-window_closures (Span a e) = closure a e ∷ []
-window_closures (Wrong k) = []
+abbrev pub window_closures : Result Span Reason → List Closure
+window_closures (Ok w) = closure w.start w.end ∷ []
+window_closures (Err k) = []
 
 -- of a period: a FREE one has none
 unfoldable pub closures_of : Busy → List Closure
@@ -56,9 +56,9 @@ line_refusal None = None
 line_refusal (Some p) = Some (at Malformed p)
 
 -- 12, or 11 for an end not after its start, of a period of the line at place p
-abbrev pub window_refusal : ℕ → Window → Option Refusal
-window_refusal p (Span a e) = None
-window_refusal p (Wrong k) = Some (at k p)
+abbrev pub window_refusal : ℕ → Result Span Reason → Option Refusal
+window_refusal p (Ok w) = None
+window_refusal p (Err k) = Some (at k p)
 
 -- a period, where n rows went before it and `room` rows are lent: its window, then 13 where it has a row and that does not fit
 unfoldable pub period_refusal : ℕ → ℕ → Busy → Option Refusal
@@ -74,7 +74,7 @@ periods_refusal room n (b ∷ bs) = or_else (period_refusal room n b) (periods_r
 unfoldable pub freebusy_refusal : List ℕ → ℤ → ℕ → Option Refusal
 freebusy_refusal text resource room =
     or_else (refuse (ltb 65536 (length text)) Overlong 0)
-    (or_else (refuse (not (in_class id_c resource)) OutOfRange 0)
+    (or_else (refuse (not (in_class Id resource)) OutOfRange 0)
     (or_else (line_refusal (wrong_from None 0 (lines text))) (periods_refusal room 0 (periods_in text))))
 
 -- ---- the call

@@ -1,3 +1,2 @@
 pub mod LineLaws
-pub mod StepLaws
 pub mod WalkLaws

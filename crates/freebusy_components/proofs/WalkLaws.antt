@@ -1,6 +1,5 @@
 -- Laws of the walk over the lines that finds the least place against the rules. Assumes nothing.
 use Prim.Native.Nat.{ℕ, suc, ◌+◌, ◌-◌, ◌≤◌, ◌<◌, min}
-use mathlib.Core.Bool.{Bool, true, false, cond}
 use mathlib.Core.List.{List}
 use Rattle.std.specs.Prelude.{Option, None, Some}
 use mathlib.Core.Path.{◌≡◌, refl, ap, ◌∙◌}
@@ -8,7 +7,6 @@ use native.Mathlib.Omega.{arith}
 use native.Mathlib.Numerals.{add-one}
 use lib.Dec.{ltb}
 use lib.ListN.{length, drop, take}
-use borrow.Author.Tests.{lt-ltb, le-ltb, ltb-true, ltb-false}
 use Rattle.freebusy_lines.specs.Lines.{line, unfolded, lines}
 use Rattle.freebusy_lines.specs.inner.Reading.{first_sent}
 use Rattle.freebusy_components.specs.Components.{open_after, wrong_at, least, wrong_from}
@@ -18,20 +16,11 @@ use Rattle.freebusy_components.proofs.LineLaws.{sent_none, lines_none, past_part
 
 -- ---- the lesser of places
 
-three : (x y z : ℕ) → cond (ltb z (cond (ltb y x) y x)) z (cond (ltb y x) y x) ≡ cond (ltb (cond (ltb z y) z y) x) (cond (ltb z y) z y) x
-three x y z = go (ltb y x) (ltb z y) refl refl
-  where
-    go : (a b : Bool) → ltb y x ≡ a → ltb z y ≡ b → cond (ltb z (cond a y x)) z (cond a y x) ≡ cond (ltb (cond b z y) x) (cond b z y) x
-    go true true p q = let h = ltb-true y x p in let k = ltb-true z y q in rw (lt-ltb z y k, lt-ltb z x (omega arith))
-    go true false p q = rw (q, p)
-    go false true p q = refl
-    go false false p q = let h = ltb-false y x p in let k = ltb-false z y q in rw (le-ltb z x (omega arith), p)
-
 least_assoc : (a b c : Option ℕ) → least (least a b) c ≡ least a (least b c)
 least_assoc None b c = refl
 least_assoc (Some x) None c = refl
 least_assoc (Some x) (Some y) None = refl
-least_assoc (Some x) (Some y) (Some z) = ap (λ (n : ℕ). Some n) (three x y z)
+least_assoc (Some x) (Some y) (Some z) = ap (λ (n : ℕ). Some n) (omega arith)
 
 -- ---- the space: what it holds after the rest of the lines is what it holds after all of them
 
@@ -67,14 +56,14 @@ unfolding wrong_from
 first_on_lem rest begun p h sent e = rw (e, lines_on rest h)
 
 module _ {text space₀ rest : List ℕ} {begun wrong : Option ℕ} {p : ℕ} {space : List ℕ} (w : Walking text space₀ rest begun wrong p space) where
-  pub walking_on : 0 < length rest → {sent : List ℕ} → sent ≡ first_sent rest → {begun' wrong' : Option ℕ} → begun' ≡ open_after begun p (unfolded sent)
-      → wrong' ≡ least wrong (wrong_at begun p (line (unfolded sent) (ltb (length sent) (length rest))))
+  pub walking_on : 0 < length rest → {sent : List ℕ} → sent ≡ first_sent rest → {l : List ℕ} → l ≡ unfolded sent → {begun' wrong' : Option ℕ} → begun' ≡ open_after begun p l
+      → wrong' ≡ least wrong (wrong_at begun p (line l (ltb (length sent) (length rest))))
       → {space' : List ℕ} → space' ≡ after_line sent space → length space' ≡ length space
       → (next : ℕ) → next ≡ min (length sent + 2) (length rest) → Walking text space₀ (take (length rest - next) (drop next rest)) begun' wrong' (p + 1) space'
-  walking_on h {sent} e b r s l next n =
+  walking_on h {sent} e u b r s l next n =
       record {
         found =
-            rw (add-one p, past_part rest (length sent) next n, b, r)
+            rw (add-one p, past_part rest (length sent) next n, b, r, u)
             (least_assoc wrong _ _ ∙ ap (least wrong) (first_on_lem rest begun p h sent e) ∙ w.found);
         within = past_within text rest p (length sent) next n w.within h;
         left = space_on rest space w.left h e s next n;

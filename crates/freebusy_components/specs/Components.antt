@@ -1,5 +1,5 @@
 -- The components VFREEBUSY of a calendar: which of its lines are against the rules (11), and which periods are the components'. Assumes nothing.
-use Rattle.std.specs.Prelude.{ℕ, suc, Bool, cond, ◌&&◌, ◌||◌, not, List, [], ◌∷◌, ◌++◌, map, ltb}
+use Rattle.std.specs.Prelude.{ℕ, suc, Bool, cond, ◌&&◌, ◌||◌, not, List, [], ◌∷◌, ◌++◌, map, min}
 use Rattle.std.specs.Prelude.{Option, None, Some}
 use Rattle.loops.specs.Search.{some_if}
 use Rattle.freebusy_lines.specs.Bytes.{spells}
@@ -39,7 +39,7 @@ wrong_at begun p l = some_if (not l.ended || against begun l.bytes) p
 abbrev pub least : Option ℕ → Option ℕ → Option ℕ
 least None b = b
 least (Some x) None = Some x
-least (Some x) (Some y) = Some (cond (ltb y x) y x)
+least (Some x) (Some y) = Some (min x y)
 
 -- the least place of all, from the line at place p on; a component that is never ended has it at its first line
 unfoldable pub wrong_from : Option ℕ → ℕ → List Line → Option ℕ

@@ -2,107 +2,95 @@
 #![tactic(auto)]
 
 ghost use Rattle.std.specs.Prelude.{◌≡◌, ◌+◌, ◌<◌, ◌≤◌, min, length};
-ghost use Rattle.std.specs.Prelude.{None};
+ghost use Rattle.std.specs.Prelude.{None, IfSome};
 ghost use Rattle.freebusy_lines.specs.Lines.{line, unfolded, lines};
 ghost use Rattle.freebusy_components.specs.Components.{open_after, against, wrong_at, least, wrong_from};
-ghost use Rattle.freebusy_components.specs.inner.Places.{place_of};
-ghost use Rattle.freebusy_components.specs.inner.Room.{after_line, space_after};
-
-// The place of a line, or none.
-#[derive(Clone, Copy)]
-pub enum Place {
-    At(usize),
-    Nowhere,
-}
+ghost use Rattle.freebusy_components.specs.inner.Room.{front_or, after_line, space_after};
 
 // What the lines so far come to: where the open component begins, and the least place against the rules.
 #[derive(Clone, Copy)]
 struct Walked {
-    pub begun: Place,
-    pub wrong: Place,
+    begun: Option<usize>,
+    wrong: Option<usize>,
 }
 
-fn lesser(a: Place, b: Place) -> Place
-    ensures { place_of result ≡ least (place_of a) (place_of b) }
+// The lesser of two places.
+fn lesser(a: Option<usize>, b: Option<usize>) -> Option<usize>
+    ensures { result ≡ least a b }
 {
-    let Place::At(x) = a else {
-        return b;
-    };
-    let Place::At(y) = b else {
-        return Place::At(x);
-    };
-    if y < x {
-        return Place::At(y);
+    match (a, b) {
+        (Some(x), Some(y)) => Some(x.min(y)),
+        _ => a.or(b),
     }
-    Place::At(x)
 }
 
 // What is open after a line.
-pub fn open_after(begun: Place, p: usize, l: &[u8]) -> Place
-    ensures { place_of result ≡ open_after (place_of begun) p l.now }
+#[tactic(auto, unfolding(crate::specs::Components::is_begin, crate::specs::Components::is_end))]
+pub fn open_after(begun: Option<usize>, p: usize, l: &[u8]) -> Option<usize>
+    ensures { result ≡ open_after begun p l.now }
 {
-    let Place::At(q) = begun else {
-        if freebusy_lines::is_word(b"BEGIN:VFREEBUSY", l) {
-            return Place::At(p);
+    match begun {
+        None => freebusy_lines::is_word(b"BEGIN:VFREEBUSY", l).then_some(p),
+        Some(_) if freebusy_lines::is_word(b"END:VFREEBUSY", l) => None,
+        Some(q) => Some(q),
+    }
+}
+
+#[tactic(auto, unfolding(crate::specs::Components::is_begin, crate::specs::Components::is_end))]
+fn is_against(begun: Option<usize>, l: &[u8]) -> bool
+    ensures { result ≡ against begun l.now }
+{
+    match begun {
+        None => freebusy_lines::is_word(b"END:VFREEBUSY", l),
+        Some(_) => {
+            freebusy_lines::is_word(b"BEGIN:VFREEBUSY", l)
+                || (freebusy_property::is_freebusy(l) && !freebusy_property::is_property(l))
         }
-        return Place::Nowhere;
-    };
-    if freebusy_lines::is_word(b"END:VFREEBUSY", l) {
-        return Place::Nowhere;
     }
-    Place::At(q)
 }
 
-fn is_against(begun: Place, l: &[u8]) -> bool
-    ensures { result ≡ against (place_of begun) l.now }
+#[tactic(auto, unfolding(crate::specs::Components::wrong_at))]
+fn wrong_at(begun: Option<usize>, p: usize, l: &[u8], ended: bool) -> Option<usize>
+    ensures { result ≡ wrong_at begun p (line l.now ended) }
 {
-    let Place::At(_) = begun else {
-        return freebusy_lines::is_word(b"END:VFREEBUSY", l);
-    };
-    if freebusy_lines::is_word(b"BEGIN:VFREEBUSY", l) {
-        return true;
-    }
-    if freebusy_property::is_freebusy(l) {
-        return !freebusy_property::is_property(l);
-    }
-    false
+    (!ended || is_against(begun, l)).then_some(p)
 }
 
-fn wrong_at(begun: Place, p: usize, l: &[u8], ended: bool) -> Place
-    ensures { place_of result ≡ wrong_at (place_of begun) p (line l.now ended) }
-{
-    if !ended {
-        return Place::At(p);
-    }
-    if is_against(begun, l) {
-        return Place::At(p);
-    }
-    Place::Nowhere
-}
-
-// One line further.
-fn walk_line(w: Walked, p: usize, l: &[u8], ended: bool) -> Walked
-    ensures { (place_of result.begun ≡ open_after (place_of w.begun) p l.now) × (place_of result.wrong ≡ least (place_of w.wrong) (wrong_at (place_of w.begun) p (line l.now ended))) }
-{
-    let begun = w.begun;
-    let before = w.wrong;
-    Walked {
-        begun: open_after(begun, p, l),
-        wrong: lesser(before, wrong_at(begun, p, l, ended)),
+impl Walked {
+    // One line further.
+    fn past(self, p: usize, l: &[u8], ended: bool) -> Walked
+        ensures { (result.begun ≡ open_after self.begun p l.now) × (result.wrong ≡ least self.wrong (wrong_at self.begun p (line l.now ended))) }
+    {
+        Walked {
+            begun: open_after(self.begun, p, l),
+            wrong: lesser(self.wrong, wrong_at(self.begun, p, l, ended)),
+        }
     }
 }
 
-// The same of a line as it is sent: one without folds is read where it stands.
-fn walk_sent(w: Walked, p: usize, sent: &[u8], ended: bool, space: &mut [u8]) -> Walked
+// Unfolds a line at the front of the lent space, and says how many bytes it has there. A line that has no fold is read where it stands.
+#[tactic(auto, using(freebusy_lines::proofs::LineLaws::no_fold))]
+pub fn unfold(sent: &[u8], space: &mut [u8]) -> Option<usize>
     requires { length sent.now ≤ length space.old }
-    ensures begun_value { (place_of result.begun ≡ open_after (place_of w.begun) p (unfolded sent.now)) × (place_of result.wrong ≡ least (place_of w.wrong) (wrong_at (place_of w.begun) p (line (unfolded sent.now) ended))) }
+    ensures value { front_or result space.new sent.now ≡ unfolded sent.now }
+    ensures within { IfSome result (λ n. n ≤ length space.new) }
     ensures space_after { space.new ≡ after_line sent.now space.old }
 {
-    if freebusy_lines::has_fold(sent) {
-        let n = freebusy_lines::unfold_into(sent, space);
-        return walk_line(w, p, &space[..n], ended);
+    if !freebusy_lines::has_fold(sent) {
+        return None;
     }
-    walk_line(w, p, sent, ended)
+    Some(freebusy_lines::unfold_into(sent, space))
+}
+
+// The first n bytes of the space, or the line where there is no n.
+pub fn front_or<'a>(n: Option<usize>, space: &'a [u8], sent: &'a [u8]) -> &'a [u8]
+    requires { IfSome n (λ n. n ≤ length space.now) }
+    ensures { result.now ≡ front_or n space.now sent.now }
+{
+    match n {
+        Some(n) => &space[..n],
+        None => sent,
+    }
 }
 
 // Where the lines after a line of k bytes begin, in a text of that length: after its CRLF, if it has one.
@@ -110,33 +98,29 @@ pub fn past_line(k: usize, length: usize) -> usize
     requires { k < 65537 }
     ensures { result ≡ min (k + 2) length }
 {
-    if length < k + 2 {
-        return length;
-    }
-    k + 2
+    (k + 2).min(length)
 }
 
 // The least place against the rules. Lines are unfolded in the lent space.
-pub fn first_wrong(text: &[u8], space: &mut [u8]) -> Place
+pub fn first_wrong(text: &[u8], space: &mut [u8]) -> Option<usize>
     requires { (length text.now ≤ length space.old) × (length text.now < 65537) }
-    ensures result_value { place_of result ≡ wrong_from None 0 (lines text.now) }
+    ensures result_value { result ≡ wrong_from None 0 (lines text.now) }
     ensures space_after { space.new ≡ space_after text.now space.old }
 {
     let mut rest = text;
     let mut p: usize = 0;
     let mut w = Walked {
-        begun: Place::Nowhere,
-        wrong: Place::Nowhere,
+        begun: None,
+        wrong: None,
     };
     while 0 < rest.len() {
         let sent = freebusy_lines::first_line(rest);
         let k = sent.len();
-        w = walk_sent(w, p, sent, k < rest.len(), space);
+        let n = unfold(sent, space);
+        w = w.past(p, front_or(n, space, sent), k < rest.len());
         p += 1;
         let next = past_line(k, rest.len());
         rest = &rest[next..];
     }
-    let begun = w.begun;
-    let wrong = w.wrong;
-    lesser(wrong, begun)
+    lesser(w.wrong, w.begun)
 }

@@ -19,7 +19,7 @@ use Rattle.refusals.specs.Refusals.{refuse}
 use Rattle.refusals.specs.declared.Reason.TheVariants.{OutOfRange, Overlong}
 use Rattle.refusals.proofs.AnswerLaws.{unrefused, accepted_count}
 use Rattle.rows.specs.Cells.{cell, is}
-use Rattle.rows.specs.Class.{id_c, t_c}
+use Rattle.rows.specs.declared.Class.TheVariants.{Id, Instant}
 use Rattle.rows.specs.Table.{class_of}
 use Rattle.rows.specs.Ranges.{between, in_range, in_class}
 use Rattle.sheet.specs.Refusals.{known_kind, bad_cell, half_part, out_of_range}
@@ -100,12 +100,12 @@ cell_is : (resource : ℤ) (rows : List ℤ) (k : ℕ) (s : Stands resource rows
 unfolding cell
 cell_is resource rows k s j h = rw (lt-ltb j 10 h) (s.cells j h)
 
-module _ (resource : ℤ) (rows : List ℤ) (k : ℕ) (i : in_class id_c resource ≡ true) (s : Stands resource rows k) where
+module _ (resource : ℤ) (rows : List ℤ) (k : ℕ) (i : in_class Id resource ≡ true) (s : Stands resource rows k) where
   in_cell : (j : ℕ) → j < 10 → in_class (class_of 15 j) (get_or (closure_row resource s.closure) j (pos 0)) ≡ true → bad_cell rows k j ≡ false
   unfolding bad_cell
   in_cell j h e = rw (cell_is resource rows k s 0 (omega arith), cell_is resource rows k s j h, e)
 
-  instant_in : (n : ℕ) → leb n 4000000000000 ≡ true → in_class t_c (pos n) ≡ true
+  instant_in : (n : ℕ) → leb n 4000000000000 ≡ true → in_class Instant (pos n) ≡ true
   unfolding in_class in_range between
   instant_in n e = rw (le-leb 0 n (omega arith), e)
 
@@ -129,11 +129,11 @@ module _ (resource : ℤ) (rows : List ℤ) (k : ℕ) (i : in_class id_c resourc
 
 -- ---- the law
 
-known : (text : List ℕ) (resource : ℤ) (room : ℕ) → freebusy_refusal text resource room ≡ None → in_class id_c resource ≡ true
+known : (text : List ℕ) (resource : ℤ) (room : ℕ) → freebusy_refusal text resource room ≡ None → in_class Id resource ≡ true
 unfolding freebusy_refusal
-known text resource room e = go (in_class id_c resource)
-    (or_none_left (refuse (not (in_class id_c resource)) OutOfRange 0) (or_else (line_refusal (wrong_from None 0 (lines text))) (periods_refusal room 0 (periods_in text)))
-    (or_none_right (refuse (ltb 65536 (length text)) Overlong 0) (or_else (refuse (not (in_class id_c resource)) OutOfRange 0) (or_else (line_refusal (wrong_from None 0 (lines text))) (periods_refusal room 0 (periods_in text)))) e))
+known text resource room e = go (in_class Id resource)
+    (or_none_left (refuse (not (in_class Id resource)) OutOfRange 0) (or_else (line_refusal (wrong_from None 0 (lines text))) (periods_refusal room 0 (periods_in text)))
+    (or_none_right (refuse (ltb 65536 (length text)) Overlong 0) (or_else (refuse (not (in_class Id resource)) OutOfRange 0) (or_else (line_refusal (wrong_from None 0 (lines text))) (periods_refusal room 0 (periods_in text)))) e))
   where
     go : (b : Bool) → refuse (not b) OutOfRange 0 ≡ None → b ≡ true
     go true e = refl

@@ -4,69 +4,46 @@
 ghost use Rattle.std.specs.Prelude.{◌≡◌, ◌++◌, ◌≤◌, length, drop};
 ghost use Rattle.freebusy_lines.specs.Bytes.{spells, is_name_byte};
 ghost use Rattle.freebusy_lines.specs.Lines.{is_blank, unfolded};
-ghost use Rattle.freebusy_lines.specs.inner.Reading.{fold_at, end_at, is_folded, first_sent};
+ghost use Rattle.freebusy_lines.specs.inner.Reading.{fold_first, end_first, is_folded, first_sent};
 
 // A space or a tab.
 fn is_blank(x: u8) -> bool
     ensures { result ≡ is_blank x }
 {
-    if x == 32 {
-        return true;
-    }
-    x == 9
+    x == b' ' || x == b'\t'
 }
 
-// A fold begins at i.
-fn is_fold(s: &[u8], i: usize) -> bool
-    ensures { result ≡ fold_at s.now i }
+// A fold comes first.
+#[tactic(auto, using(crate::proofs::FoldLaws::fold_is))]
+fn is_fold(s: &[u8]) -> bool
+    ensures { result ≡ fold_first s.now }
 {
-    if s.len() < 3 {
-        return false;
+    match s {
+        [b'\r', b'\n', x, ..] => is_blank(*x),
+        _ => false,
     }
-    if s.len() - 3 < i {
-        return false;
-    }
-    if s[i] != 13 {
-        return false;
-    }
-    if s[i + 1] != 10 {
-        return false;
-    }
-    is_blank(s[i + 2])
 }
 
-// A line ends at i.
-fn is_line_end(s: &[u8], i: usize) -> bool
-    ensures { result ≡ end_at s.now i }
+// The end of a line comes first.
+#[tactic(auto, using(crate::proofs::SentLaws::end_is))]
+fn is_line_end(s: &[u8]) -> bool
+    ensures { result ≡ end_first s.now }
 {
-    if s.len() < 2 {
-        return false;
+    match s {
+        [b'\r', b'\n', x, ..] => !is_blank(*x),
+        [b'\r', b'\n'] => true,
+        _ => false,
     }
-    if s.len() - 2 < i {
-        return false;
-    }
-    if s[i] != 13 {
-        return false;
-    }
-    if s[i + 1] != 10 {
-        return false;
-    }
-    if s.len() - 2 == i {
-        return true;
-    }
-    !is_blank(s[i + 2])
 }
 
 // The first line of a text as it is sent, without its end.
 pub fn first_line(s: &[u8]) -> &[u8]
     ensures { result.now ≡ first_sent s.now }
 {
-    let mut i = 0;
-    while i < s.len() {
-        if is_line_end(s, i) {
+    for i in 0..s.len() {
+        if is_line_end(&s[i..]) {
             return &s[..i];
         }
-        i += 1;
     }
     s
 }
@@ -75,12 +52,10 @@ pub fn first_line(s: &[u8]) -> &[u8]
 pub fn has_fold(s: &[u8]) -> bool
     ensures { result ≡ is_folded s.now }
 {
-    let mut i = 0;
-    while i < s.len() {
-        if is_fold(s, i) {
+    for i in 0..s.len() {
+        if is_fold(&s[i..]) {
             return true;
         }
-        i += 1;
     }
     false
 }
@@ -91,15 +66,15 @@ pub fn unfold_into(s: &[u8], to: &mut [u8]) -> usize
     ensures value { result ≡ length (unfolded s.now) }
     ensures to_after { to.new ≡ unfolded s.now ++ drop (length (unfolded s.now)) to.old }
 {
-    let mut i = 0;
+    let mut rest = s;
     let mut n: usize = 0;
-    while i < s.len() {
-        if is_fold(s, i) {
-            i += 3;
+    while let [first, others @ ..] = rest {
+        if is_fold(rest) {
+            rest = &rest[3..];
         } else {
-            to[n] = s[i];
+            to[n] = *first;
             n += 1;
-            i += 1;
+            rest = others;
         }
     }
     n
@@ -109,32 +84,12 @@ pub fn unfold_into(s: &[u8], to: &mut [u8]) -> usize
 pub fn is_word(word: &[u8], s: &[u8]) -> bool
     ensures { result ≡ spells word.now s.now }
 {
-    if word.len() != s.len() {
-        return false;
-    }
-    let mut i = 0;
-    while i < s.len() {
-        if !letters::is_letter(word[i], s[i]) {
-            return false;
-        }
-        i += 1;
-    }
-    true
+    word.len() == s.len() && word.iter().zip(s).all(|(w, x)| letters::is_letter(*w, *x))
 }
 
 // A byte of a name: a letter, a digit, a hyphen.
 pub fn is_name_byte(x: u8) -> bool
     ensures { result ≡ is_name_byte x }
 {
-    if letters::is_digit(x) {
-        return true;
-    }
-    if x == b'-' {
-        return true;
-    }
-    let c = letters::capital_of(x);
-    if c < 65 {
-        return false;
-    }
-    c <= 90
+    letters::capital_of(x).is_ascii_uppercase() || letters::is_digit(x) || x == b'-'
 }

@@ -1,21 +1,17 @@
 -- Laws of numbers with their units, and what may follow them, cut at 4,000,000,001. Assumes nothing.
-use Prim.Native.Nat.{ℕ, ◌+◌, ◌*◌, ◌-◌, ◌<◌}
-use mathlib.Core.Bool.{Bool, true, false, cond, not}
+use Prim.Native.Nat.{ℕ, ◌+◌, ◌*◌, ◌<◌}
 use mathlib.Core.List.{List, [], ◌∷◌}
-use Rattle.std.specs.Prelude.{Option, None, Some}
-use Rattle.std.proofs.lemmas.Option.{none-some}
+use Rattle.std.specs.Prelude.{Option, None, Some, option_map}
+use Rattle.std.proofs.lemmas.Option.{none-some, same_Some}
 use mathlib.Core.Path.{◌≡◌, refl, sym, ap, ◌∙◌}
 use native.Mathlib.Omega.{arith}
-use lib.ListN.{length, drop, take}
+use lib.ListN.{length}
 use borrow.Author.Rules.{rules}
-use borrow.Author.Tests.{eq-eqb, ne_eqb, not-true, not-false}
-use Rattle.loops.proofs.ListLaws.{rest_is}
+use borrow.Author.Tests.{eq-eqb, ne_eqb}
 use Rattle.freebusy_periods.specs.Duration.{Counted, counts, counted, then_maybe, amount, nothing_more}
-use Rattle.freebusy_periods.specs.inner.Capped.{at_most, capped_count, count_of, capped, seconds_of, added}
+use Rattle.freebusy_periods.specs.inner.Capped.{at_most, capped_count, counted_by, capped, added}
 use Rattle.freebusy_periods.specs.declared.Amount.{Amount}
-use Rattle.freebusy_periods.specs.declared.Seconds.{Seconds}
-use Rattle.freebusy_periods.specs.declared.Seconds.TheVariants.{Is, Not}
-use Rattle.freebusy_periods.proofs.CapLaws.{Alike, alike_cut, alike_same, alike_times, alike_plus, alike_itself, added_alike, cut_sum}
+use Rattle.freebusy_periods.proofs.CapLaws.{Alike, alike_cut, alike_same, alike_times, alike_plus, alike_itself, added_alike}
 
 -- ---- what may follow n seconds
 
@@ -37,13 +33,22 @@ module _ (next : List ℕ → Option ℕ) (n : ℕ) (s : List ℕ) where
       go [] h = ap (λ (j : ℕ). Some j) e
       go (x ∷ s) h = absurd (omega arith)
 
-  pub then_more : {a b : Option ℕ} → (length s ≡ 0 → ⊥) → a ≡ capped (added n b) → b ≡ capped (next s) → a ≡ capped (then_maybe next n s)
+  -- `next` gives nothing, or m seconds more
+  pub then_less : {a b : Option ℕ} → (length s ≡ 0 → ⊥) → b ≡ capped (next s) → b ≡ None → a ≡ None → a ≡ capped (then_maybe next n s)
   unfolding capped then_maybe added
-  then_more {a} {b} h e f = e ∙ ap (λ (o : Option ℕ). capped (added n o)) f ∙ go s h
+  then_less {a} {b} h f z q = q ∙ go s h (sym z ∙ f)
     where
-      go : (s : List ℕ) → (length s ≡ 0 → ⊥) → capped (added n (capped (next s))) ≡ capped (then_maybe next n s)
-      go [] h = absurd (h refl)
-      go (x ∷ s) h = added_alike n n (next (x ∷ s)) (alike_itself n)
+      go : (s : List ℕ) → (length s ≡ 0 → ⊥) → None ≡ capped (next s) → None ≡ capped (then_maybe next n s)
+      go [] h e = absurd (h refl)
+      go (x ∷ s) h e = ap (λ (o : Option ℕ). capped (added n o)) e ∙ added_alike n n (next (x ∷ s)) (alike_itself n)
+
+  pub then_more : {b : Option ℕ} {m k : ℕ} → (length s ≡ 0 → ⊥) → b ≡ capped (next s) → b ≡ Some m → k ≡ at_most (n + m) → Some k ≡ capped (then_maybe next n s)
+  unfolding capped then_maybe added
+  then_more {b} {m} {k} h f z q = go s h (sym z ∙ f)
+    where
+      go : (s : List ℕ) → (length s ≡ 0 → ⊥) → Some m ≡ capped (next s) → Some k ≡ capped (then_maybe next n s)
+      go [] h e = absurd (h refl)
+      go (x ∷ s) h e = rw q (ap (λ (o : Option ℕ). capped (added n o)) e ∙ added_alike n n (next (x ∷ s)) (alike_itself n))
 
 pub then_none : (n : ℕ) (s : List ℕ) → (length s ≡ 0 → ⊥) → None ≡ capped (then_maybe nothing_more n s)
 unfolding capped then_maybe
@@ -53,20 +58,8 @@ then_none n s h = go s h
     go [] h = absurd (h refl)
     go (x ∷ s) h = refl
 
--- ---- one more, where `more` is what the code has of it
-
-pub add_some : (n : ℕ) {more : Seconds} {m p q k : ℕ} → more ≡ Is m → p ≡ at_most n → q ≡ at_most m → k ≡ at_most (p + q) → Some k ≡ capped (added n (seconds_of more))
-unfolding capped added
-add_some n {more} {m} {p} {q} {k} e f g h = rw e (ap (λ (j : ℕ). Some j) (h ∙ cut_sum n m p q f g))
-
-pub add_none : (n : ℕ) {more : Seconds} → more ≡ Not → None ≡ capped (added n (seconds_of more))
-unfolding capped added
-add_none n e = rw e
-
-pub ruleset adds = (rules, add_some, add_none)
-
 -- what follows n seconds
-pub ruleset thens = (rules, then_last, then_more, then_none)
+pub ruleset thens = (rules, then_last, then_less, then_more, then_none)
 
 -- ---- what was counted: no number with a unit, or one that is k
 
@@ -74,28 +67,24 @@ pub record Told (s : List ℕ) (a : Amount) (k : Counted) : Type 0 where
   pub is : counted s ≡ Some k
   pub number : a.count ≡ at_most k.count
   pub letter : a.unit ≡ k.unit
-  pub more : drop a.at s ≡ k.rest
+  pub more : a.rest.now ≡ k.rest
 
-module _ (s : List ℕ) (a : Amount) (e : count_of a s ≡ capped_count (counted s)) where
-  pub told_none : not a.found ≡ true → counted s ≡ None
-  unfolding count_of
-  told_none h = go (counted s) (sym (ap (λ (b : Bool). cond b (Some (counts a.count a.unit (drop a.at s))) None) (not-true a.found h)) ∙ e)
+module _ (s : List ℕ) {r : Option Amount} (e : option_map counted_by r ≡ capped_count (counted s)) where
+  pub told_none : r ≡ None → counted s ≡ None
+  told_none h = go (counted s) (rw h at e)
     where
       go : (o : Option Counted) → None ≡ capped_count o → o ≡ None
       go None q = refl
       go (Some k) q = absurd (none-some _ q)
 
-  pub told_some : not a.found ≡ false → (k : Counted) × Told s a k
-  unfolding count_of
-  told_some h = go (counted s) refl (sym (ap (λ (b : Bool). cond b (Some (counts a.count a.unit (drop a.at s))) None) (not-false a.found h)) ∙ e)
+  pub told_some : {a : Amount} → r ≡ Some a → (k : Counted) × Told s a k
+  told_some {a} h = go (counted s) refl (rw h at e)
     where
-      out : Option Counted → Counted
-      out None = counts 0 0 []
-      out (Some k) = k
-
-      go : (o : Option Counted) → counted s ≡ o → Some (counts a.count a.unit (drop a.at s)) ≡ capped_count o → (k : Counted) × Told s a k
+      go : (o : Option Counted) → counted s ≡ o → Some (counted_by a) ≡ capped_count o → (k : Counted) × Told s a k
       go None p q = absurd (none-some _ (sym q))
-      go (Some k) p q = let r = ap out q in (k, record { is = p; number = ap (λ (c : Counted). c.count) r; letter = ap (λ (c : Counted). c.unit) r; more = ap (λ (c : Counted). c.rest) r })
+      go (Some k) p q =
+          let r : counted_by a ≡ counts (at_most k.count) k.unit k.rest = same_Some _ _ q in
+          (k, record { is = p; number = ap (λ (c : Counted). c.count) r; letter = ap (λ (c : Counted). c.unit) r; more = ap (λ (c : Counted). c.rest) r })
 
 -- ---- a number with the unit c of so many seconds, and what `next` reads after it
 
@@ -107,8 +96,8 @@ amount_other c seconds next s k e n = rw (e, ne_eqb k.unit c n)
 
 -- as the code has it
 pub amount_here : (c seconds : ℕ) (next : List ℕ → Option ℕ) (s : List ℕ) (a : Amount) (k : Counted) → Told s a k → a.unit ≡ c → 0 < seconds
-    → capped (then_maybe next (a.count * seconds) (take (length s - a.at) (drop a.at s))) ≡ capped (amount c seconds next s)
+    → capped (then_maybe next (a.count * seconds) a.rest.now) ≡ capped (amount c seconds next s)
 amount_here c seconds next s a k t u z =
-    ap (λ (l : List ℕ). capped (then_maybe next (a.count * seconds) l)) (rest_is a.at s ∙ t.more)
+    ap (λ (l : List ℕ). capped (then_maybe next (a.count * seconds) l)) t.more
     ∙ then_alike next (a.count * seconds) (k.count * seconds) k.rest (alike_times a.count k.count seconds z (rw t.number (alike_cut k.count)))
     ∙ ap capped (sym (rw (t.is, eq-eqb k.unit c (sym t.letter ∙ u))))

@@ -1,5 +1,5 @@
 -- Laws of seconds that are cut at 4,000,000,001. Assumes nothing.
-use Prim.Native.Nat.{ℕ, ◌+◌, ◌*◌, ◌-◌, ◌≤◌, ◌<◌}
+use Prim.Native.Nat.{ℕ, ◌+◌, ◌*◌, ◌-◌, ◌≤◌, ◌<◌, min}
 use mathlib.Core.Bool.{Bool, true, false, cond, not}
 use mathlib.Core.List.{List, [], ◌∷◌}
 use mathlib.Core.Logic.{◌⊎◌, inl, inr}
@@ -9,7 +9,8 @@ use native.Mathlib.Omega.{arith}
 use native.Mathlib.Nat.{le-mul_of_pos_right}
 use native.Mathlib.Numerals.{add-one}
 use lib.Dec.{ltb}
-use lib.ListN.{length, get_or, drop, drop_of_length-le}
+use lib.ListN.{length, get_or, drop, take, drop_of_length-le}
+use Rattle.loops.proofs.ListLaws.{rest_is}
 use lib.Seq.{drop-cons}
 use borrow.Author.Rules.{rules}
 use borrow.Author.Tests.{lt-ltb, le-ltb, ltb-true, ltb-false, not-true, not-false}
@@ -30,11 +31,12 @@ cap_over n h = go (ltb 4000000001 n) refl
     go true e = refl
     go false e = let k = ltb-false 4000000001 n e in omega arith
 
-pub cut_under : (n : ℕ) → n ≤ 4000000001 → n ≡ at_most n
-cut_under n h = sym (cap_under n h)
-
-pub cut_over : (n : ℕ) → 4000000001 < n → 4000000001 ≡ at_most n
-cut_over n h = sym (cap_over n (omega arith))
+pub cut_is : (n : ℕ) → min n 4000000001 ≡ at_most n
+cut_is n = go (ltb 4000000001 n) refl
+  where
+    go : (b : Bool) → ltb 4000000001 n ≡ b → min n 4000000001 ≡ at_most n
+    go true e = let k = ltb-true 4000000001 n e in sym (cap_over n (omega arith) ∙ omega arith)
+    go false e = let k = ltb-false 4000000001 n e in sym (cap_under n k ∙ omega arith)
 
 -- two numbers that are cut to the same
 unfoldable pub Alike : ℕ → ℕ → Type 0
@@ -101,39 +103,37 @@ counted_alike any m n (x ∷ xs) h = go (is_digit x) any (counted_alike true _ _
 pub record Reading (s : List ℕ) (n i : ℕ) : Type 0 where
   pub same : capped_count (counted_from (ltb 0 i) n (drop i s)) ≡ capped_count (counted s)
   pub small : n ≤ 4000000001
-  pub within : i ≤ length s
 
 pub reading_start : {s : List ℕ} → Reading s 0 0
-reading_start = record { same = refl; small = omega arith; within = omega arith }
+reading_start = record { same = refl; small = omega arith }
 
 module _ {s : List ℕ} {n i : ℕ} (c : Reading s n i) where
-  pub reading_turn : {r : Bool} {d m : ℕ} → i < length s → r ≡ is_digit (get_or s i 0) → not r ≡ false → d ≡ get_or s i 0 - 48 → m ≡ at_most (n * 10 + d) → m ≤ 4000000001 → Reading s m (i + 1)
-  unfolding counted_from
-  reading_turn {r} {d} {m} k e t p q l = record {
-    same =
-        let h : is_digit (get_or s i 0) ≡ true = sym e ∙ not-false r t in
-        ap (λ (b : Bool). capped_count (counted_from b m (drop (i + 1) s))) (lt-ltb 0 (i + 1) (omega arith))
-        ∙ counted_alike true m (n * 10 + (get_or s i 0 - 48)) (drop (i + 1) s) (rw (q, p) (alike_cut (n * 10 + (get_or s i 0 - 48))))
-        ∙ sym (rw (drop-cons s i 0 k, h, add-one i)) ∙ c.same;
-    small = l;
-    within = omega arith;
-  }
+  module _ {r : Bool} (k : i < length s) (e : r ≡ is_digit (get_or s i 0)) where
+    pub reading_turn : {d m : ℕ} → not r ≡ false → d ≡ get_or s i 0 - 48 → m ≡ at_most (n * 10 + d) → m ≤ 4000000001 → Reading s m (i + 1)
+    unfolding counted_from
+    reading_turn {d} {m} t p q l = record {
+      same =
+          let h : is_digit (get_or s i 0) ≡ true = sym e ∙ not-false r t in
+          ap (λ (b : Bool). capped_count (counted_from b m (drop (i + 1) s))) (lt-ltb 0 (i + 1) (omega arith))
+          ∙ counted_alike true m (n * 10 + (get_or s i 0 - 48)) (drop (i + 1) s) (rw (q, p) (alike_cut (n * 10 + (get_or s i 0 - 48))))
+          ∙ sym (rw (drop-cons s i 0 k, h, add-one i)) ∙ c.same;
+      small = l;
+    }
 
-  pub reading_unit : {r : Bool} {u : ℕ} → i < length s → r ≡ is_digit (get_or s i 0) → not r ≡ true → u ≡ capital (get_or s i 0)
-      → cond (ltb 0 i) (Some (counts n u (drop (i + 1) s))) None ≡ capped_count (counted s)
-  unfolding counted_from
-  reading_unit {r} {u} k e t p =
-      let h : is_digit (get_or s i 0) ≡ false = sym e ∙ not-true r t in go (ltb 0 i) ∙ sym (rw (drop-cons s i 0 k, h, add-one i)) ∙ c.same
-    where
-      go : (b : Bool) → cond b (Some (counts n u (drop (i + 1) s))) None ≡ capped_count (cond b (Some (counts n (capital (get_or s i 0)) (drop (i + 1) s))) None)
-      go true = rw (p, cap_under n c.small)
-      go false = refl
+    module _ (t : not r ≡ true) where
+      unit_here : capped_count (cond (ltb 0 i) (Some (counts n (capital (get_or s i 0)) (drop (i + 1) s))) None) ≡ capped_count (counted s)
+      unfolding counted_from
+      unit_here = let h : is_digit (get_or s i 0) ≡ false = sym e ∙ not-true r t in sym (rw (drop-cons s i 0 k, h, add-one i)) ∙ c.same
+
+      pub reading_none : i ≡ 0 → None ≡ capped_count (counted s)
+      reading_none z = rw z at unit_here
+
+      pub reading_unit : {u : ℕ} → (i ≡ 0 → ⊥) → u ≡ capital (get_or s i 0)
+          → Some (counts n u (take (length s - (i + 1)) (drop (i + 1) s))) ≡ capped_count (counted s)
+      reading_unit {u} z p = rw (rest_is (i + 1) s, p, ← cap_under n c.small) (rw (lt-ltb 0 i (omega arith)) at unit_here)
 
   pub reading_end : length s ≤ i → None ≡ capped_count (counted s)
   unfolding counted_from
   reading_end h = sym (rw (drop_of_length-le s {i = i} h)) ∙ c.same
 
--- a number as it is cut
-pub ruleset caps = (rules, cut_under, cut_over)
-
-pub ruleset readings = (rules, reading_start, reading_turn, reading_unit, reading_end)
+pub ruleset readings = (rules, reading_start, reading_turn, reading_none, reading_unit, reading_end)

@@ -2,7 +2,7 @@
 use Prim.Native.Nat.{ℕ, ◌+◌, ◌*◌, ◌-◌}
 use mathlib.Core.Bool.{Bool, true, false, cond, ◌&&◌, ◌||◌}
 use mathlib.Core.List.{List, [], ◌∷◌}
-use Rattle.std.specs.Prelude.{Option, None, Some}
+use Rattle.std.specs.Prelude.{Option, None, Some, Ok, Err}
 use Rattle.std.specs.Prelude.{option_map}
 use mathlib.Core.Path.{◌≡◌, refl, ap, ap₂, ◌∙◌}
 use native.Mathlib.Omega.{arith}
@@ -19,8 +19,7 @@ use Rattle.refusals.specs.declared.Reason.TheVariants.{Malformed, Undated}
 use Rattle.freebusy_lines.specs.Bytes.{SLASH, PLUS, HYPHEN, after}
 use Rattle.freebusy_lines.proofs.CaseLaws.{until_capitals, after_capitals}
 use Rattle.freebusy_periods.specs.Duration.{Counted, counts, counted_from, counted, then_maybe, amount, nothing_more, dur_second, dur_minute, dur_hour, dur_time, dur_date, dur_week, dur_unsigned, dur_value, is_sign, is_back}
-use Rattle.freebusy_periods.specs.Period.{period_explicit, period_start, period, moved, end_from, window_of}
-use Rattle.freebusy_periods.specs.declared.Window.TheVariants.{Span, Wrong}
+use Rattle.freebusy_periods.specs.Period.{period_explicit, period_start, period, moved, end_from, span, window_of}
 
 -- a function of bytes that does not see the case of letters
 abbrev Blind : {B : Type 0} → (List ℕ → B) → Type 0
@@ -139,12 +138,12 @@ pub window_unseen : (s : List ℕ) → window_of (capitals s) ≡ window_of s
 unfolding window_of
 window_unseen s =
     ap
-    (λ (o : Option ℕ). option o (Wrong Undated) λ a. option (option (after SLASH (capitals s)) None (end_from a)) (Wrong Undated) λ e. cond (ltb a e) (Span a e) (Wrong Malformed))
+    (λ (o : Option ℕ). option o (Err Undated) λ a. option (option (after SLASH (capitals s)) None (end_from a)) (Err Undated) λ e. cond (ltb a e) (Ok (span a e)) (Err Malformed))
     (before_unseen instant instant_unseen s)
     ∙ go (instant (until_byte SLASH s))
   where
     go : (o : Option ℕ)
-        → option o (Wrong Undated) (λ a. option (option (after SLASH (capitals s)) None (end_from a)) (Wrong Undated) λ e. cond (ltb a e) (Span a e) (Wrong Malformed))
-        ≡ option o (Wrong Undated) (λ a. option (option (after SLASH s) None (end_from a)) (Wrong Undated) λ e. cond (ltb a e) (Span a e) (Wrong Malformed))
+        → option o (Err Undated) (λ a. option (option (after SLASH (capitals s)) None (end_from a)) (Err Undated) λ e. cond (ltb a e) (Ok (span a e)) (Err Malformed))
+        ≡ option o (Err Undated) (λ a. option (option (after SLASH s) None (end_from a)) (Err Undated) λ e. cond (ltb a e) (Ok (span a e)) (Err Malformed))
     go None = refl
-    go (Some a) = ap (λ (o : Option ℕ). option o (Wrong Undated) λ e. cond (ltb a e) (Span a e) (Wrong Malformed)) (behind_unseen None (end_from a) (end_unseen a) s)
+    go (Some a) = ap (λ (o : Option ℕ). option o (Err Undated) λ e. cond (ltb a e) (Ok (span a e)) (Err Malformed)) (behind_unseen None (end_from a) (end_unseen a) s)

@@ -2,7 +2,8 @@
 use Prim.Native.Nat.{ℕ, ◌+◌, ◌*◌, ◌-◌, ◌≤◌}
 use mathlib.Core.Bool.{Bool, true, false, cond, not, or-true}
 use mathlib.Core.List.{List, [], ◌∷◌}
-use Rattle.std.specs.Prelude.{Option, None, Some}
+use mathlib.Core.Logic.{◌⊎◌, inl, inr}
+use Rattle.std.specs.Prelude.{Option, None, Some, option_map}
 use Rattle.std.proofs.lemmas.Option.{none-some}
 use mathlib.Core.Path.{◌≡◌, refl, sym, ap, ◌∙◌}
 use native.Mathlib.Omega.{arith}
@@ -18,46 +19,42 @@ use Rattle.letters.specs.Letters.{capital, is_letter, LETTER_D, LETTER_H, LETTER
 use Rattle.letters.proofs.LetterLaws.{digit_kept}
 use Rattle.freebusy_lines.specs.Bytes.{PLUS, HYPHEN}
 use Rattle.freebusy_periods.specs.Duration.{Counted, counted_from, counted, then_maybe, amount, nothing_more, dur_second, dur_minute, dur_hour, dur_time, dur_date, dur_week, dur_unsigned, dur_value}
-use Rattle.freebusy_periods.specs.inner.Capped.{capped_count, count_of, capped, letter_then, after_t, after_p}
+use Rattle.freebusy_periods.specs.inner.Capped.{capped_count, counted_by, capped, letter_then, after_t, after_p}
 use Rattle.freebusy_periods.specs.declared.Amount.{Amount}
 use Rattle.freebusy_periods.proofs.AmountLaws.{told_none, told_some, amount_none, amount_other, amount_here}
 
 -- ---- a production that begins with a number
 
--- what is left of s after the number and its unit, as the code hands it on
-abbrev left : List ℕ → Amount → List ℕ
-left s a = take (length s - a.at) (drop a.at s)
-
 -- a second is one second
-once : (s : List ℕ) (a : Amount) → capped (then_maybe nothing_more a.count (left s a)) ≡ capped (then_maybe nothing_more (a.count * 1) (left s a))
-once s a = let e : a.count ≡ a.count * 1 = omega arith in ap (λ (n : ℕ). capped (then_maybe nothing_more n (left s a))) e
+once : (a : Amount) → capped (then_maybe nothing_more a.count a.rest.now) ≡ capped (then_maybe nothing_more (a.count * 1) a.rest.now)
+once a = let e : a.count ≡ a.count * 1 = omega arith in ap (λ (n : ℕ). capped (then_maybe nothing_more n a.rest.now)) e
 
-module _ (s : List ℕ) (a : Amount) (e : count_of a s ≡ capped_count (counted s)) where
-  pub second_none : not a.found ≡ true → None ≡ capped (dur_second s)
+module _ (s : List ℕ) {r : Option Amount} (e : option_map counted_by r ≡ capped_count (counted s)) where
+  pub second_none : {o : Option ℕ} → r ≡ None → o ≡ None → o ≡ capped (dur_second s)
   unfolding dur_second capped
-  second_none h = ap capped (sym (amount_none LETTER_S 1 nothing_more s (told_none s a e h)))
+  second_none h q = q ∙ ap capped (sym (amount_none LETTER_S 1 nothing_more s (told_none s e h)))
 
-  pub minute_none : not a.found ≡ true → None ≡ capped (dur_minute s)
+  pub minute_none : {o : Option ℕ} → r ≡ None → o ≡ None → o ≡ capped (dur_minute s)
   unfolding dur_minute capped
-  minute_none h = ap capped (sym (amount_none LETTER_M 60 dur_second s (told_none s a e h)))
+  minute_none h q = q ∙ ap capped (sym (amount_none LETTER_M 60 dur_second s (told_none s e h)))
 
-  module _ (f : not a.found ≡ false) where
+  module _ {a : Amount} (f : r ≡ Some a) where
     pub second_other : (a.unit ≡ LETTER_S → ⊥) → None ≡ capped (dur_second s)
     unfolding dur_second capped
-    second_other n = let t = told_some s a e f in ap capped (sym (amount_other LETTER_S 1 nothing_more s t.0 t.1.is (λ p. n (t.1.letter ∙ p))))
+    second_other n = let t = told_some s e f in ap capped (sym (amount_other LETTER_S 1 nothing_more s t.0 t.1.is (λ p. n (t.1.letter ∙ p))))
 
-    pub second_here : {o : Option ℕ} → a.unit ≡ LETTER_S → o ≡ capped (then_maybe nothing_more a.count (left s a)) → o ≡ capped (dur_second s)
+    pub second_here : {o : Option ℕ} → a.unit ≡ LETTER_S → o ≡ capped (then_maybe nothing_more a.count a.rest.now) → o ≡ capped (dur_second s)
     unfolding dur_second
     second_here u q =
-        let t = told_some s a e f in q ∙ once s a ∙ amount_here LETTER_S 1 nothing_more s a t.0 t.1 u (omega arith)
+        let t = told_some s e f in q ∙ once a ∙ amount_here LETTER_S 1 nothing_more s a t.0 t.1 u (omega arith)
 
     pub minute_other : (a.unit ≡ LETTER_M → ⊥) → None ≡ capped (dur_minute s)
     unfolding dur_minute capped
-    minute_other n = let t = told_some s a e f in ap capped (sym (amount_other LETTER_M 60 dur_second s t.0 t.1.is (λ p. n (t.1.letter ∙ p))))
+    minute_other n = let t = told_some s e f in ap capped (sym (amount_other LETTER_M 60 dur_second s t.0 t.1.is (λ p. n (t.1.letter ∙ p))))
 
-    pub minute_here : {o : Option ℕ} → a.unit ≡ LETTER_M → o ≡ capped (then_maybe dur_second (a.count * 60) (left s a)) → o ≡ capped (dur_minute s)
+    pub minute_here : {o : Option ℕ} → a.unit ≡ LETTER_M → o ≡ capped (then_maybe dur_second (a.count * 60) a.rest.now) → o ≡ capped (dur_minute s)
     unfolding dur_minute
-    minute_here u q = let t = told_some s a e f in q ∙ amount_here LETTER_M 60 dur_second s a t.0 t.1 u (omega arith)
+    minute_here u q = let t = told_some s e f in q ∙ amount_here LETTER_M 60 dur_second s a t.0 t.1 u (omega arith)
 
 -- ---- dur-hour / dur-minute / dur-second
 
@@ -88,31 +85,31 @@ module _ (s : List ℕ) (k : Counted) (e : counted s ≡ Some k) where
   after_t_other h m n =
       rw (amount_other LETTER_H 3600 dur_minute s k e h, amount_other LETTER_M 60 dur_second s k e m, amount_other LETTER_S 1 nothing_more s k e n)
 
-module _ (s : List ℕ) (a : Amount) (e : count_of a s ≡ capped_count (counted s)) where
-  pub time_none : not a.found ≡ true → None ≡ capped (after_t s)
+module _ (s : List ℕ) {r : Option Amount} (e : option_map counted_by r ≡ capped_count (counted s)) where
+  pub time_none : {o : Option ℕ} → r ≡ None → o ≡ None → o ≡ capped (after_t s)
   unfolding capped
-  time_none h = ap capped (sym (after_t_none s (told_none s a e h)))
+  time_none h q = q ∙ ap capped (sym (after_t_none s (told_none s e h)))
 
-  module _ (f : not a.found ≡ false) where
-    pub time_hour : {o : Option ℕ} → a.unit ≡ LETTER_H → o ≡ capped (then_maybe dur_minute (a.count * 3600) (left s a)) → o ≡ capped (after_t s)
+  module _ {a : Amount} (f : r ≡ Some a) where
+    pub time_hour : {o : Option ℕ} → a.unit ≡ LETTER_H → o ≡ capped (then_maybe dur_minute (a.count * 3600) a.rest.now) → o ≡ capped (after_t s)
     time_hour u q =
-        let t = told_some s a e f in
+        let t = told_some s e f in
         q ∙ amount_here LETTER_H 3600 dur_minute s a t.0 t.1 u (omega arith) ∙ ap capped (sym (after_t_hour s t.0 t.1.is (sym t.1.letter ∙ u)))
 
-    pub time_minute : {o : Option ℕ} → a.unit ≡ LETTER_M → o ≡ capped (then_maybe dur_second (a.count * 60) (left s a)) → o ≡ capped (after_t s)
+    pub time_minute : {o : Option ℕ} → a.unit ≡ LETTER_M → o ≡ capped (then_maybe dur_second (a.count * 60) a.rest.now) → o ≡ capped (after_t s)
     time_minute u q =
-        let t = told_some s a e f in
+        let t = told_some s e f in
         q ∙ amount_here LETTER_M 60 dur_second s a t.0 t.1 u (omega arith) ∙ ap capped (sym (after_t_minute s t.0 t.1.is (sym t.1.letter ∙ u)))
 
-    pub time_second : {o : Option ℕ} → a.unit ≡ LETTER_S → o ≡ capped (then_maybe nothing_more a.count (left s a)) → o ≡ capped (after_t s)
+    pub time_second : {o : Option ℕ} → a.unit ≡ LETTER_S → o ≡ capped (then_maybe nothing_more a.count a.rest.now) → o ≡ capped (after_t s)
     time_second u q =
-        let t = told_some s a e f in
-        q ∙ once s a ∙ amount_here LETTER_S 1 nothing_more s a t.0 t.1 u (omega arith) ∙ ap capped (sym (after_t_second s t.0 t.1.is (sym t.1.letter ∙ u)))
+        let t = told_some s e f in
+        q ∙ once a ∙ amount_here LETTER_S 1 nothing_more s a t.0 t.1 u (omega arith) ∙ ap capped (sym (after_t_second s t.0 t.1.is (sym t.1.letter ∙ u)))
 
     pub time_other : (a.unit ≡ LETTER_H → ⊥) → (a.unit ≡ LETTER_M → ⊥) → (a.unit ≡ LETTER_S → ⊥) → None ≡ capped (after_t s)
     unfolding capped
     time_other h m n =
-        let t = told_some s a e f in
+        let t = told_some s e f in
         ap capped (sym (after_t_other s t.0 t.1.is (λ p. h (t.1.letter ∙ p)) (λ p. m (t.1.letter ∙ p)) (λ p. n (t.1.letter ∙ p))))
 
 -- ---- a letter, and what follows it
@@ -206,60 +203,54 @@ module _ (s : List ℕ) (k : Counted) (e : counted s ≡ Some k) where
   unfolding after_p dur_date dur_week
   after_p_other d w = rw (amount_other LETTER_D 86400 dur_time s k e d, counted_time s k e, amount_other LETTER_W 604800 nothing_more s k e w)
 
-module _ (s : List ℕ) (a : Amount) (e : count_of a s ≡ capped_count (counted s)) where
-  pub date_none : {o : Option ℕ} → not a.found ≡ true → o ≡ capped (dur_time s) → o ≡ capped (after_p s)
-  date_none h q = q ∙ ap capped (sym (after_p_none s (told_none s a e h)))
+module _ (s : List ℕ) {r : Option Amount} (e : option_map counted_by r ≡ capped_count (counted s)) where
+  pub date_none : {o : Option ℕ} → r ≡ None → o ≡ capped (dur_time s) → o ≡ capped (after_p s)
+  date_none h q = q ∙ ap capped (sym (after_p_none s (told_none s e h)))
 
-  module _ (f : not a.found ≡ false) where
-    pub date_day : {o : Option ℕ} → a.unit ≡ LETTER_D → o ≡ capped (then_maybe dur_time (a.count * 86400) (left s a)) → o ≡ capped (after_p s)
+  module _ {a : Amount} (f : r ≡ Some a) where
+    pub date_day : {o : Option ℕ} → a.unit ≡ LETTER_D → o ≡ capped (then_maybe dur_time (a.count * 86400) a.rest.now) → o ≡ capped (after_p s)
     date_day u q =
-        let t = told_some s a e f in
+        let t = told_some s e f in
         q ∙ amount_here LETTER_D 86400 dur_time s a t.0 t.1 u (omega arith) ∙ ap capped (sym (after_p_date s t.0 t.1.is (sym t.1.letter ∙ u)))
 
-    pub date_week : {o : Option ℕ} → a.unit ≡ LETTER_W → o ≡ capped (then_maybe nothing_more (a.count * 604800) (left s a)) → o ≡ capped (after_p s)
+    pub date_week : {o : Option ℕ} → a.unit ≡ LETTER_W → o ≡ capped (then_maybe nothing_more (a.count * 604800) a.rest.now) → o ≡ capped (after_p s)
     date_week u q =
-        let t = told_some s a e f in
+        let t = told_some s e f in
         q ∙ amount_here LETTER_W 604800 nothing_more s a t.0 t.1 u (omega arith) ∙ ap capped (sym (after_p_week s t.0 t.1.is (sym t.1.letter ∙ u)))
 
     pub date_other : (a.unit ≡ LETTER_D → ⊥) → (a.unit ≡ LETTER_W → ⊥) → None ≡ capped (after_p s)
     unfolding capped
     date_other d w =
-        let t = told_some s a e f in ap capped (sym (after_p_other s t.0 t.1.is (λ p. d (t.1.letter ∙ p)) (λ p. w (t.1.letter ∙ p))))
+        let t = told_some s e f in ap capped (sym (after_p_other s t.0 t.1.is (λ p. d (t.1.letter ∙ p)) (λ p. w (t.1.letter ∙ p))))
 
 -- ---- the sign
 
-pub value_none : (s : List ℕ) → length s ≡ 0 → None ≡ capped (dur_value s)
-unfolding dur_value capped
-value_none s h = go s h
-  where
-    go : (s : List ℕ) → length s ≡ 0 → None ≡ capped (dur_value s)
-    go [] h = refl
-    go (x ∷ s) h = absurd (omega arith)
-
-module _ (s : List ℕ) {o : Option ℕ} (n : length s ≡ 0 → ⊥) where
-  pub value_plus : get_or s 0 0 ≡ PLUS → o ≡ capped (dur_unsigned (take (length s - 1) (drop 1 s))) → o ≡ capped (dur_value s)
-  unfolding dur_value
-  value_plus e q = q ∙ ap (λ (l : List ℕ). capped (dur_unsigned l)) (rest_is 1 s) ∙ go s n e
+module _ (s : List ℕ) {o : Option ℕ} where
+  pub value_empty : length s ≡ 0 → o ≡ capped (dur_unsigned s) → o ≡ capped (dur_value s)
+  unfolding dur_value dur_unsigned
+  value_empty h q = q ∙ go s h
     where
-      go : (s : List ℕ) → (length s ≡ 0 → ⊥) → get_or s 0 0 ≡ PLUS → capped (dur_unsigned (drop 1 s)) ≡ capped (dur_value s)
-      go [] n e = absurd (n refl)
-      go (x ∷ s) n e = rw (eq-eqb x PLUS e)
+      go : (s : List ℕ) → length s ≡ 0 → capped (dur_unsigned s) ≡ capped (dur_value s)
+      go [] h = refl
+      go (x ∷ s) h = absurd (omega arith)
 
-  pub value_minus : get_or s 0 0 ≡ HYPHEN → o ≡ capped (dur_unsigned (take (length s - 1) (drop 1 s))) → o ≡ capped (dur_value s)
-  unfolding dur_value
-  value_minus e q = q ∙ ap (λ (l : List ℕ). capped (dur_unsigned l)) (rest_is 1 s) ∙ go s n e
-    where
-      go : (s : List ℕ) → (length s ≡ 0 → ⊥) → get_or s 0 0 ≡ HYPHEN → capped (dur_unsigned (drop 1 s)) ≡ capped (dur_value s)
-      go [] n e = absurd (n refl)
-      go (x ∷ s) n e = rw (eq-eqb x HYPHEN e, or-true (eqb x PLUS))
+  module _ (n : length s ≡ 0 → ⊥) where
+    pub value_signed : (get_or s 0 0 ≡ PLUS) ⊎ (get_or s 0 0 ≡ HYPHEN) → o ≡ capped (dur_unsigned (take (length s - 1) (drop 1 s))) → o ≡ capped (dur_value s)
+    unfolding dur_value
+    value_signed e q = q ∙ ap (λ (l : List ℕ). capped (dur_unsigned l)) (rest_is 1 s) ∙ go s n e
+      where
+        go : (s : List ℕ) → (length s ≡ 0 → ⊥) → (get_or s 0 0 ≡ PLUS) ⊎ (get_or s 0 0 ≡ HYPHEN) → capped (dur_unsigned (drop 1 s)) ≡ capped (dur_value s)
+        go [] n e = absurd (n refl)
+        go (x ∷ s) n (inl e) = rw (eq-eqb x PLUS e)
+        go (x ∷ s) n (inr e) = rw (eq-eqb x HYPHEN e, or-true (eqb x PLUS))
 
-  pub value_plain : (get_or s 0 0 ≡ PLUS → ⊥) → (get_or s 0 0 ≡ HYPHEN → ⊥) → o ≡ capped (dur_unsigned s) → o ≡ capped (dur_value s)
-  unfolding dur_value
-  value_plain p m q = q ∙ go s n p m
-    where
-      go : (s : List ℕ) → (length s ≡ 0 → ⊥) → (get_or s 0 0 ≡ PLUS → ⊥) → (get_or s 0 0 ≡ HYPHEN → ⊥) → capped (dur_unsigned s) ≡ capped (dur_value s)
-      go [] n p m = absurd (n refl)
-      go (x ∷ s) n p m = rw (ne_eqb x PLUS p, ne_eqb x HYPHEN m)
+    pub value_plain : (get_or s 0 0 ≡ PLUS → ⊥) → (get_or s 0 0 ≡ HYPHEN → ⊥) → o ≡ capped (dur_unsigned s) → o ≡ capped (dur_value s)
+    unfolding dur_value
+    value_plain p m q = q ∙ go s n p m
+      where
+        go : (s : List ℕ) → (length s ≡ 0 → ⊥) → (get_or s 0 0 ≡ PLUS → ⊥) → (get_or s 0 0 ≡ HYPHEN → ⊥) → capped (dur_unsigned s) ≡ capped (dur_value s)
+        go [] n p m = absurd (n refl)
+        go (x ∷ s) n p m = rw (ne_eqb x PLUS p, ne_eqb x HYPHEN m)
 
 pub ruleset seconds = (rules, second_none, second_other, second_here)
 
@@ -271,4 +262,4 @@ pub ruleset dates = (rules, date_none, date_day, date_week, date_other)
 
 pub ruleset lettered = (rules, no_time_lem, not_t, with_t, no_unsigned, not_p, with_p)
 
-pub ruleset values = (rules, value_none, value_plus, value_minus, value_plain)
+pub ruleset values = (rules, value_empty, value_signed, value_plain)

@@ -1,33 +1,29 @@
 -- Laws of periods: a duration that is cut leads out of the range just as the whole one; a window lies in the range. Assumes nothing.
 use Prim.Native.Nat.{ℕ, ◌+◌, ◌*◌, ◌-◌, ◌≤◌, ◌<◌}
-use mathlib.Core.Bool.{Bool, true, false, cond, not}
-use mathlib.Core.List.{List, [], ◌∷◌}
+use mathlib.Core.Bool.{Bool, true, false, cond}
+use mathlib.Core.List.{List}
 use mathlib.Core.Logic.{inl, inr}
-use Rattle.std.specs.Prelude.{Option, None, Some}
+use Rattle.std.specs.Prelude.{Option, None, Some, Ok, Err}
 use Rattle.std.proofs.lemmas.Option.{none-some, same_Some}
-use mathlib.Core.Path.{◌≡◌, refl, sym, ap, ap₂, ◌∙◌}
+use mathlib.Core.Path.{◌≡◌, refl, sym, ap, ap₂, ◌∙◌, subst}
 use native.Mathlib.Omega.{arith}
-use lib.Dec.{ltb, leb, eqb}
-use lib.ListN.{length, get_or, drop, take}
+use lib.Dec.{ltb, leb}
+use lib.ListN.{length, drop, take}
 use borrow.Author.Rules.{rules}
-use borrow.Author.Tests.{lt-leb, le-leb, lt-ltb, le-ltb, leb-true, ltb-true, not-true, not-false}
+use borrow.Author.Tests.{lt-leb, le-leb, lt-ltb, le-ltb, leb-true, ltb-true}
 use Rattle.loops.specs.Search.{some_if}
-use Rattle.loops.specs.Lists.{option}
+use Rattle.loops.specs.Lists.{option, is_some}
+use Rattle.std.specs.Option.{SomeIff, is_some as std_is_some}
 use Rattle.text_fields.specs.Parts.{until_byte}
-use Rattle.dates.specs.DateTime.{instant, told, date_time, last_instant}
-use Rattle.dates.specs.declared.Instant.{Instant}
-use Rattle.dates.specs.declared.Instant.TheVariants.{At, Outside}
+use Rattle.dates.specs.DateTime.{instant, date_time, last_instant}
 use Rattle.dates.proofs.InstantLaws.{instant_most}
 use Rattle.refusals.specs.declared.Reason.TheVariants.{Malformed, Undated}
-use Rattle.freebusy_lines.specs.Bytes.{SLASH, HYPHEN, after}
+use Rattle.freebusy_lines.specs.Bytes.{SLASH, after}
 use Rattle.freebusy_lines.proofs.AfterLaws.{nothing_after, rest_after}
 use Rattle.freebusy_periods.specs.Duration.{dur_value, is_back}
-use Rattle.freebusy_periods.specs.Period.{period_explicit, period_start, period, moved, end_from, window_of}
-use Rattle.freebusy_periods.specs.declared.Seconds.{Seconds}
-use Rattle.freebusy_periods.specs.declared.Seconds.TheVariants.{Is, Not}
-use Rattle.freebusy_periods.specs.declared.Window.{Window}
-use Rattle.freebusy_periods.specs.declared.Window.TheVariants.{Span, Wrong}
-use Rattle.freebusy_periods.specs.inner.Capped.{at_most, capped, seconds_of, ends_period, spanned}
+use Rattle.freebusy_periods.specs.Period.{period_explicit, period_start, period, moved, end_from, span, window_of}
+use Rattle.freebusy_periods.specs.declared.Span.{Span}
+use Rattle.freebusy_periods.specs.inner.Capped.{at_most, capped, ends_period}
 use Rattle.freebusy_periods.proofs.CapLaws.{Alike, alike_cut}
 
 -- ---- moving an instant
@@ -50,13 +46,11 @@ module _ (a k n : ℕ) (b : Bool) (h : a ≤ 4000000000000) (p : k ≡ at_most n
   cut_is : moved a b k ≡ moved a b n
   cut_is = ap (moved a b) p ∙ moved_cut a n b h
 
-  pub back_out : b ≡ true → a < k * 1000 → None ≡ moved a b n
+  -- as `checked_sub` has it
+  pub back_by : {r : Option ℕ} → b ≡ true → SomeIff r (k * 1000 ≤ a) (a - k * 1000) → r ≡ moved a b n
   unfolding moved
-  back_out e l = let z : moved a b k ≡ None = rw (e, lt-leb (k * 1000) a l) in sym z ∙ cut_is
-
-  pub back_in : b ≡ true → k * 1000 ≤ a → Some (a - k * 1000) ≡ moved a b n
-  unfolding moved
-  back_in e l = let z : moved a b k ≡ Some (a - k * 1000) = rw (e, le-leb (k * 1000) a l) in sym z ∙ cut_is
+  back_by {r = None} e l = let z : moved a b k ≡ None = rw (e, lt-leb (k * 1000) a (omega arith)) in sym z ∙ cut_is
+  back_by {r = Some x} e l = let z : moved a b k ≡ Some (a - k * 1000) = rw (e, le-leb (k * 1000) a l.0) in ap (λ (x : ℕ). Some x) l.1 ∙ sym z ∙ cut_is
 
   pub on_out : b ≡ false → 4000000000000 < a + k * 1000 → None ≡ moved a b n
   unfolding moved
@@ -66,87 +60,58 @@ module _ (a k n : ℕ) (b : Bool) (h : a ≤ 4000000000000) (p : k ≡ at_most n
   unfolding moved
   on_in e l = let z : moved a b k ≡ Some (a + k * 1000) = rw (e, le-leb (a + k * 1000) 4000000000000 l) in sym z ∙ cut_is
 
-pub ruleset moves = (rules, back_out, back_in, on_out, on_in)
-
--- ---- the minus
-
-module _ (s : List ℕ) where
-  pub back_empty : length s ≡ 0 → false ≡ is_back s
-  back_empty h = go s h
-    where
-      go : (s : List ℕ) → length s ≡ 0 → false ≡ is_back s
-      go [] e = refl
-      go (x ∷ s) e = absurd (omega arith)
-
-  pub back_is : (length s ≡ 0 → ⊥) → eqb (get_or s 0 0) HYPHEN ≡ is_back s
-  back_is h = go s h
-    where
-      go : (s : List ℕ) → (length s ≡ 0 → ⊥) → eqb (get_or s 0 0) HYPHEN ≡ is_back s
-      go [] n = absurd (n refl)
-      go (x ∷ s) n = refl
-
-pub ruleset backs = (rules, back_empty, back_is)
+pub ruleset moves = (rules, back_by, on_out, on_in)
 
 -- ---- what stands after the slash, where m is what the code read of a duration
 
-no_duration : (e : List ℕ) (m : Seconds) → seconds_of m ≡ capped (dur_value e) → m ≡ Not → dur_value e ≡ None
+no_duration : (e : List ℕ) {m : Option ℕ} → m ≡ capped (dur_value e) → m ≡ None → dur_value e ≡ None
 unfolding capped
-no_duration e m q z = go (dur_value e) (sym (ap seconds_of z) ∙ q)
+no_duration e q z = go (dur_value e) (sym z ∙ q)
   where
     go : (o : Option ℕ) → None ≡ capped o → o ≡ None
     go None q = refl
     go (Some n) q = absurd (none-some _ q)
 
-a_duration : (e : List ℕ) (m : Seconds) (n : ℕ) → seconds_of m ≡ capped (dur_value e) → m ≡ Is n → (k : ℕ) × ((dur_value e ≡ Some k) × (n ≡ at_most k))
+a_duration : (e : List ℕ) {m : Option ℕ} (n : ℕ) → m ≡ capped (dur_value e) → m ≡ Some n → (k : ℕ) × ((dur_value e ≡ Some k) × (n ≡ at_most k))
 unfolding capped
-a_duration e m n q z = go (dur_value e) refl (sym (ap seconds_of z) ∙ q)
+a_duration e n q z = go (dur_value e) refl (sym z ∙ q)
   where
     go : (o : Option ℕ) → dur_value e ≡ o → Some n ≡ capped o → (k : ℕ) × ((dur_value e ≡ Some k) × (n ≡ at_most k))
     go None p q = absurd (none-some _ (sym q))
     go (Some k) p q = (k, (p, same_Some n (at_most k) q))
+
+-- a duration is there as it is cut
+is_some_capped : (o : Option ℕ) → std_is_some (capped o) ≡ is_some o
+unfolding capped
+is_some_capped None = refl
+is_some_capped (Some n) = refl
 
 module _ (e : List ℕ) {r : Bool} (p : r ≡ date_time e) where
   pub ends_date : r ≡ true → true ≡ ends_period e
   unfolding ends_period
   ends_date t = let d : date_time e ≡ true = sym p ∙ t in rw d
 
-  pub ends_duration : {m : Seconds} {n : ℕ} → r ≡ false → seconds_of m ≡ capped (dur_value e) → m ≡ Is n → true ≡ ends_period e
+  pub ends_duration : {m : Option ℕ} {b : Bool} → r ≡ false → m ≡ capped (dur_value e) → b ≡ std_is_some m → b ≡ ends_period e
   unfolding ends_period
-  ends_duration {m} {n} t q z = let d : date_time e ≡ false = sym p ∙ t in let k = a_duration e m n q z in rw (d, k.1.0)
-
-  pub ends_not : {m : Seconds} → r ≡ false → seconds_of m ≡ capped (dur_value e) → m ≡ Not → false ≡ ends_period e
-  unfolding ends_period
-  ends_not {m} t q z = let d : date_time e ≡ false = sym p ∙ t in rw (d, no_duration e m q z)
+  ends_duration t q z = let d : date_time e ≡ false = sym p ∙ t in rw d (z ∙ ap std_is_some q ∙ is_some_capped (dur_value e))
 
   pub end_date : (a : ℕ) {o : Option ℕ} → r ≡ true → o ≡ instant e → o ≡ end_from a e
   unfolding end_from
   end_date a t q = let d : date_time e ≡ true = sym p ∙ t in rw d q
 
-  pub end_none : (a : ℕ) {m : Seconds} → r ≡ false → seconds_of m ≡ capped (dur_value e) → m ≡ Not → None ≡ end_from a e
+  pub end_none : (a : ℕ) {m o : Option ℕ} → r ≡ false → m ≡ capped (dur_value e) → m ≡ None → o ≡ None → o ≡ end_from a e
   unfolding end_from
-  end_none a {m} t q z = let d : date_time e ≡ false = sym p ∙ t in rw (d, no_duration e m q z)
+  end_none a t q z y = let d : date_time e ≡ false = sym p ∙ t in rw (d, no_duration e q z) y
 
-  pub end_moved : (a : ℕ) {n : ℕ} {m : Seconds} {b : Bool} {o : Option ℕ} → a ≤ 4000000000000 → r ≡ false → seconds_of m ≡ capped (dur_value e) → m ≡ Is n → b ≡ is_back e
+  pub end_moved : (a : ℕ) {n : ℕ} {m : Option ℕ} {b : Bool} {o : Option ℕ} → a ≤ 4000000000000 → r ≡ false → m ≡ capped (dur_value e) → m ≡ Some n → b ≡ is_back e
       → o ≡ moved a b n → o ≡ end_from a e
   unfolding end_from
-  end_moved a {n} {m} {b} l t q z f g =
+  end_moved a {n} l t q z f g =
       let d : date_time e ≡ false = sym p ∙ t in
-      let k = a_duration e m n q z in
+      let k = a_duration e n q z in
       rw (d, k.1.0) (g ∙ ap₂ (moved a) f k.1.1 ∙ moved_cut a k.0 (is_back e) l)
 
-pub ruleset endings = (rules, ends_date, ends_duration, ends_not, end_date, end_none, end_moved)
-
--- ---- from a to b
-
-pub span_after : (a b : ℕ) → a < b → Span a b ≡ spanned a b
-unfolding spanned
-span_after a b h = rw (lt-ltb a b)
-
-pub span_not : (a b : ℕ) → b ≤ a → Wrong Malformed ≡ spanned a b
-unfolding spanned
-span_not a b h = rw (le-ltb a b)
-
-pub ruleset spans = (rules, span_after, span_not)
+pub ruleset endings = (rules, ends_date, ends_duration, end_date, end_none, end_moved)
 
 -- ---- a period, where f is what stands before the slash
 
@@ -159,46 +124,52 @@ module _ (s : List ℕ) {f : List ℕ} (e : f ≡ until_byte SLASH s) where
     dated : date_time (until_byte SLASH s) ≡ r
     dated = sym (p ∙ ap date_time e)
 
-    pub period_undated : not r ≡ true → false ≡ period s
+    pub period_undated : {o : Bool} → o ≡ false → r ≡ false → o ≡ period s
     unfolding period period_explicit period_start
-    period_undated t = rw (dated ∙ not-true r t)
+    period_undated z t = rw (dated ∙ t) z
 
-    pub period_alone : not r ≡ false → length s ≤ length f → false ≡ period s
+    pub period_alone : {o : Bool} → o ≡ false → r ≡ true → length s ≤ length f → o ≡ period s
     unfolding period period_explicit period_start
-    period_alone t l = rw (dated ∙ not-false r t, nothing_after SLASH s e l)
+    period_alone z t l = rw (dated ∙ t, nothing_after SLASH s e l) z
 
-    pub period_ends : {o : Bool} → not r ≡ false → length f < length s → o ≡ ends_period (rest s f) → o ≡ period s
+    pub period_ends : {o : Bool} → r ≡ true → length f < length s → o ≡ ends_period (rest s f) → o ≡ period s
     unfolding period period_explicit period_start ends_period
-    period_ends t l q = rw (dated ∙ not-false r t, rest_after SLASH s e l) q
+    period_ends t l q = rw (dated ∙ t, rest_after SLASH s e l) q
 
-  pub window_early : {i : Instant} → told i ≡ instant f → i ≡ Outside → Wrong Undated ≡ window_of s
-  unfolding window_of
-  window_early q z = let h : instant (until_byte SLASH s) ≡ None = sym (sym (ap told z) ∙ q ∙ ap instant e) in rw h
-
-  module _ {i : Instant} {a : ℕ} (q : told i ≡ instant f) (z : i ≡ At a) where
-    started : instant (until_byte SLASH s) ≡ Some a
-    started = sym (sym (ap told z) ∙ q ∙ ap instant e)
-
-    pub window_alone : length s ≤ length f → Wrong Undated ≡ window_of s
+  module _ {i : Option ℕ} (q : i ≡ instant f) where
+    pub window_early : i ≡ None → Err Undated ≡ window_of s
     unfolding window_of
-    window_alone l = rw (started, nothing_after SLASH s e l)
+    window_early z = let h : instant (until_byte SLASH s) ≡ None = sym (sym z ∙ q ∙ ap instant e) in rw h
 
-    module _ (l : length f < length s) {j : Instant} (g : told j ≡ end_from a (rest s f)) where
-      pub window_late : j ≡ Outside → Wrong Undated ≡ window_of s
+    module _ {a : ℕ} (z : i ≡ Some a) where
+      started : instant (until_byte SLASH s) ≡ Some a
+      started = sym (sym z ∙ q ∙ ap instant e)
+
+      pub window_alone : length s ≤ length f → Err Undated ≡ window_of s
       unfolding window_of
-      window_late y = rw (started, rest_after SLASH s e l, sym (sym (ap told y) ∙ g))
+      window_alone l = rw (started, nothing_after SLASH s e l)
 
-      pub window_span : {b : ℕ} {w : Window} → j ≡ At b → w ≡ spanned a b → w ≡ window_of s
-      unfolding window_of spanned
-      window_span y q = rw (started, rest_after SLASH s e l, sym (sym (ap told y) ∙ g)) q
+      module _ (l : length f < length s) {j : Option ℕ} (g : j ≡ end_from a (rest s f)) where
+        pub window_late : j ≡ None → Err Undated ≡ window_of s
+        unfolding window_of
+        window_late y = rw (started, rest_after SLASH s e l, sym (sym y ∙ g))
+
+        module _ {b : ℕ} (y : j ≡ Some b) where
+          pub window_span : a < b → Ok (span a b) ≡ window_of s
+          unfolding window_of
+          window_span h = rw (started, rest_after SLASH s e l, sym (sym y ∙ g), lt-ltb a b h)
+
+          pub window_not : b ≤ a → Err Malformed ≡ window_of s
+          unfolding window_of
+          window_not h = rw (started, rest_after SLASH s e l, sym (sym y ∙ g), le-ltb a b h)
 
 -- a start is in the range
-pub start_most : {i : Instant} (f : List ℕ) {a : ℕ} → told i ≡ instant f → i ≡ At a → a ≤ 4000000000000
-start_most {i} f {a} q z = instant_most f a (sym (ap told z) ∙ q)
+pub start_most : {i : Option ℕ} (f : List ℕ) {a : ℕ} → i ≡ instant f → i ≡ Some a → a ≤ 4000000000000
+start_most f {a} q z = instant_most f a (sym z ∙ q)
 
 pub ruleset periods = (rules, period_undated, period_alone, period_ends)
 
-pub ruleset windows = (rules, start_most, window_early, window_alone, window_late, window_span)
+pub ruleset windows = (rules, start_most, window_early, window_alone, window_late, window_span, window_not)
 
 -- ---- a window lies in the range of instants, and ends after its start
 
@@ -224,18 +195,19 @@ end_most a e t h q = go (date_time e) (dur_value e) q
     go false None q = absurd (none-some _ q)
     go false (Some n) q = moved_most a n (is_back e) t h q
 
-pub window_in_range : (s : List ℕ) (a e : ℕ) → window_of s ≡ Span a e → (a < e) × (e ≤ 4000000000000)
+pub window_in_range : (s : List ℕ) (w : Span) → window_of s ≡ Ok w → (w.start < w.end) × (w.end ≤ 4000000000000)
 unfolding window_of
-window_in_range s a e q = go (instant (until_byte SLASH s)) refl q
+window_in_range s w q = go (instant (until_byte SLASH s)) refl q
   where
-    judged : (b t : ℕ) (c : Bool) → t ≤ 4000000000000 → ltb b t ≡ c → cond c (Span b t) (Wrong Malformed) ≡ Span a e → (a < e) × (e ≤ 4000000000000)
-    judged b t true l p q =
-        let u : b ≡ a = cc in let v : t ≡ e = cc in let k = ltb-true b t p in (omega arith, omega arith)
-    judged b t false l p q = let z : ◌≡◌ {A = ℕ} 0 1 = cc in absurd (omega arith)
+    Good : Span → Type 0
+    Good w = (w.start < w.end) × (w.end ≤ 4000000000000)
 
-    ended : (b : ℕ) (o : Option ℕ) → ((t : ℕ) → o ≡ Some t → t ≤ 4000000000000) → option o (Wrong Undated) (λ t. cond (ltb b t) (Span b t) (Wrong Malformed)) ≡ Span a e
-        → (a < e) × (e ≤ 4000000000000)
-    ended b None l q = let z : ◌≡◌ {A = ℕ} 0 1 = cc in absurd (omega arith)
+    judged : (b t : ℕ) (c : Bool) → t ≤ 4000000000000 → ltb b t ≡ c → cond c (Ok (span b t)) (Err Malformed) ≡ Ok w → Good w
+    judged b t true l p q = let e : span b t ≡ w = cc in subst Good e (ltb-true b t p, l)
+    judged b t false l p q = cc
+
+    ended : (b : ℕ) (o : Option ℕ) → ((t : ℕ) → o ≡ Some t → t ≤ 4000000000000) → option o (Err Undated) (λ t. cond (ltb b t) (Ok (span b t)) (Err Malformed)) ≡ Ok w → Good w
+    ended b None l q = cc
     ended b (Some t) l q = judged b t (ltb b t) (l t refl) refl q
 
     close : (b : ℕ) (o : Option (List ℕ)) → b ≤ 4000000000000 → (t : ℕ) → option o None (end_from b) ≡ Some t → t ≤ 4000000000000
@@ -243,7 +215,6 @@ window_in_range s a e q = go (instant (until_byte SLASH s)) refl q
     close b (Some x) l t p = end_most b x t l p
 
     go : (o : Option ℕ) → instant (until_byte SLASH s) ≡ o
-        → option o (Wrong Undated) (λ b. option (option (after SLASH s) None (end_from b)) (Wrong Undated) λ t. cond (ltb b t) (Span b t) (Wrong Malformed)) ≡ Span a e
-        → (a < e) × (e ≤ 4000000000000)
-    go None p q = let z : ◌≡◌ {A = ℕ} 0 1 = cc in absurd (omega arith)
+        → option o (Err Undated) (λ b. option (option (after SLASH s) None (end_from b)) (Err Undated) λ t. cond (ltb b t) (Ok (span b t)) (Err Malformed)) ≡ Ok w → Good w
+    go None p q = cc
     go (Some b) p q = ended b (option (after SLASH s) None (end_from b)) (close b (after SLASH s) (instant_most (until_byte SLASH s) b (sym p))) q

@@ -1,15 +1,15 @@
 -- A period: RFC 5545, 3.3.9, and the window that it stands for. Assumes nothing.
 use Rattle.std.specs.Prelude.{ℕ, ◌+◌, ◌*◌, ◌-◌, Bool, false, cond, ◌&&◌, ◌||◌, List, ltb, leb}
-use Rattle.std.specs.Prelude.{Option, None}
+use Rattle.std.specs.Prelude.{Option, None, Result, Ok, Err}
 use Rattle.loops.specs.Lists.{option, is_some}
 use Rattle.loops.specs.Search.{some_if}
 use Rattle.text_fields.specs.Parts.{until_byte}
 use Rattle.dates.specs.DateTime.{date_time, instant, last_instant}
+use Rattle.refusals.specs.declared.Reason.{Reason}
 use Rattle.refusals.specs.declared.Reason.TheVariants.{Malformed, Undated}
 use Rattle.freebusy_lines.specs.Bytes.{SLASH, after}
 use Rattle.freebusy_periods.specs.Duration.{dur_value, is_back}
-use Rattle.freebusy_periods.specs.declared.Window.{Window}
-use Rattle.freebusy_periods.specs.declared.Window.TheVariants.{Span, Wrong}
+use Rattle.freebusy_periods.specs.declared.Span.{Span}
 
 -- what stands before the slash, and whether what follows it passes the test
 abbrev pub before : List ℕ → List ℕ
@@ -38,9 +38,12 @@ moved a back n = cond back (some_if (leb (n * 1000) a) (a - n * 1000)) (some_if 
 unfoldable pub end_from : ℕ → List ℕ → Option ℕ
 end_from a e = cond (date_time e) (instant e) (option (dur_value e) None (λ n. moved a (is_back e) n))
 
--- 12 for its start or its end, then 11 for an end not after its start
-unfoldable pub window_of : List ℕ → Window
+-- undated for its start or its end, then malformed for an end not after its start
+abbrev pub span : ℕ → ℕ → Span
+span a e = record { start = a; end = e }
+
+unfoldable pub window_of : List ℕ → Result Span Reason
 window_of s =
-    option (instant (before s)) (Wrong Undated) λ a.
-    option (option (after SLASH s) None (end_from a)) (Wrong Undated) λ e.
-    cond (ltb a e) (Span a e) (Wrong Malformed)
+    option (instant (before s)) (Err Undated) λ a.
+    option (option (after SLASH s) None (end_from a)) (Err Undated) λ e.
+    cond (ltb a e) (Ok (span a e)) (Err Malformed)

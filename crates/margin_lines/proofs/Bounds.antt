@@ -19,7 +19,7 @@ use Rattle.loops.specs.inner.Chain.{only_at}
 use Rattle.loops.proofs.IntegerLaws.{mag_abs, left_size}
 use Rattle.calendar.specs.Clock.{clock}
 use Rattle.rows.specs.Cells.{row_count, cell, num, is}
-use Rattle.rows.specs.Class.{t?_c}
+use Rattle.rows.specs.declared.Class.TheVariants.{OptionalInstant}
 use Rattle.sheet.specs.Places.{of_kind}
 use Rattle.sheet.specs.inner.Accepted.{Accepted}
 use Rattle.model.specs.Sheet.{as_instant, read, sheet}
@@ -59,7 +59,7 @@ module _ (rows : List ℤ) (acc : Accepted rows) where
   unfolding early
   deadline_early k h = go (cell rows k 2) (at_most rows acc k 1 2 h)
     where
-      go : (z : ℤ) → to_nat z ≤ 4000000000000 → early (as_instant (read t?_c z)) ≡ true
+      go : (z : ℤ) → to_nat z ≤ 4000000000000 → early (as_instant (read OptionalInstant z)) ≡ true
       go (pos n) l = le-leb n 4000000000000 l
       go (negsuc n) l = refl
 

@@ -22,7 +22,7 @@ use Rattle.loops.proofs.RangeLaws.{collect_ext, one_a_place}
 use Rattle.loops.proofs.SumLaws.{total_each, most_within}
 use Rattle.calendar.specs.Clock.{clock}
 use Rattle.rows.specs.Cells.{row_count, cell, num, is}
-use Rattle.rows.specs.Class.{n_c}
+use Rattle.rows.specs.declared.Class.TheVariants.{Number}
 use Rattle.rows.specs.Ranges.{in_class}
 use Rattle.rows.proofs.Signed.{number_low, number_high}
 use Rattle.sheet.specs.Places.{place_of}
@@ -51,7 +51,7 @@ of_two : (b : Bool) (x y : ℤ) → small x ≡ true → small y ≡ true → sm
 of_two true x y e f = e
 of_two false x y e f = f
 
-number_small : (z : ℤ) → in_class n_c z ≡ true → small z ≡ true
+number_small : (z : ℤ) → in_class Number z ≡ true → small z ≡ true
 unfolding small
 number_small (pos n) e = le-leb n 1000000 (number_high n e)
 number_small (negsuc n) e = le-leb (suc n) 1000000 (omega (arith, number_low n e))

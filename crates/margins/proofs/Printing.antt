@@ -8,6 +8,7 @@ use native.Mathlib.Omega.{arith}
 use lib.IntN.{ℤ}
 use lib.ListN.{length, take, drop}
 use Rattle.loops.specs.inner.Wrote.{Wrote}
+use Rattle.refusals.specs.Refusals.{number_of}
 use Rattle.refusals.specs.declared.Refusal.{Refusal}
 use Rattle.refusals.specs.Lending.{answered, lent_after}
 use Rattle.refusals.proofs.AnswerLaws.{no_accept, same_count}
@@ -68,8 +69,8 @@ module _ (rows before : List ℤ) (room : 2400 ≡ length before) {a : Result �
         let z : margins_answer rows 800 ≡ Ok n = sym answer_is ∙ q in
         stood.1 ∙ ap₂ lines_bytes (left ∙ (found_is q).first) (found_is q).all ∙ lines_are (margins rows) _ ∙ rw z
 
-  pub refusal_printed : {o o' : List ℕ} {r number place : ℕ} → Wrote o 0 o' r (printed_refused number place) → length o ≡ 40800 → a ≡ Err e
-      → number < 2 ^ 64 → place < 2 ^ 64 → take r o' ≡ printed_margins rows
+  pub refusal_printed : {o o' : List ℕ} {r : ℕ} {e : Refusal} → Wrote o 0 o' r (printed_refused (number_of e.reason) e.place) → length o ≡ 40800 → a ≡ Err e
+      → e.place < 2 ^ 64 → take r o' ≡ printed_margins rows
   unfolding printed_margins
-  refusal_printed {number = number} {place = place} w long q h l =
-      let z : margins_answer rows 800 ≡ Err e = sym answer_is ∙ q in rw z (refused_first w long (omega arith) h l)
+  refusal_printed {e = e} w long q l =
+      let z : margins_answer rows 800 ≡ Err e = sym answer_is ∙ q in rw z (refused_first e w long (omega arith) l)

@@ -17,10 +17,11 @@ use Rattle.loops.proofs.BoolLaws.{and_left, and_right, neither_left, neither_rig
 use Rattle.loops.proofs.SearchLaws.{any_none}
 use Rattle.loops.proofs.PlaceLaws.{or_none_left, or_none_right, first_none, if_none, place_only}
 use Rattle.rows.specs.Cells.{row_count, cell, num, is}
-use Rattle.rows.specs.Class.{Class, blank_c}
+use Rattle.rows.specs.declared.Class.{Class}
+use Rattle.rows.specs.declared.Class.TheVariants.{Blank}
 use Rattle.rows.specs.Table.{class_of}
 use Rattle.rows.specs.Ranges.{range, between, is_none, in_range, in_class}
-use Rattle.rows.proofs.Signs.{cell_past, cell_wide}
+use Rattle.rows.proofs.CellLaws.{cell_past, cell_wide}
 use Rattle.rows.proofs.Tables.{class_wide}
 use Rattle.sheet.specs.Places.{named, place_of}
 use Rattle.refusals.specs.Refusals.{refuse}
@@ -60,7 +61,7 @@ unfolding in_class in_range between
 blank_zero zero = refl
 blank_zero (suc c) = refl
 
-pub blank_wide : in_class blank_c (pos 0) ≡ true
+pub blank_wide : in_class Blank (pos 0) ≡ true
 unfolding in_class in_range between
 blank_wide = refl
 
@@ -106,7 +107,7 @@ module _ (rows : List ℤ) (p : Passed rows) where
   owned : (k c : ℕ) → k < row_count rows → absent_at rows k c ≡ false
   owned k c h = go (dec_lt c 10)
     where
-      wide : (x : Class) → x ≡ blank_c → lacks x rows k c ≡ false
+      wide : (x : Class) → x ≡ Blank → lacks x rows k c ≡ false
       wide x e = rw e (unfold lacks in refl)
 
       go : Dec (c < 10) → absent_at rows k c ≡ false

@@ -14,6 +14,8 @@ use Rattle.rows.specs.Cells.{row_count, num, is}
 use Rattle.sheet.specs.Places.{place_of}
 use Rattle.sheet.specs.inner.Index.{or_end}
 use Rattle.sheet.proofs.Lookups.{is_num, Named, placed}
+use Rattle.owners.specs.declared.Owner.{Owner}
+use Rattle.owners.specs.declared.Owner.TheVariants.{TaskRow, ActivityRow, ResourceRow}
 use Rattle.owners.specs.inner.Owners.{owner_kind, owner_of, own_place, owned_by}
 use Rattle.owners.proofs.Tables.{own_at}
 
@@ -44,32 +46,32 @@ module _ (rows : List ℤ) where
         go true e = rw (e, owns k e) (unfold is in same_place y id (num rows k c) a q)
         go false e = rw e
 
-  owns_at : (x y k : ℕ) → owner_kind x ≡ y → is rows k 0 x ≡ true → own_place rows k ≡ or_end rows (owner_of rows y k)
+  owns_at : (x : ℕ) (y : Option Owner) (k : ℕ) → owner_kind x ≡ y → is rows k 0 x ≡ true → own_place rows k ≡ or_end rows (owner_of rows y k)
   owns_at x y k o e = sym (own_at rows k {kind = x} (sym (is_num rows k 0 x e)) refl y o)
 
   -- rows of an activity: overlap 3, split 4, requirement 5, predecessor 8, speed 9, fixed timing 10, window 16, booking 23, span 24
-  pub of_activity : (x a id : ℕ) → owner_kind x ≡ 2 → place_of rows 2 id ≡ Some a → (k : ℕ) → owned_by rows a x k ≡ (is rows k 0 x && is rows k 1 id)
+  pub of_activity : (x a id : ℕ) → owner_kind x ≡ Some ActivityRow → place_of rows 2 id ≡ Some a → (k : ℕ) → owned_by rows a x k ≡ (is rows k 0 x && is rows k 1 id)
   unfolding owner_of
-  of_activity x a id o q k = owned_by_lem x 2 1 (λ j e. owns_at x 2 j o e) a id q k
+  of_activity x a id o q k = owned_by_lem x 2 1 (λ j e. owns_at x (Some ActivityRow) j o e) a id q k
 
   -- rows of a resource: skill 12, companion 13, transport 14, window 15
-  pub of_resource : (x a id : ℕ) → owner_kind x ≡ 11 → place_of rows 11 id ≡ Some a → (k : ℕ) → owned_by rows a x k ≡ (is rows k 0 x && is rows k 1 id)
+  pub of_resource : (x a id : ℕ) → owner_kind x ≡ Some ResourceRow → place_of rows 11 id ≡ Some a → (k : ℕ) → owned_by rows a x k ≡ (is rows k 0 x && is rows k 1 id)
   unfolding owner_of
-  of_resource x a id o q k = owned_by_lem x 11 1 (λ j e. owns_at x 11 j o e) a id q k
+  of_resource x a id o q k = owned_by_lem x 11 1 (λ j e. owns_at x (Some ResourceRow) j o e) a id q k
 
   -- activities of a task
-  pub of_task : (x a id : ℕ) → owner_kind x ≡ 1 → place_of rows 1 id ≡ Some a → (k : ℕ) → owned_by rows a x k ≡ (is rows k 0 x && is rows k 2 id)
+  pub of_task : (x a id : ℕ) → owner_kind x ≡ Some TaskRow → place_of rows 1 id ≡ Some a → (k : ℕ) → owned_by rows a x k ≡ (is rows k 0 x && is rows k 2 id)
   unfolding owner_of
-  of_task x a id o q k = owned_by_lem x 1 2 (λ j e. owns_at x 1 j o e) a id q k
+  of_task x a id o q k = owned_by_lem x 1 2 (λ j e. owns_at x (Some TaskRow) j o e) a id q k
 
   -- the owner of a row that belongs to an activity, or to a resource: what the lookup by id finds
-  pub own_activity : (x k : ℕ) → owner_kind x ≡ 2 → is rows k 0 x ≡ true → own_place rows k ≡ or_end rows (place_of rows 2 (num rows k 1))
+  pub own_activity : (x k : ℕ) → owner_kind x ≡ Some ActivityRow → is rows k 0 x ≡ true → own_place rows k ≡ or_end rows (place_of rows 2 (num rows k 1))
   unfolding owner_of
-  own_activity x k o e = owns_at x 2 k o e
+  own_activity x k o e = owns_at x (Some ActivityRow) k o e
 
-  pub own_resource : (x k : ℕ) → owner_kind x ≡ 11 → is rows k 0 x ≡ true → own_place rows k ≡ or_end rows (place_of rows 11 (num rows k 1))
+  pub own_resource : (x k : ℕ) → owner_kind x ≡ Some ResourceRow → is rows k 0 x ≡ true → own_place rows k ≡ or_end rows (place_of rows 11 (num rows k 1))
   unfolding owner_of
-  own_resource x k o e = owns_at x 11 k o e
+  own_resource x k o e = owns_at x (Some ResourceRow) k o e
 
   pub booking_owner : (k o : ℕ) → is rows k 0 23 ≡ true → place_of rows 2 (num rows k 1) ≡ Some o → o ≡ own_place rows k
   booking_owner k o h e = sym (own_activity 23 k (unfold owner_kind in refl) h ∙ ap (or_end rows) e ∙ (unfold or_end in refl))

@@ -23,6 +23,7 @@ use Rattle.rows.specs.Cells.{row_count, cell, num, is}
 use Rattle.sheet.specs.Places.{place_of, named, is_nth, nth_place, requirement_place}
 use Rattle.sheet.specs.inner.Index.{or_end}
 use Rattle.sheet.proofs.Lookups.{is_num, nth_at}
+use Rattle.owners.specs.declared.Owner.TheVariants.{RequirementRow}
 use Rattle.owners.specs.inner.Owners.{owner_kind, owner_of, owner_place, own_place, owned_by}
 use Rattle.model.specs.Sheet.{sheet, row_at}
 use Rattle.model.specs.inner.Records.{num_at, requirement_of}
@@ -147,7 +148,7 @@ module _ (rows : List ℤ) where
       go (yes a) (no b) = apart (requirement_place rows i m) refl (λ z. b z.1) ∙ sym (rw (eq-eqb i (num rows q 1) a) (ne_eqb m (requirement_of rows q).place b))
       go (no a) y = apart (requirement_place rows i m) refl (λ z. a z.0) ∙ sym (rw (ne_eqb i (num rows q 1) a))
 
-  pub of_requirement : (x q : ℕ) → owner_kind x ≡ 5 → q < row_count rows → is rows q 0 5 ≡ true → (k : ℕ)
+  pub of_requirement : (x q : ℕ) → owner_kind x ≡ Some RequirementRow → q < row_count rows → is rows q 0 5 ≡ true → (k : ℕ)
       → owned_by rows q x k ≡ (is rows k 0 x && (is rows k 1 (num rows q 1) && is rows k 2 (requirement_of rows q).place))
   unfolding owned_by own_place owner_place owner_of
   of_requirement x q o l h k = go (is rows k 0 x) refl
@@ -163,7 +164,7 @@ module _ (rows : List ℤ) where
     wanted k = given (eqb (num_at (sheet rows) k 1) (requirement_of rows q).activity && eqb (num_at (sheet rows) k 2) (requirement_of rows q).place) (num_at (sheet rows) k 3)
 
     -- a candidate of the requirement, or a skill that it asks for
-    pub wanted_at : (x : ℕ) → owner_kind x ≡ 5 → ((k : ℕ) → is rows k 0 x ≡ true → wanted k ≡ given (is rows k 1 (num rows q 1) && is rows k 2 (requirement_of rows q).place) (num rows k 3))
+    pub wanted_at : (x : ℕ) → owner_kind x ≡ Some RequirementRow → ((k : ℕ) → is rows k 0 x ≡ true → wanted k ≡ given (is rows k 1 (num rows q 1) && is rows k 2 (requirement_of rows q).place) (num rows k 3))
         → (k : ℕ) → row_at (sheet rows) x wanted k ≡ given (owned_by rows q x k) (num rows k 3)
     wanted_at x o w k = rw (of_requirement x q o l h k) (go (is rows k 0 x) refl)
       where

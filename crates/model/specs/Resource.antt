@@ -4,7 +4,7 @@ use mathlib.Core.List.{List, [], ◌∷◌, map, foldl}
 use Rattle.std.specs.Prelude.{Option}
 use Rattle.loops.specs.Lists.{given, head, keep, each, option}
 use Rattle.loops.specs.Range.{collect}
-use Rattle.calendar.specs.Calendar.{Calendar}
+use Rattle.calendar.specs.Calendar.{Calendar, kind_of}
 use Rattle.model.specs.Sheet.{Sheet, as_int, as_num, as_instant, with2, row_at, rows_of_kind, columns2, columns3, columns4}
 
 pub record Resource : Type 0 where
@@ -37,7 +37,7 @@ module _ {T : Type 0} (s : Sheet T) where
   -- the windows in rows of kind x that are an owner's
   unfoldable pub windows : ℕ → ℕ → Calendar T
   windows x o = rows_of_kind s x λ k. columns4 s k λ owner closed start end.
-      cond (eqb (as_num owner) o) (with2 (as_instant start) (as_instant end) λ a e. record { closed = as_num closed; start = a; end = e }) []
+      cond (eqb (as_num owner) o) (with2 (as_instant start) (as_instant end) λ a e. record { kind = kind_of (as_num closed); start = a; end = e }) []
 
   -- `res.calendar`
   abbrev pub resource_calendar : ℕ → Calendar T

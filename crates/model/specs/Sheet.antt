@@ -4,7 +4,8 @@ use Rattle.std.specs.Prelude.{ℕ, Bool, cond, List, [], ◌∷◌, eqb, ℤ, po
 use Rattle.std.specs.Prelude.{Option, None, Some}
 use Rattle.loops.specs.Numbers.{to_nat}
 use Rattle.loops.specs.Range.{collect}
-use Rattle.rows.specs.Class.{Class, blank_c, kind_c, id_c, n_c, u_c, t_c, m_c, g_c, f_c, share_c, speed_c, n?_c, t?_c, m?_c, task_c, activity_c, resource_c, requirement_c, constraint_c}
+use Rattle.rows.specs.declared.Class.{Class}
+use Rattle.rows.specs.declared.Class.TheVariants.{Blank, Instant, OptionalNumber, OptionalInstant, OptionalDuration}
 use Rattle.rows.specs.Table.{class_of}
 use Rattle.rows.specs.Ranges.{is_none}
 use Rattle.rows.specs.Cells.{row_count, cell, num}
@@ -14,28 +15,15 @@ pub data Cell (T : Type 0) : Type 0 where
   instant : T → Cell T
   nothing : Cell T
 
--- a cell of a class; in an accepted sheet an instant is never negative, and a column t? is so only where it is none
+-- a cell of a class; in an accepted sheet an instant is never negative, and an optional one is so only where it is none
 abbrev pub read : Class → ℤ → Cell ℤ
-read t_c x = instant (pos (to_nat x))
-read t?_c (pos x) = instant (pos x)
-read t?_c (negsuc x) = nothing
-read n?_c x = cond (is_none x) nothing (number x)
-read m?_c x = cond (is_none x) nothing (number x)
-read blank_c x = nothing
-read kind_c x = number x
-read id_c x = number x
-read n_c x = number x
-read u_c x = number x
-read m_c x = number x
-read g_c x = number x
-read f_c x = number x
-read share_c x = number x
-read speed_c x = number x
-read task_c x = number x
-read activity_c x = number x
-read resource_c x = number x
-read requirement_c x = number x
-read constraint_c x = number x
+read Instant x = instant (pos (to_nat x))
+read OptionalInstant (pos x) = instant (pos x)
+read OptionalInstant (negsuc x) = nothing
+read OptionalNumber x = cond (is_none x) nothing (number x)
+read OptionalDuration x = cond (is_none x) nothing (number x)
+read Blank x = nothing
+read _ x = number x
 
 pub record Sheet (T : Type 0) : Type 0 where
   -- how many rows

@@ -1,18 +1,15 @@
 -- A share of a span. Assumes nothing.
-use Rattle.std.proofs.Common.{◌≡◌, ℕ, zero, suc, ◌+◌, ◌-◌, ◌*◌, ◌/◌, ◌%◌, ◌^◌, ◌<◌, ◌≤◌, Bool, true, false, cond, not, ◌&&◌, ◌||◌, T, eqb, ltb, leb, ◌⊎◌, ℤ, pos, negsuc, ◌+ℤ◌, ◌-ℤ◌, neg_ℤ, nat_abs, sym, refl, ap, ◌∙◌, subst, inl, inr, true≢false, le_trans, le_of_eq, lt_of_lt_of_le, lt_of_le_of_lt, mul-le-mul_right, mod-lt, mod-eq_of_lt, mul_comm, div-lt_iff_lt-mul, add-mul, mul-le-mul, lt_of_mul-lt-mul_right, eq-or-lt_of_le, mul-lt-mul_of_pos_right, mul-pos, div-add-mod', mul-one, mul_right_comm, le_of_mul-le-mul_right, mul_left_comm, arith, lit≤, le→leb, eqb→eq, ltb→lt, leb→le, pow_pos, pow_mono, to_z-of_z, w64, Fits, SFits, to_z, of_z, ltb-false, ltb-true, le-ltb, lt-ltb, ne_eqb}
+use Rattle.std.proofs.Common.{◌≡◌, ℕ, zero, suc, ◌+◌, ◌-◌, ◌*◌, ◌/◌, ◌%◌, ◌^◌, ◌<◌, ◌≤◌, Bool, true, false, cond, not, ◌&&◌, ◌||◌, T, eqb, ltb, leb, ◌⊎◌, pos, negsuc, ◌+ℤ◌, ◌-ℤ◌, neg_ℤ, sym, refl, ap, ◌∙◌, subst, inl, inr, true≢false, le_trans, le_of_eq, lt_of_lt_of_le, lt_of_le_of_lt, mul-le-mul_right, mod-lt, mod-eq_of_lt, mul_comm, div-lt_iff_lt-mul, add-mul, mul-le-mul, lt_of_mul-lt-mul_right, eq-or-lt_of_le, mul-lt-mul_of_pos_right, mul-pos, div-add-mod', mul-one, mul_right_comm, le_of_mul-le-mul_right, mul_left_comm, arith, lit≤, le→leb, eqb→eq, ltb→lt, leb→le, pow_pos, pow_mono, w64, Fits, ltb-false, ltb-true, le-ltb, lt-ltb, ne_eqb}
 use native.Mathlib.Nat.{div-eq_of_lt-le}
 use borrow.Author.Tests.{lt-leb}
-use mir.Facts.{to_z_pos}
 use lib.Ieee.{Float, nan, inf, fin, Format, binary64, prec, emax, low, up, down, odd, units, round, mul, of_int, lt, le, to_unsigned, neg, of_fields, of_bits}
 use lib.Ieee.Fits.{down_pos, round_is}
 use lib.Ieee.Exact.{HasValue, odd_sign}
 use lib.Ieee.Back.{round_whole}
 use lib.Ieee.Order.{round_mono}
 use lib.Ieee.Positive.{num, den, den_pos}
-use Rattle.loops.proofs.IntegerLaws.{sum_mag}
 use Rattle.rounding.proofs.Laws.{Cut, cut_of_value}
-use Rattle.overlap.specs.declared.Overlap.{Overlap}
-use Rattle.overlap.specs.Bounds.{ceil_div, ceiling, ceiling_share, overlap_of}
+use Rattle.overlap.specs.Bounds.{ceil_div, ceiling, ceiling_share}
 use Rattle.overlap.specs.inner.Shares.{is_share, product}
 
 -- ---- a float that is finite with its sign clear
@@ -295,20 +292,3 @@ start_behind s a b r t h k e l =
     let p = product s (suc n) in
     let f : r ≡ num p / den p = subst (λ (z : ℕ). r ≡ num (product s z) / den (product s z)) d e in
     rw (sub_neg b a h, product_neg s n t (omega arith), ceiling_neg p (is_plain s (suc n) t (omega arith)), ← f) (sym (sub_pos a r (omega arith)))
-
--- ---- the end
-
--- an operand as the machine reads it back
-module _ (end : ℕ) (lag : ℤ) (h : end ≤ 4000000000000) (k : nat_abs lag ≤ 4000000000000) (f : SFits w64 lag) where
-  sum_fits : SFits w64 (pos end +ℤ lag)
-  sum_fits = let m = sum_mag end lag in record { sfits = omega arith }
-
-  pub end_fits : SFits w64 (to_z w64 end +ℤ to_z w64 (of_z w64 lag))
-  end_fits = rw (to_z_pos w64 {n = end} (omega arith), to_z-of_z f) sum_fits
-
-  pub end_is : to_z w64 (of_z w64 (to_z w64 end +ℤ to_z w64 (of_z w64 lag))) ≡ pos end +ℤ lag
-  end_is = rw (to_z_pos w64 {n = end} (omega arith), to_z-of_z f) (to_z-of_z sum_fits)
-
-pub new_is : (bits : ℕ) (lag : ℤ) {x : Float} → x ≡ of_bits binary64 bits → SFits w64 lag
-    → ◌≡◌ {A = Overlap} (record { start_after = x; finish_after_ms = to_z w64 (of_z w64 lag) }) (overlap_of bits lag)
-new_is bits lag e f = rw (e, to_z-of_z f)

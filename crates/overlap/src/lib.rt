@@ -15,22 +15,31 @@ pub struct Overlap {
     pub finish_after_ms: i64,
 }
 
-// share * span, rounded up.
-fn ahead(share: f64, span: u64) -> u64
-    requires { T (is_share share) × (span ≤ 4000000000000) }
-    ensures { (result ≡ ceil_div (num (product share span)) (den (product share span))) × (result ≤ span) }
-{
-    let x = share * (span as f64);
-    let cut = std::num::truncating_f64_to_u64(x);
-    if (cut as f64) < x { cut + 1 } else { cut }
+// A share of a span. An `Overlap` has a float as it stands in a row, which may be none, and `new` takes any.
+#[derive(Clone, Copy)]
+struct Share {
+    value: f64,
+    ghost in_range: { T (is_share value) },
 }
 
-// share * span, rounded down.
-fn behind(share: f64, span: u64) -> u64
-    requires { T (is_share share) × (span ≤ 4000000000000) }
-    ensures { (result ≡ num (product share span) / den (product share span)) × (result ≤ span) }
-{
-    std::num::truncating_f64_to_u64(share * (span as f64))
+impl Share {
+    // value * span, rounded up.
+    fn ceil_of(self, span: u64) -> u64
+        requires { span ≤ 4000000000000 }
+        ensures { (result ≡ ceil_div (num (product self.value span)) (den (product self.value span))) × (result ≤ span) }
+    {
+        let x = self.value * (span as f64);
+        let cut = std::num::truncating_f64_to_u64(x);
+        if (cut as f64) < x { cut + 1 } else { cut }
+    }
+
+    // value * span, rounded down.
+    fn floor_of(self, span: u64) -> u64
+        requires { span ≤ 4000000000000 }
+        ensures { (result ≡ num (product self.value span) / den (product self.value span)) × (result ≤ span) }
+    {
+        std::num::truncating_f64_to_u64(self.value * (span as f64))
+    }
 }
 
 impl Overlap {
@@ -50,11 +59,13 @@ impl Overlap {
         requires { T (is_share self.start_after) × (start ≤ 4000000000000) × (end ≤ 4000000000000) }
         ensures { (pos result ≡ earliest_start clock self (pos start) (pos end)) × (result ≤ 4000000000000) }
     {
-        let share = self.start_after;
+        let share = Share {
+            value: self.start_after,
+        };
         if start <= end {
-            start + ahead(share, end - start)
+            start + share.ceil_of(end - start)
         } else {
-            start - behind(share, start - end)
+            start - share.floor_of(start - end)
         }
     }
 
@@ -63,7 +74,6 @@ impl Overlap {
         requires { (end ≤ 4000000000000) × (unsigned_abs self.finish_after_ms ≤ 4000000000000) }
         ensures { result ≡ earliest_end clock self (pos end) }
     {
-        let lag = self.finish_after_ms;
-        (end as i64) + lag
+        (end as i64) + self.finish_after_ms
     }
 }

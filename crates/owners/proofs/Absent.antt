@@ -1,100 +1,77 @@
--- Refusal 4 by the kind of the owner: the table of kinds and columns says which columns name one, and `owner_kind` which row that is.
+-- Refusal 4 by what a row belongs to: the table of kinds and columns says which columns name an owner, and `owner_kind` which row that is.
 -- Assumes nothing.
 use Prim.Native.Nat.{ℕ, suc, ◌+◌, ◌<◌, ◌≤◌}
 use mathlib.Core.Path.{◌≡◌, refl, ap, sym, ◌∙◌}
-use mathlib.Core.Bool.{Bool, true, false, not, cond, ◌&&◌, ◌||◌, or-false, or-true, false≢true}
+use mathlib.Core.Bool.{Bool, true, false, not, ◌||◌, or-false, or-true, false≢true}
 use mathlib.Core.List.{List, []}
 use Rattle.std.specs.Prelude.{Option, None, Some}
 use native.Mathlib.Omega.{arith}
-use native.Mathlib.Decide.{ℕ_discrete, dec_lt}
-use lib.Dec.{eqb, ltb, leb}
+use native.Mathlib.Decide.{dec_lt}
+use lib.Dec.{leb}
 use lib.IntN.{ℤ}
 use lib.ListN.{get_or-eq_default}
-use borrow.Author.Tests.{eqb-true, ne_eqb, lt-ltb, le-ltb, le-leb, lt-leb, not-false}
+use borrow.Author.Tests.{le-leb, lt-leb, not-false}
 use Rattle.loops.specs.Search.{any_below}
 use Rattle.loops.proofs.BoolLaws.{and_left, and_right}
 use Rattle.loops.proofs.SearchLaws.{any_none}
+use Rattle.rows.specs.declared.Class.{Class}
+use Rattle.rows.specs.declared.Class.TheVariants.{RowKind, TaskId, ActivityId, ResourceId, RequirementPlace, ConstraintPlace}
+use Rattle.rows.specs.declared.Kind.{Kind}
+use Rattle.rows.specs.declared.Kind.TheVariants.{Task, Activity, Candidate, WantedSkill, Resource, Precedence, Capacity, TimeWindow, NoOverlap, Synchronize, Booking, TimeOnlySpan}
+use Rattle.rows.specs.Kinds.{kind_of, kind_number}
 use Rattle.rows.specs.Cells.{row_count, num, is}
-use Rattle.rows.specs.Class.{Class, blank_c, kind_c, id_c, n_c, u_c, t_c, m_c, g_c, f_c, share_c, speed_c, n?_c, t?_c, m?_c, task_c, activity_c, resource_c, requirement_c, constraint_c}
-use Rattle.rows.specs.inner.Codes.{class_at, code_of}
 use Rattle.rows.specs.Table.{columns, class_of}
-use Rattle.rows.proofs.Tables.{code_class}
+use Rattle.rows.proofs.KindNumbers.{kind_there, kind_number_is}
 use Rattle.sheet.specs.Places.{named, activity_place, nth_place}
 use Rattle.sheet.specs.inner.Index.{or_end}
 use Rattle.sheet.specs.Refusals.{is_absent, has_members, lacks, absent_at, unowned}
 use Rattle.sheet.proofs.Lookups.{is_num, nth_at}
-use Rattle.owners.specs.inner.Owners.{owner_kind, owner_of, own_place}
+use Rattle.owners.specs.declared.Owner.{Owner}
+use Rattle.owners.specs.declared.Owner.TheVariants.{TaskRow, ActivityRow, RequirementRow, ResourceRow, ConstraintRow}
+use Rattle.owners.specs.inner.Owners.{owner_kind, owner_of_kind, owner_of, own_place}
 use Rattle.owners.proofs.Tables.{own_at, owner_within}
 
--- ---- the columns that name no owner
+-- ---- the columns that name an owner
 
--- column c of the kind names none
-abbrev plain : ℕ → ℕ → Bool
-plain kind c = ltb (code_of (class_of kind c)) 14
+-- a class that names none
+abbrev plain : Class → Bool
+plain TaskId = false
+plain ActivityId = false
+plain ResourceId = false
+plain RequirementPlace = false
+plain ConstraintPlace = false
+plain _ = true
 
-lacks_none : (cl : Class) (rows : List ℤ) (k c : ℕ) → ltb (code_of cl) 14 ≡ true → lacks cl rows k c ≡ false
+lacks_none : (cl : Class) (rows : List ℤ) (k c : ℕ) → plain cl ≡ true → lacks cl rows k c ≡ false
 unfolding lacks
-lacks_none blank_c rows k c e = refl
-lacks_none kind_c rows k c e = refl
-lacks_none id_c rows k c e = refl
-lacks_none n_c rows k c e = refl
-lacks_none u_c rows k c e = refl
-lacks_none t_c rows k c e = refl
-lacks_none m_c rows k c e = refl
-lacks_none g_c rows k c e = refl
-lacks_none f_c rows k c e = refl
-lacks_none share_c rows k c e = refl
-lacks_none speed_c rows k c e = refl
-lacks_none n?_c rows k c e = refl
-lacks_none t?_c rows k c e = refl
-lacks_none m?_c rows k c e = refl
-lacks_none task_c rows k c e = absurd (false≢true e)
-lacks_none activity_c rows k c e = absurd (false≢true e)
-lacks_none resource_c rows k c e = absurd (false≢true e)
-lacks_none requirement_c rows k c e = absurd (false≢true e)
-lacks_none constraint_c rows k c e = absurd (false≢true e)
+lacks_none TaskId rows k c e = absurd (false≢true e)
+lacks_none ActivityId rows k c e = absurd (false≢true e)
+lacks_none ResourceId rows k c e = absurd (false≢true e)
+lacks_none RequirementPlace rows k c e = absurd (false≢true e)
+lacks_none ConstraintPlace rows k c e = absurd (false≢true e)
+lacks_none _ rows k c e = refl
 
-past : (kind c : ℕ) → 25 ≤ kind → plain kind (suc c) ≡ true
+past : (kind c : ℕ) → 25 ≤ kind → plain (class_of kind (suc c)) ≡ true
 past kind c h = rw (get_or-eq_default columns [] h)
 
 -- no kind names an owner in column 3 or later
-rest : any_below (λ kind. any_below (λ c. not (plain kind (3 + c))) 7) 25 ≡ false
+rest : any_below (λ kind. any_below (λ c. not (plain (class_of kind (3 + c)))) 7) 25 ≡ false
 unfolding any_below
 rest = refl
 
-rest_at_lem : (kind c : ℕ) → c < 7 → plain kind (suc (suc (suc c))) ≡ true
+rest_at_lem : (kind c : ℕ) → c < 7 → plain (class_of kind (suc (suc (suc c)))) ≡ true
 rest_at_lem kind c l = go (dec_lt kind 25)
   where
     s : 3 + c ≡ suc (suc (suc c))
     s = omega arith
 
-    go : Dec (kind < 25) → plain kind (suc (suc (suc c))) ≡ true
-    go (yes h) = rw s at (not-false (plain kind (3 + c)) (any_none (λ c. not (plain kind (3 + c))) 7 c (any_none (λ kind. any_below (λ c. not (plain kind (3 + c))) 7) 25 kind rest h) l))
+    go : Dec (kind < 25) → plain (class_of kind (suc (suc (suc c)))) ≡ true
+    go (yes h) = rw s at (not-false (plain (class_of kind (3 + c))) (any_none (λ c. not (plain (class_of kind (3 + c)))) 7 c (any_none (λ kind. any_below (λ c. not (plain (class_of kind (3 + c)))) 7) 25 kind rest h) l))
     go (no h) = past kind (suc (suc c)) (omega arith)
 
 any_ten : (p : ℕ → Bool) → p 0 ≡ false → ((c : ℕ) → c < 7 → p (suc (suc (suc c))) ≡ false) → any_below p 10 ≡ (p 1 || p 2)
 unfolding any_below
 any_ten p a h = rw (a, h 0 (omega arith), h 1 (omega arith), h 2 (omega arith), h 3 (omega arith), h 4 (omega arith), h 5 (omega arith), h 6 (omega arith)) (simp or-false)
-
--- ---- the columns that name one, by the kind of the owner
-
--- the classes of columns 1 and 2 of a kind are those that the kind of its owner asks for
-abbrev agrees : ℕ → Bool
-agrees kind =
-    cond (ltb 22 kind) (plain kind 1 && plain kind 2)
-    (cond (eqb (owner_kind kind) 0) (plain kind 1 && plain kind 2)
-    (cond (eqb (owner_kind kind) 1) (plain kind 1 && eqb (code_of (class_of kind 2)) 14)
-    (cond (eqb (owner_kind kind) 2) (eqb (code_of (class_of kind 1)) 15 && plain kind 2)
-    (cond (eqb (owner_kind kind) 5) (eqb (code_of (class_of kind 1)) 15 && eqb (code_of (class_of kind 2)) 17)
-    (cond (eqb (owner_kind kind) 11) (eqb (code_of (class_of kind 1)) 16 && plain kind 2)
-    (cond (eqb (owner_kind kind) 17) (eqb (code_of (class_of kind 1)) 18 && plain kind 2) false))))))
-
-agree : any_below (λ kind. not (agrees kind)) 25 ≡ false
-unfolding any_below owner_kind
-agree = refl
-
-agree_at : (kind : ℕ) → kind < 25 → agrees kind ≡ true
-agree_at kind l = not-false (agrees kind) (any_none (λ kind. not (agrees kind)) 25 kind agree l)
 
 -- ---- a place and the number it stands for
 
@@ -117,129 +94,108 @@ module _ (rows : List ℤ) (k : ℕ) where
   -- only columns 1 and 2 name owners
   pub unowned_is : unowned rows k ≡ (absent_at rows k 1 || absent_at rows k 2)
   unfolding unowned absent_at
-  unowned_is = any_ten (absent_at rows k) (lacks_none kind_c rows k 0 refl) (λ c l. lacks_none (class_of (num rows k 0) (suc (suc (suc c)))) rows k (suc (suc (suc c))) (rest_at_lem (num rows k 0) c l))
+  unowned_is = any_ten (absent_at rows k) (lacks_none RowKind rows k 0 refl) (λ c l. lacks_none (class_of (num rows k 0) (suc (suc (suc c)))) rows k (suc (suc (suc c))) (rest_at_lem (num rows k 0) c l))
+
+  -- an owner is absent where its row is; a requirement's activity too, and a member's owner is of kind 20 or 21
+  abbrev absent : Option Owner → Bool
+  absent None = false
+  absent (Some TaskRow) = is_absent (owner_of rows (Some TaskRow) k)
+  absent (Some ActivityRow) = is_absent (owner_of rows (Some ActivityRow) k)
+  absent (Some RequirementRow) = is_absent (activity_place rows (num rows k 1)) || is_absent (owner_of rows (Some RequirementRow) k)
+  absent (Some ResourceRow) = is_absent (owner_of rows (Some ResourceRow) k)
+  absent (Some ConstraintRow) = not (has_members rows (owner_of rows (Some ConstraintRow) k))
+
+  of_kind : (x : Kind) → num rows k 0 ≡ kind_number x → kind_number x ≤ 22 → unowned rows k ≡ absent (owner_of_kind (Some x))
+  unfolding absent_at lacks owner_of
+  of_kind Booking e l = absurd (omega arith)
+  of_kind TimeOnlySpan e l = absurd (omega arith)
+  of_kind Task e l = rw (unowned_is, e)
+  of_kind Resource e l = rw (unowned_is, e)
+  of_kind Precedence e l = rw (unowned_is, e)
+  of_kind Capacity e l = rw (unowned_is, e)
+  of_kind TimeWindow e l = rw (unowned_is, e)
+  of_kind NoOverlap e l = rw (unowned_is, e)
+  of_kind Synchronize e l = rw (unowned_is, e)
+  of_kind Activity e l = rw (unowned_is, e)
+  of_kind Candidate e l = rw (unowned_is, e)
+  of_kind WantedSkill e l = rw (unowned_is, e)
+  of_kind _ e l = rw (unowned_is, e) (or-false _)
 
   module _ {kind : ℕ} (e : kind ≡ num rows k 0) where
-    absent_plain : (c : ℕ) → plain kind c ≡ true → absent_at rows k c ≡ false
+    neither : plain (class_of kind 1) ≡ true → plain (class_of kind 2) ≡ true → unowned rows k ≡ false
     unfolding absent_at
-    absent_plain c h = rw (← e) (lacks_none (class_of kind c) rows k c h)
-
-    absent_class : (c : ℕ) (cl : Class) → eqb (code_of (class_of kind c)) (code_of cl) ≡ true → absent_at rows k c ≡ lacks cl rows k c
-    unfolding absent_at
-    absent_class c cl h =
-        let q : class_of kind c ≡ cl = sym (code_class (class_of kind c)) ∙ ap class_at (eqb-true (code_of (class_of kind c)) (code_of cl) h) ∙ code_class cl in
-        rw (← e, q)
-
-    two : (a b : Bool) → absent_at rows k 1 ≡ a → absent_at rows k 2 ≡ b → unowned rows k ≡ (a || b)
-    two a b p q = rw (unowned_is, p, q)
-
-    neither : (plain kind 1 && plain kind 2) ≡ true → unowned rows k ≡ false
-    neither h = two false false (absent_plain 1 (and_left (plain kind 1) (plain kind 2) h)) (absent_plain 2 (and_right (plain kind 1) (plain kind 2) h))
+    neither a b = rw (unowned_is, ← e, lacks_none (class_of kind 1) rows k 1 a, lacks_none (class_of kind 2) rows k 2 b)
 
     -- bookings and time-only spans name no owner
     pub booked : 22 < kind → false ≡ unowned rows k
-    booked l = sym (go (dec_lt kind 25))
+    booked l = sym (go (dec_lt kind 24) (dec_lt kind 25))
       where
-        go : Dec (kind < 25) → unowned rows k ≡ false
-        go (yes h) = neither (rw (lt-ltb 22 kind l) at (agree_at kind h))
-        go (no h) = neither (rw (past kind 0 (omega arith), past kind 1 (omega arith)))
+        go : Dec (kind < 24) → Dec (kind < 25) → unowned rows k ≡ false
+        go (yes h) y = let q : kind ≡ 23 = omega arith in neither (rw q) (rw q)
+        go (no h) (yes m) = let q : kind ≡ 24 = omega arith in neither (rw q) (rw q)
+        go (no h) (no m) = neither (past kind 0 (omega arith)) (past kind 1 (omega arith))
 
-    module _ {x : ℕ} (q : x ≡ owner_kind kind) (l : kind ≤ 22) where
-      is_kind_lem : (v : ℕ) → x ≡ v → owner_kind kind ≡ v
-      is_kind_lem v w = sym q ∙ w
+    owned : kind ≤ 22 → unowned rows k ≡ absent (owner_kind kind)
+    unfolding owner_kind
+    owned l = go (kind_of kind) refl
+      where
+        go : (y : Option Kind) → kind_of kind ≡ y → unowned rows k ≡ absent (owner_of_kind y)
+        go None q = go_zero (dec_lt 0 kind)
+          where
+            go_zero : Dec (0 < kind) → unowned rows k ≡ false
+            go_zero (yes h) = absurd (kind_there kind q h (omega arith))
+            go_zero (no h) = let z : kind ≡ 0 = omega arith in neither (rw z) (rw z)
+        go (Some x) q = let s : kind ≡ kind_number x = kind_number_is kind q in of_kind x (sym e ∙ s) (omega arith)
 
-      pub ownerless : x ≡ 0 → false ≡ unowned rows k
-      ownerless w = sym (neither (rw (le-ltb 22 kind l, is_kind_lem 0 w) at (agree_at kind (omega arith))))
+    module _ {x : Option Owner} (q : x ≡ owner_kind kind) (l : kind ≤ 22) where
+      by_owner : (y : Option Owner) → x ≡ y → unowned rows k ≡ absent y
+      by_owner y w = owned l ∙ ap absent (sym q ∙ w)
 
-      pub by_task : x ≡ 1 → unowned rows k ≡ is_absent (owner_of rows 1 k)
-      unfolding lacks owner_of
-      by_task w =
-          let h : (plain kind 1 && eqb (code_of (class_of kind 2)) 14) ≡ true = rw (le-ltb 22 kind l, is_kind_lem 1 w) at (agree_at kind (omega arith)) in
-          two false (is_absent (owner_of rows 1 k)) (absent_plain 1 (and_left (plain kind 1) (eqb (code_of (class_of kind 2)) 14) h))
-          (absent_class 2 task_c (and_right (plain kind 1) (eqb (code_of (class_of kind 2)) 14) h))
-
-      one : (cl : Class) → (eqb (code_of (class_of kind 1)) (code_of cl) && plain kind 2) ≡ true → unowned rows k ≡ lacks cl rows k 1
-      one cl h =
-          two (lacks cl rows k 1) false (absent_class 1 cl (and_left (eqb (code_of (class_of kind 1)) (code_of cl)) (plain kind 2) h))
-          (absent_plain 2 (and_right (eqb (code_of (class_of kind 1)) (code_of cl)) (plain kind 2) h)) ∙ or-false (lacks cl rows k 1)
-
-      pub by_activity : x ≡ 2 → unowned rows k ≡ is_absent (owner_of rows 2 k)
-      unfolding lacks owner_of
-      by_activity w = one activity_c (rw (le-ltb 22 kind l, is_kind_lem 2 w) at (agree_at kind (omega arith)))
-
-      pub by_resource_lem : x ≡ 11 → unowned rows k ≡ is_absent (owner_of rows 11 k)
-      unfolding lacks owner_of
-      by_resource_lem w = one resource_c (rw (le-ltb 22 kind l, is_kind_lem 11 w) at (agree_at kind (omega arith)))
-
-      pub by_constraint : x ≡ 17 → unowned rows k ≡ not (has_members rows (owner_of rows 17 k))
-      unfolding lacks owner_of
-      by_constraint w = one constraint_c (rw (le-ltb 22 kind l, is_kind_lem 17 w) at (agree_at kind (omega arith)))
-
-      pub by_requirement : x ≡ 5 → unowned rows k ≡ (is_absent (activity_place rows (num rows k 1)) || is_absent (owner_of rows 5 k))
-      unfolding lacks owner_of
-      by_requirement w =
-          let h : (eqb (code_of (class_of kind 1)) 15 && eqb (code_of (class_of kind 2)) 17) ≡ true = rw (le-ltb 22 kind l, is_kind_lem 5 w) at (agree_at kind (omega arith)) in
-          two (is_absent (activity_place rows (num rows k 1))) (is_absent (owner_of rows 5 k))
-          (absent_class 1 activity_c (and_left (eqb (code_of (class_of kind 1)) 15) (eqb (code_of (class_of kind 2)) 17) h))
-          (absent_class 2 requirement_c (and_right (eqb (code_of (class_of kind 1)) 15) (eqb (code_of (class_of kind 2)) 17) h))
-
-      -- an owner is of one of these kinds
-      pub each_owner : {P : Type 0} → (x ≡ 0 → P) → (x ≡ 1 → P) → (x ≡ 2 → P) → (x ≡ 5 → P) → (x ≡ 11 → P) → (x ≡ 17 → P) → P
-      each_owner {P} h₀ h₁ h₂ h₅ h₁₁ h₁₇ = go (ℕ_discrete x 0) (ℕ_discrete x 1) (ℕ_discrete x 2) (ℕ_discrete x 5) (ℕ_discrete x 11) (ℕ_discrete x 17)
-        where
-          go : Dec (x ≡ 0) → Dec (x ≡ 1) → Dec (x ≡ 2) → Dec (x ≡ 5) → Dec (x ≡ 11) → Dec (x ≡ 17) → P
-          go (yes w) b c d f g = h₀ w
-          go (no a) (yes w) c d f g = h₁ w
-          go (no a) (no b) (yes w) d f g = h₂ w
-          go (no a) (no b) (no c) (yes w) f g = h₅ w
-          go (no a) (no b) (no c) (no d) (yes w) g = h₁₁ w
-          go (no a) (no b) (no c) (no d) (no f) (yes w) = h₁₇ w
-          go (no a) (no b) (no c) (no d) (no f) (no g) =
-              absurd (false≢true (rw (le-ltb 22 kind l, ← q, ne_eqb x 0 a, ne_eqb x 1 b, ne_eqb x 2 c, ne_eqb x 5 d, ne_eqb x 11 f, ne_eqb x 17 g) at (agree_at kind (omega arith))))
+      pub ownerless : x ≡ None → false ≡ unowned rows k
+      ownerless w = sym (by_owner None w)
 
       -- ---- what the place of the owner says
 
       module _ (o n : ℕ) (p : o ≡ own_place rows k) (z : n ≡ row_count rows) where
-        place_is : (v : ℕ) → x ≡ v → o ≡ or_end rows (owner_of rows v k)
-        place_is v w = p ∙ sym (own_at rows k e q v w)
+        place_is : (y : Option Owner) → x ≡ y → o ≡ or_end rows (owner_of rows y k)
+        place_is y w = p ∙ sym (own_at rows k e q y w)
 
-        gone_is : (v : ℕ) → x ≡ v → n ≤ o → owner_of rows v k ≡ None
-        gone_is v w m = end_none rows (owner_of rows v k) (owner_within rows v k) (omega (arith, place_is v w))
+        gone_is : (y : Option Owner) → x ≡ y → n ≤ o → owner_of rows y k ≡ None
+        gone_is y w m = end_none rows (owner_of rows y k) (owner_within rows y k) (omega (arith, place_is y w))
 
-        there_is : (v : ℕ) → x ≡ v → o < n → owner_of rows v k ≡ Some o
-        there_is v w m = end_some rows (owner_of rows v k) o (place_is v w) (omega arith)
+        there_is : (y : Option Owner) → x ≡ y → o < n → owner_of rows y k ≡ Some o
+        there_is y w m = end_some rows (owner_of rows y k) o (place_is y w) (omega arith)
+
+        absent_gone : (y : Owner) → owner_of rows (Some y) k ≡ None → absent (Some y) ≡ true
+        unfolding has_members
+        absent_gone TaskRow g = ap is_absent g
+        absent_gone ActivityRow g = ap is_absent g
+        absent_gone RequirementRow g = ap (λ y. is_absent (activity_place rows (num rows k 1)) || is_absent y) g ∙ or-true (is_absent (activity_place rows (num rows k 1)))
+        absent_gone ResourceRow g = ap is_absent g
+        absent_gone ConstraintRow g = ap (λ y. not (has_members rows y)) g
 
         -- it has none
-        pub gone : (x ≡ 0 → ⊥) → n ≤ o → true ≡ unowned rows k
-        unfolding has_members
-        gone h m =
-            each_owner (λ w. absurd (h w))
-            (λ w. sym (by_task w ∙ ap is_absent (gone_is 1 w m)))
-            (λ w. sym (by_activity w ∙ ap is_absent (gone_is 2 w m)))
-            (λ w. sym (by_requirement w ∙ ap (λ y. is_absent (activity_place rows (num rows k 1)) || is_absent y) (gone_is 5 w m) ∙ or-true (is_absent (activity_place rows (num rows k 1)))))
-            (λ w. sym (by_resource_lem w ∙ ap is_absent (gone_is 11 w m)))
-            (λ w. sym (by_constraint w ∙ ap (λ y. not (has_members rows y)) (gone_is 17 w m)))
+        pub gone : (y : Owner) → x ≡ Some y → n ≤ o → true ≡ unowned rows k
+        gone y w m = sym (by_owner (Some y) w ∙ absent_gone y (gone_is (Some y) w m))
 
         -- the requirement is there: is its activity?
-        pub of_requirement : (r : ℕ) → x ≡ 5 → o < n → r ≡ own_place rows o → leb n r ≡ unowned rows k
+        pub of_requirement : (r : ℕ) → x ≡ Some RequirementRow → o < n → r ≡ own_place rows o → leb n r ≡ unowned rows k
         unfolding owner_of named
         of_requirement r w m s =
-            let t : nth_place (named rows 5 (num rows k 1)) (num rows k 2) (row_count rows) ≡ Some o = there_is 5 w m in
+            let t : nth_place (named rows 5 (num rows k 1)) (num rows k 2) (row_count rows) ≡ Some o = there_is (Some RequirementRow) w m in
             let f = nth_at (named rows 5 (num rows k 1)) (num rows k 2) (row_count rows) o t in
             let a : num rows o 0 ≡ 5 = is_num rows o 0 5 (and_left (is rows o 0 5) (is rows o 1 (num rows k 1)) f.1) in
             let b : num rows o 1 ≡ num rows k 1 = is_num rows o 1 (num rows k 1) (and_right (is rows o 0 5) (is rows o 1 (num rows k 1)) f.1) in
-            let c : r ≡ or_end rows (activity_place rows (num rows k 1)) = s ∙ sym (own_at rows o {kind = 5} {x = 2} (sym a) (unfold owner_kind in refl) 2 refl) ∙ ap (λ y. or_end rows (activity_place rows y)) b in
-            rw (z, c, end_absent rows (activity_place rows (num rows k 1)) (owner_within rows 2 k))
-            (sym (by_requirement w ∙ ap (λ y. is_absent (activity_place rows (num rows k 1)) || is_absent y) (there_is 5 w m) ∙ or-false (is_absent (activity_place rows (num rows k 1)))))
+            let c : r ≡ or_end rows (activity_place rows (num rows k 1)) = s ∙ sym (own_at rows o {kind = 5} {x = Some ActivityRow} (sym a) (unfold owner_kind in refl) (Some ActivityRow) refl) ∙ ap (λ y. or_end rows (activity_place rows y)) b in
+            rw (z, c, end_absent rows (activity_place rows (num rows k 1)) (owner_within rows (Some ActivityRow) k))
+            (sym (by_owner (Some RequirementRow) w ∙ ap (λ y. is_absent (activity_place rows (num rows k 1)) || is_absent y) (there_is (Some RequirementRow) w m) ∙ or-false (is_absent (activity_place rows (num rows k 1)))))
 
-        pub of_constraint : {r : Bool} → x ≡ 17 → o < n → r ≡ has_members rows (Some o) → not r ≡ unowned rows k
-        of_constraint w m s = ap not s ∙ sym (by_constraint w ∙ ap (λ y. not (has_members rows y)) (there_is 17 w m))
+        pub of_constraint : {r : Bool} → x ≡ Some ConstraintRow → o < n → r ≡ has_members rows (Some o) → not r ≡ unowned rows k
+        of_constraint w m s = ap not s ∙ sym (by_owner (Some ConstraintRow) w ∙ ap (λ y. not (has_members rows y)) (there_is (Some ConstraintRow) w m))
 
-        pub found : (x ≡ 5 → ⊥) → (x ≡ 17 → ⊥) → o < n → false ≡ unowned rows k
-        found a b m =
-            each_owner ownerless
-            (λ w. sym (by_task w ∙ ap is_absent (there_is 1 w m)))
-            (λ w. sym (by_activity w ∙ ap is_absent (there_is 2 w m)))
-            (λ w. absurd (a w))
-            (λ w. sym (by_resource_lem w ∙ ap is_absent (there_is 11 w m)))
-            (λ w. absurd (b w))
+        pub found : (y : Owner) → x ≡ Some y → (y ≡ RequirementRow → ⊥) → (y ≡ ConstraintRow → ⊥) → o < n → false ≡ unowned rows k
+        found TaskRow w a b m = sym (by_owner (Some TaskRow) w ∙ ap is_absent (there_is (Some TaskRow) w m))
+        found ActivityRow w a b m = sym (by_owner (Some ActivityRow) w ∙ ap is_absent (there_is (Some ActivityRow) w m))
+        found ResourceRow w a b m = sym (by_owner (Some ResourceRow) w ∙ ap is_absent (there_is (Some ResourceRow) w m))
+        found RequirementRow w a b m = absurd (a refl)
+        found ConstraintRow w a b m = absurd (b refl)

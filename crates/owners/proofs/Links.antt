@@ -3,7 +3,8 @@ use Prim.Native.Nat.{ℕ}
 use mathlib.Core.Path.{◌≡◌, refl, ap, ◌∙◌}
 use mathlib.Core.Bool.{true}
 use mathlib.Core.List.{List}
-use Rattle.std.specs.Prelude.{Option}
+use Rattle.std.specs.Prelude.{Option, Some}
+use Rattle.owners.specs.declared.Owner.TheVariants.{ActivityRow}
 use lib.IntN.{ℤ}
 use Rattle.rows.specs.Cells.{num, is}
 use Rattle.sheet.specs.Places.{place_of}
@@ -21,7 +22,7 @@ module _ (rows : List ℤ) where
   pub found_task : (k : ℕ) {o : ℕ} {x : Option ℕ} → is rows k 0 2 ≡ true → o ≡ own_place rows k → x ≡ stored_place rows o → x ≡ place_of rows 1 (num rows k 2)
   found_task k h e f = f ∙ stored_place_lem rows 1 (num rows k 2) (own_task k h e)
 
-  pub own_activity : (k : ℕ) {o : ℕ} → owner_kind (num rows k 0) ≡ 2 → o ≡ own_place rows k → o ≡ or_end rows (place_of rows 2 (num rows k 1))
+  pub own_activity : (k : ℕ) {o : ℕ} → owner_kind (num rows k 0) ≡ Some ActivityRow → o ≡ own_place rows k → o ≡ or_end rows (place_of rows 2 (num rows k 1))
   unfolding own_place owner_place owner_of
   own_activity k h e = rw h at e
 
@@ -30,8 +31,8 @@ module _ (rows : List ℤ) where
   own_resource k h e = rw h at e
 
   -- bookings and spans belong to activities
-  pub books : (k : ℕ) → is rows k 0 23 ≡ true → owner_kind (num rows k 0) ≡ 2
+  pub books : (k : ℕ) → is rows k 0 23 ≡ true → owner_kind (num rows k 0) ≡ Some ActivityRow
   books k e = ap owner_kind (is_num rows k 0 23 e) ∙ (unfold owner_kind in refl)
 
-  pub spans : (k : ℕ) → is rows k 0 24 ≡ true → owner_kind (num rows k 0) ≡ 2
+  pub spans : (k : ℕ) → is rows k 0 24 ≡ true → owner_kind (num rows k 0) ≡ Some ActivityRow
   spans k e = ap owner_kind (is_num rows k 0 24 e) ∙ (unfold owner_kind in refl)

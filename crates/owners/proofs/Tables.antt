@@ -10,7 +10,6 @@ use native.Mathlib.Nat.{le_antisymm}
 use native.Mathlib.Decide.{ℕ_discrete}
 use lib.ListN.{length, get_or, set, replicate, get_or-replicate, length-set, length-replicate}
 use lib.Seq.{get_or-set_same, get_or-set_other}
-use lib.Dec.{eqb}
 use lib.IntN.{ℤ}
 use mir.Syntax.{w64}
 use mir.Val.{Fits}
@@ -20,6 +19,8 @@ use Rattle.loops.specs.inner.Chain.{First, Stands}
 use Rattle.loops.proofs.SearchLaws.{count_le, counted_le}
 use Rattle.loops.proofs.PlaceLaws.{or_none_lem, count_next}
 use Rattle.loops.proofs.Walks.{itself, seek_hit, seek_next}
+use Rattle.owners.specs.declared.Owner.{Owner}
+use Rattle.owners.specs.declared.Owner.TheVariants.{TaskRow, ActivityRow, RequirementRow, ResourceRow, ConstraintRow}
 use Rattle.rows.specs.Cells.{row_count, num, is}
 use Rattle.sheet.specs.Places.{named, place_of, is_nth, nth_place, is_constraint, requirement_place, constraint_place}
 use Rattle.sheet.specs.inner.Index.{or_end}
@@ -29,20 +30,18 @@ use Rattle.owners.specs.inner.Owners.{owner_kind, owner_of, owner_place, own_pla
 
 -- ---- how large the entries are
 
+none_not_some : {j : ℕ} → ◌≡◌ {A = Option ℕ} None (Some j) → ⊥
+none_not_some e = let z : ◌≡◌ {A = ℕ} 0 1 = cc in omega arith
+
 -- an owner that is found is a row
-pub owner_within : (rows : List ℤ) (x k j : ℕ) → owner_of rows x k ≡ Some j → j < row_count rows
+pub owner_within : (rows : List ℤ) (x : Option Owner) (k j : ℕ) → owner_of rows x k ≡ Some j → j < row_count rows
 unfolding owner_of
-owner_within rows x k j = go (eqb x 1) (eqb x 2) (eqb x 5) (eqb x 11) (eqb x 17)
-  where
-    go : (b₁ b₂ b₃ b₄ b₅ : Bool) → cond b₁ (place_of rows 1 (num rows k 2)) (cond b₂ (place_of rows 2 (num rows k 1))
-        (cond b₃ (nth_place (named rows 5 (num rows k 1)) (num rows k 2) (row_count rows)) (cond b₄ (place_of rows 11 (num rows k 1))
-        (cond b₅ (nth_place (is_constraint rows) (num rows k 1) (row_count rows)) None)))) ≡ Some j → j < row_count rows
-    go true b₂ b₃ b₄ b₅ e = (placed rows 1 (num rows k 2) j e).within
-    go false true b₃ b₄ b₅ e = (placed rows 2 (num rows k 1) j e).within
-    go false false true b₄ b₅ e = (nth_at (named rows 5 (num rows k 1)) (num rows k 2) (row_count rows) j e).0
-    go false false false true b₅ e = (placed rows 11 (num rows k 1) j e).within
-    go false false false false true e = (nth_at (is_constraint rows) (num rows k 1) (row_count rows) j e).0
-    go false false false false false e = let z : ◌≡◌ {A = ℕ} 0 1 = cc in absurd (omega arith)
+owner_within rows (Some TaskRow) k j e = (placed rows 1 (num rows k 2) j e).within
+owner_within rows (Some ActivityRow) k j e = (placed rows 2 (num rows k 1) j e).within
+owner_within rows (Some RequirementRow) k j e = (nth_at (named rows 5 (num rows k 1)) (num rows k 2) (row_count rows) j e).0
+owner_within rows (Some ResourceRow) k j e = (placed rows 11 (num rows k 1) j e).within
+owner_within rows (Some ConstraintRow) k j e = (nth_at (is_constraint rows) (num rows k 1) (row_count rows) j e).0
+owner_within rows None k j e = absurd (none_not_some e)
 
 pub own_below : (rows : List ℤ) (k : ℕ) → own_place rows k ≤ row_count rows
 unfolding own_place owner_place
@@ -207,34 +206,34 @@ filling_end rows n k t l u e s h = record {
 
 -- ---- the row that a row belongs to, by the kind of its owner
 
-module _ (rows : List ℤ) (k : ℕ) {kind x : ℕ} (e : kind ≡ num rows k 0) (q : x ≡ owner_kind kind) where
-  pub own_at : (v : ℕ) → x ≡ v → or_end rows (owner_of rows v k) ≡ own_place rows k
+module _ (rows : List ℤ) (k : ℕ) {kind : ℕ} {x : Option Owner} (e : kind ≡ num rows k 0) (q : x ≡ owner_kind kind) where
+  pub own_at : (v : Option Owner) → x ≡ v → or_end rows (owner_of rows v k) ≡ own_place rows k
   unfolding own_place owner_place
   own_at v r = ap (λ y. or_end rows (owner_of rows y k)) (sym r ∙ q ∙ ap owner_kind e)
 
-  pub own_none : (x ≡ 1 → ⊥) → (x ≡ 2 → ⊥) → (x ≡ 5 → ⊥) → (x ≡ 11 → ⊥) → (x ≡ 17 → ⊥) → row_count rows ≡ own_place rows k
+  pub own_none : x ≡ None → row_count rows ≡ own_place rows k
   unfolding owner_of or_end
-  own_none a b c d f = sym (rw (ne_eqb x 1 a, ne_eqb x 2 b, ne_eqb x 5 c, ne_eqb x 11 d, ne_eqb x 17 f) at (sym (own_at x refl)))
+  own_none w = own_at None w
 
-  pub own_task : {v r : ℕ} {f : Option ℕ} → x ≡ 1 → v ≡ num rows k 2 → f ≡ place_of rows 1 v → r ≡ or_end rows f → r ≡ own_place rows k
+  pub own_task : {v r : ℕ} {f : Option ℕ} → x ≡ Some TaskRow → v ≡ num rows k 2 → f ≡ place_of rows 1 v → r ≡ or_end rows f → r ≡ own_place rows k
   unfolding owner_of
-  own_task w v f r = r ∙ ap (or_end rows) (rw v at f) ∙ own_at 1 w
+  own_task w v f r = r ∙ ap (or_end rows) (rw v at f) ∙ own_at (Some TaskRow) w
 
-  pub own_activity : {v r : ℕ} {f : Option ℕ} → x ≡ 2 → v ≡ num rows k 1 → f ≡ place_of rows 2 v → r ≡ or_end rows f → r ≡ own_place rows k
+  pub own_activity : {v r : ℕ} {f : Option ℕ} → x ≡ Some ActivityRow → v ≡ num rows k 1 → f ≡ place_of rows 2 v → r ≡ or_end rows f → r ≡ own_place rows k
   unfolding owner_of
-  own_activity w v f r = r ∙ ap (or_end rows) (rw v at f) ∙ own_at 2 w
+  own_activity w v f r = r ∙ ap (or_end rows) (rw v at f) ∙ own_at (Some ActivityRow) w
 
-  pub own_resource : {v r : ℕ} {f : Option ℕ} → x ≡ 11 → v ≡ num rows k 1 → f ≡ place_of rows 11 v → r ≡ or_end rows f → r ≡ own_place rows k
+  pub own_resource : {v r : ℕ} {f : Option ℕ} → x ≡ Some ResourceRow → v ≡ num rows k 1 → f ≡ place_of rows 11 v → r ≡ or_end rows f → r ≡ own_place rows k
   unfolding owner_of
-  own_resource w v f r = r ∙ ap (or_end rows) (rw v at f) ∙ own_at 11 w
+  own_resource w v f r = r ∙ ap (or_end rows) (rw v at f) ∙ own_at (Some ResourceRow) w
 
-  pub own_requirement : {a m r : ℕ} {f : Option ℕ} → x ≡ 5 → a ≡ num rows k 1 → m ≡ num rows k 2 → f ≡ requirement_place rows a m → r ≡ or_end rows f → r ≡ own_place rows k
+  pub own_requirement : {a m r : ℕ} {f : Option ℕ} → x ≡ Some RequirementRow → a ≡ num rows k 1 → m ≡ num rows k 2 → f ≡ requirement_place rows a m → r ≡ or_end rows f → r ≡ own_place rows k
   unfolding owner_of
-  own_requirement w a m f r = r ∙ ap (or_end rows) (rw (a, m) at f) ∙ own_at 5 w
+  own_requirement w a m f r = r ∙ ap (or_end rows) (rw (a, m) at f) ∙ own_at (Some RequirementRow) w
 
-  pub own_constraint : {m r : ℕ} → x ≡ 17 → m ≡ num rows k 1 → r ≡ or_end rows (constraint_place rows m) → r ≡ own_place rows k
+  pub own_constraint : {m r : ℕ} → x ≡ Some ConstraintRow → m ≡ num rows k 1 → r ≡ or_end rows (constraint_place rows m) → r ≡ own_place rows k
   unfolding owner_of
-  own_constraint w m r = (rw m at r) ∙ own_at 17 w
+  own_constraint w m r = (rw m at r) ∙ own_at (Some ConstraintRow) w
 
 -- the row of a booking's resource
 module _ (rows : List ℤ) (k : ℕ) {b : Bool} (e : b ≡ is rows k 0 23) where

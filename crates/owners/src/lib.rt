@@ -2,7 +2,7 @@
 // belong to a row are chains of places, as the rows of a kind are.
 #![tactic(auto)]
 
-ghost use Rattle.std.specs.Prelude.{◌≡◌, suc, ◌+◌, ◌*◌, ◌%◌, ◌<◌, ◌≤◌, true, cond, length, get_or, set};
+ghost use Rattle.std.specs.Prelude.{Some, ◌≡◌, suc, ◌+◌, ◌*◌, ◌%◌, ◌<◌, ◌≤◌, true, cond, length, get_or, set};
 ghost use Rattle.loops.specs.Search.{first_place, any_below};
 ghost use Rattle.loops.specs.inner.Chain.{First, Stands, same};
 ghost use Rattle.rows.specs.Cells.{row_count, num, is};
@@ -11,6 +11,7 @@ ghost use Rattle.sheet.specs.inner.Found.{found_of};
 ghost use Rattle.sheet.specs.inner.Index.{or_end, Kinds};
 ghost use Rattle.owners.specs.inner.Owners.{owner_kind, own_place, res_place, owned_by, owned_key, Numbered, Linked, Owned};
 
+use rows::Kind;
 use sheet::Found;
 
 // ---- a row by its number: among the requirements of an activity, or among the constraints
@@ -89,52 +90,66 @@ fn constraint_at(rows: &[i64], numbers: &[u16; 800], m: u64) -> usize
 
 // ---- the row that a row belongs to
 
-// The kind of the row that a row of each kind belongs to, 0 for none; 17 stands for the constraints.
-const OWNER_KINDS: [u8; 25] = [
-    0, 0, 1, 2, 2, 2, 5, 5, 2, 2, 2, 0, 11, 11, 11, 11, 2, 0, 0, 0, 0, 0, 17, 2, 2,
-];
+// What a row belongs to.
+#[derive(Clone, Copy, PartialEq, Eq)]
+pub enum Owner {
+    TaskRow,
+    ActivityRow,
+    RequirementRow,
+    ResourceRow,
+    ConstraintRow,
+}
 
-pub fn owner_kind(kind: u64) -> u8
+// What the rows of a kind belong to.
+#[tactic(auto, unfolding(crate::specs::inner::Owners::owner_kind))]
+pub fn owner_kind(kind: u64) -> Option<Owner>
     ensures { result ≡ owner_kind kind }
 {
-    if kind < 25 {
-        return OWNER_KINDS[kind as usize];
+    match Kind::try_from(kind).ok()? {
+        Kind::Activity => Some(Owner::TaskRow),
+        Kind::Overlap
+        | Kind::Split
+        | Kind::Requirement
+        | Kind::Predecessor
+        | Kind::Speed
+        | Kind::FixedTiming
+        | Kind::ActivityWindow
+        | Kind::Booking
+        | Kind::TimeOnlySpan => Some(Owner::ActivityRow),
+        Kind::Candidate | Kind::WantedSkill => Some(Owner::RequirementRow),
+        Kind::Skill | Kind::Companion | Kind::Transport | Kind::ResourceWindow => {
+            Some(Owner::ResourceRow)
+        }
+        Kind::Member => Some(Owner::ConstraintRow),
+        _ => None,
     }
-    0
 }
 
 fn own_place(rows: &[i64], kinds: &[u16; 3680], numbers: &[u16; 800], k: usize) -> usize
     requires { Kinds rows.now kinds.now × Numbered rows.now numbers.now }
     ensures { result ≡ own_place rows.now k }
 {
-    let x = owner_kind(rows::num_at(rows, k, 0));
-    if x == 1 {
-        return sheet::or_end(
-            rows,
-            sheet::find_task(rows, kinds, rows::num_at(rows, k, 2)),
-        );
+    match owner_kind(rows::num_at(rows, k, 0)) {
+        Some(Owner::TaskRow) => {
+            let task = rows::num_at(rows, k, 2);
+            sheet::or_end(rows, sheet::find_task(rows, kinds, task))
+        }
+        Some(Owner::ActivityRow) => {
+            let activity = rows::num_at(rows, k, 1);
+            sheet::or_end(rows, sheet::find_activity(rows, kinds, activity))
+        }
+        Some(Owner::RequirementRow) => {
+            let activity = rows::num_at(rows, k, 1);
+            let m = rows::num_at(rows, k, 2);
+            sheet::or_end(rows, find_requirement(rows, kinds, activity, m))
+        }
+        Some(Owner::ResourceRow) => {
+            let resource = rows::num_at(rows, k, 1);
+            sheet::or_end(rows, sheet::find_resource(rows, kinds, resource))
+        }
+        Some(Owner::ConstraintRow) => constraint_at(rows, numbers, rows::num_at(rows, k, 1)),
+        None => rows::row_count(rows),
     }
-    if x == 2 {
-        return sheet::or_end(
-            rows,
-            sheet::find_activity(rows, kinds, rows::num_at(rows, k, 1)),
-        );
-    }
-    if x == 5 {
-        let activity = rows::num_at(rows, k, 1);
-        let m = rows::num_at(rows, k, 2);
-        return sheet::or_end(rows, find_requirement(rows, kinds, activity, m));
-    }
-    if x == 11 {
-        return sheet::or_end(
-            rows,
-            sheet::find_resource(rows, kinds, rows::num_at(rows, k, 1)),
-        );
-    }
-    if x == 17 {
-        return constraint_at(rows, numbers, rows::num_at(rows, k, 1));
-    }
-    rows::row_count(rows)
 }
 
 fn res_place(rows: &[i64], kinds: &[u16; 3680], k: usize) -> usize
@@ -193,7 +208,7 @@ fn resource_of(rows: &[i64], links: &[u16; 1600], k: usize) -> usize
 
 // The row of the activity that row k, a booking or a time-only span, names.
 pub fn activity_of(rows: &[i64], links: &[u16; 1600], k: usize) -> Found
-    requires { Linked rows.now links.now × (k < row_count rows.now) × (owner_kind (num rows.now k 0) ≡ 2) }
+    requires { Linked rows.now links.now × (k < row_count rows.now) × (owner_kind (num rows.now k 0) ≡ Some Owner.ActivityRow) }
     ensures { found_of result ≡ activity_place rows.now (num rows.now k 1) }
 {
     sheet::found_at(rows, owner_of(rows, links, k))

@@ -1,18 +1,15 @@
 -- (2 * ms * work + d) / (2 * d) by long division with two digits of work. Assumes nothing.
-use mathlib.Core.Path.{◌≡◌, refl, sym, ap, ◌∙◌}
+use mathlib.Core.Path.{◌≡◌, sym, ap, ◌∙◌}
 use Prim.Native.Nat.{ℕ, ◌+◌, ◌*◌, ◌/◌, ◌%◌, ◌≤◌, ◌<◌}
 use native.Mathlib.Nat.{mul_comm, mul_assoc, mul_left_comm, mul-add, mul-le-mul, add-div_right, div-div-eq-div-mul, div-lt_iff_lt-mul, div-le_self, mod-lt, div-add-mod', add-mul-div_right, mul_right_comm}
 use native.Mathlib.Omega.{arith}
-use borrow.Author.Tests.{eq-eqb, ne_eqb, le-leb, lt-leb}
-use mathlib.Core.Bool.{Bool, true, false, cond, ◌&&◌, and-false}
-use Rattle.std.specs.Prelude.{None, Some}
-use lib.Dec.{leb}
-use Rattle.rounding.specs.declared.Time.{Time}
-use Rattle.rounding.specs.declared.Time.TheVariants.{Ms, TooLarge}
+use borrow.Author.Tests.{eq-eqb, ne_eqb, le-leb}
+use Rattle.std.specs.Prelude.{Some, Result, Ok}
+use Rattle.rounding.specs.declared.TooLarge.{TooLarge}
 use Rattle.rounding.proofs.Laws.{limit_within, limit_beyond}
 use mir.Syntax.{w64}
 use mir.Val.{Fits}
-use Rattle.rounding.specs.inner.Limited.{limited}
+use Rattle.rounding.specs.inner.Limited.{limited, too_large}
 use Rattle.part_share.specs.Share.{share_of}
 use Rattle.part_share.specs.inner.Within.{share_within}
 
@@ -89,7 +86,7 @@ parts ms work d M W D =
 
 -- ---- what the code works out: no step of it passes 64 bits
 
-pub share_none : (ms work d : ℕ) → d ≡ 0 → ms ≤ 4000000000000 → Ms ms ≡ limited (Some (share_of ms work d))
+pub share_none : (ms work d : ℕ) → d ≡ 0 → ms ≤ 4000000000000 → Ok ms ≡ limited (Some (share_of ms work d))
 share_none ms work d e M = limit_within ms (omega arith) ∙ ap (λ (n : ℕ). limited (Some n)) (sym (of_none ms work d e))
 
 module _ (ms work : ℕ) (M : ms ≤ 4000000000000) (W : work ≤ 4000000000000) where
@@ -103,10 +100,10 @@ module _ (ms work d : ℕ) (M : ms ≤ 4000000000000) (W : work ≤ 400000000000
   known : Parts ms work d
   known = parts ms work d M W (omega arith)
 
-  pub share_beyond : 4294967296 ≤ high_of ms work / d → TooLarge ≡ limited (Some (share_of ms work d))
+  pub share_beyond : 4294967296 ≤ high_of ms work / d → too_large ≡ limited (Some (share_of ms work d))
   share_beyond l = let k = known in limit_beyond (share_of ms work d) (omega arith)
 
-  pub share_is : {r : Time} → r ≡ limited (Some (high_of ms work / d * 2097152 + low_of ms work d / d + low_of ms work d % d * 2 / d)) → r ≡ limited (Some (share_of ms work d))
+  pub share_is : {r : Result ℕ TooLarge} → r ≡ limited (Some (high_of ms work / d * 2097152 + low_of ms work d / d + low_of ms work d % d * 2 / d)) → r ≡ limited (Some (share_of ms work d))
   share_is e = e ∙ ap (λ (n : ℕ). limited (Some n)) (sym known.sum)
 
   module _ (D : d ≤ 4000000000000) where
@@ -131,29 +128,6 @@ module _ (ms work d : ℕ) (M : ms ≤ 4000000000000) (W : work ≤ 400000000000
 
 -- ---- any times
 
--- none is worked out where a test fails
-refused : (a b c : Bool) (n : ℕ) → (a && (b && c)) ≡ false → TooLarge ≡ limited (cond (a && (b && c)) (Some n) None)
-unfolding limited
-refused a b c n e = rw e
-
-last_false : (a b : Bool) → (a && (b && false)) ≡ false
-last_false true true = refl
-last_false true false = refl
-last_false false b = refl
-
-module _ (ms work whole : ℕ) where
-  pub beyond_ms : 4000000000000 < ms → TooLarge ≡ limited (share_within ms work whole)
-  unfolding share_within
-  beyond_ms l = refused (leb ms 4000000000000) (leb work 4000000000000) (leb whole 4000000000000) (share_of ms work whole) (rw (lt-leb ms 4000000000000 l))
-
-  pub beyond_work : 4000000000000 < work → TooLarge ≡ limited (share_within ms work whole)
-  unfolding share_within
-  beyond_work l = refused (leb ms 4000000000000) (leb work 4000000000000) (leb whole 4000000000000) (share_of ms work whole) (rw (lt-leb work 4000000000000 l) (and-false (leb ms 4000000000000)))
-
-  pub beyond_whole : 4000000000000 < whole → TooLarge ≡ limited (share_within ms work whole)
-  unfolding share_within
-  beyond_whole l = refused (leb ms 4000000000000) (leb work 4000000000000) (leb whole 4000000000000) (share_of ms work whole) (rw (lt-leb whole 4000000000000 l) (last_false (leb ms 4000000000000) (leb work 4000000000000)))
-
-  pub shared : ms ≤ 4000000000000 → work ≤ 4000000000000 → whole ≤ 4000000000000 → Some (share_of ms work whole) ≡ share_within ms work whole
-  unfolding share_within
-  shared a b c = rw (le-leb ms 4000000000000 a, le-leb work 4000000000000 b, le-leb whole 4000000000000 c)
+pub shared : (ms work whole : ℕ) → ms ≤ 4000000000000 → work ≤ 4000000000000 → whole ≤ 4000000000000 → Some (share_of ms work whole) ≡ share_within ms work whole
+unfolding share_within
+shared ms work whole a b c = rw (le-leb ms 4000000000000 a, le-leb work 4000000000000 b, le-leb whole 4000000000000 c)

@@ -1,2 +1,2 @@
--- Lemmas of `share`.
+-- Lemmas of `part_share`.
 pub mod Laws

@@ -7,39 +7,44 @@ ghost use Rattle.rounding.specs.inner.Limited.{limited};
 ghost use Rattle.part_share.specs.Share.{share_of};
 ghost use Rattle.part_share.specs.inner.Within.{share_within};
 
-use rounding::Time;
+use rounding::TooLarge;
+
+// No time in a sheet is greater.
+const LONGEST: u64 = 4000000000000;
+
+// 2^21. A time has two digits of 21 bits.
+const DIGIT: u64 = 2097152;
+
+// With a first digit of 2^32 the quotient is 2^53.
+const FIRST_TOO_LARGE: u64 = 4294967296;
 
 // The product ms * work has up to 84 bits. It is divided in two halves of work, 21 bits each, as in long division with two digits;
-// what is left at the end, doubled, rounds.
-fn divide(ms: u64, work: u64, whole: u64) -> Time
+// what is left at the end, doubled, rounds. Division of u128 is a routine that a program linked without libraries does not have.
+fn divide(ms: u64, work: u64, whole: u64) -> Result<u64, TooLarge>
     requires { (ms ≤ 4000000000000) × (work ≤ 4000000000000) × (whole ≤ 4000000000000) }
     ensures { result ≡ limited (Some (share_of ms work whole)) }
 {
     if whole == 0 {
-        return Time::Ms(ms);
+        return Ok(ms);
     }
-    let high = ms * (work / 2097152);
+    let high = ms * (work / DIGIT);
     let high_digit = high / whole;
-    if 4294967296 <= high_digit {
-        return Time::TooLarge;
+    if FIRST_TOO_LARGE <= high_digit {
+        return Err(TooLarge);
     }
-    let low = high % whole * 2097152 + ms * (work % 2097152);
-    let n = high_digit * 2097152 + low / whole + low % whole * 2 / whole;
+    let low = high % whole * DIGIT + ms * (work % DIGIT);
+    let n = high_digit * DIGIT + low / whole + low % whole * 2 / whole;
     rounding::limit(n)
 }
 
 // The share of any times. No sheet has greater ones than those that are divided.
-pub fn share(ms: u64, work: u64, whole: u64) -> Time
+#[tactic(auto, unfolding(crate::specs::inner::Within::share_within, rounding::specs::inner::Limited::limited))]
+pub fn share(ms: u64, work: u64, whole: u64) -> Result<u64, TooLarge>
     ensures { result ≡ limited (share_within ms work whole) }
 {
-    if 4000000000000 < ms {
-        return Time::TooLarge;
+    if ms <= LONGEST && work <= LONGEST && whole <= LONGEST {
+        divide(ms, work, whole)
+    } else {
+        Err(TooLarge)
     }
-    if 4000000000000 < work {
-        return Time::TooLarge;
-    }
-    if 4000000000000 < whole {
-        return Time::TooLarge;
-    }
-    divide(ms, work, whole)
 }

@@ -22,6 +22,7 @@ use Rattle.sheet.specs.inner.Found.{found_of}
 use Rattle.sheet.specs.declared.Found.{Found}
 use Rattle.sheet.specs.declared.Found.TheVariants.{At, Nothing}
 use Rattle.sheet.proofs.Lookups.{is_num, found_some}
+use Rattle.owners.specs.declared.Owner.TheVariants.{ActivityRow, ResourceRow}
 use Rattle.owners.specs.inner.Owners.{owner_kind, own_place, owned_by}
 use Rattle.model.proofs.Accepting.{has_owner}
 use Rattle.model.proofs.OwnedLaws.{own_activity, own_resource, owned_at}
@@ -56,7 +57,7 @@ module _ (rows : List ℤ) where
 
   -- the companions of a resource and the times from it, the timings of an activity
   module _ (o b : ℕ) {a a' : ℕ} {f : Found} (q : f ≡ At o) (p : found_of f ≡ place_of rows 11 a') (e : a ≡ a') where
-    resource_blind : (x : ℕ) → owner_kind x ≡ 11 → Blind (owned_by rows o x) (names rows x a b)
+    resource_blind : (x : ℕ) → owner_kind x ≡ Some ResourceRow → Blind (owned_by rows o x) (names rows x a b)
     resource_blind x k = rw e (names_blind x 11 o _ b (λ i h. own_resource rows x i k h) (sym (found_some q p)))
 
     pub companions_blind : Blind (owned_by rows o 13) (names rows 13 a b)
@@ -69,7 +70,7 @@ module _ (rows : List ℤ) where
   pub read_is : (j c : ℕ) {v w : ℕ} {r b : Bool} → v ≡ w → r ≡ is rows j c v → r ≡ b → is rows j c w ≡ b
   read_is j c e q h = rw (← e) (sym q ∙ h)
 
-  pub timings_blind : (x o b : ℕ) {a a' : ℕ} → owner_kind x ≡ 2 → a ≡ a' → Some o ≡ place_of rows 2 a' → Blind (owned_by rows o x) (names rows x a b)
+  pub timings_blind : (x o b : ℕ) {a a' : ℕ} → owner_kind x ≡ Some ActivityRow → a ≡ a' → Some o ≡ place_of rows 2 a' → Blind (owned_by rows o x) (names rows x a b)
   timings_blind x o b k e p = rw e (names_blind x 2 o _ b (λ i h. own_activity rows x i k h) p)
 
   -- ---- the bookings of a piece

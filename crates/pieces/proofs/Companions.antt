@@ -19,7 +19,7 @@ use Rattle.loops.proofs.SearchLaws.{any_hit, any_none, none_below}
 use Rattle.loops.proofs.PlaceLaws.{any_same}
 use Rattle.loops.proofs.StoreLaws.{filled_start}
 use Rattle.rows.specs.Cells.{row_count, cell, num, is}
-use Rattle.rows.specs.Class.{n?_c}
+use Rattle.rows.specs.declared.Class.TheVariants.{OptionalNumber}
 use Rattle.rows.specs.Ranges.{is_none, in_class}
 use Rattle.sheet.specs.Places.{of_kind}
 use Rattle.sheet.specs.Refusals.{half_part}
@@ -56,7 +56,7 @@ module _ (rows : List ℤ) where
   beq_of false false e = refl
 
   module _ (acc : Accepted rows) where
-    pub index_class : (k : ℕ) → is rows k 0 23 ≡ true → in_class n?_c (cell rows k 7) ≡ true
+    pub index_class : (k : ℕ) → is rows k 0 23 ≡ true → in_class OptionalNumber (cell rows k 7) ≡ true
     index_class k h = rw (is_num rows k 0 23 h) at (acc.columns k 7)
 
     pub both_parts : (k : ℕ) → k < row_count rows → is rows k 0 23 ≡ true → beq (is_none (cell rows k 7)) (is_none (cell rows k 8)) ≡ true

@@ -18,7 +18,7 @@ use Rattle.loops.specs.Numbers.{to_nat}
 use Rattle.loops.proofs.BoolLaws.{and_left, and_right, or_left}
 use Rattle.loops.proofs.NumberLaws.{eqb_swap, neither_below}
 use Rattle.rows.specs.Cells.{cell}
-use Rattle.rows.specs.Class.{n_c, n?_c}
+use Rattle.rows.specs.declared.Class.TheVariants.{Number, OptionalNumber}
 use Rattle.rows.specs.Ranges.{between, is_none, in_range, in_class}
 use Rattle.rows.proofs.Signed.{number_low, number_high}
 use Rattle.model.specs.Sheet.{number, nothing}
@@ -117,7 +117,7 @@ key_read rows k q f e = rw (to_z-of_z f, q) at e
 
 -- ---- the order of the numbers
 
--- the index that a column n? holds
+-- the index that a column of class OptionalNumber holds
 abbrev pub index_in : ℤ → Option ℤ
 index_in x = cond (is_none x) None (Some x)
 
@@ -136,7 +136,7 @@ pub key_pos : (a : ℕ) → index_key (pos a) ≡ a + 1000001
 unfolding index_key
 key_pos a = refl
 
-pub key_most : (x : ℤ) → in_class n_c x ≡ true → index_key x ≤ 2000001
+pub key_most : (x : ℤ) → in_class Number x ≡ true → index_key x ≤ 2000001
 key_most (pos n) e = rw (key_pos n) (omega (arith, number_high n e))
 key_most (negsuc n) e = rw (key_neg n (number_low n e)) (omega arith)
 
@@ -166,11 +166,11 @@ none_key (negsuc a) e =
     let l : 9223372036854775807 ≤ a = leb-true 9223372036854775807 a (and_right (leb a 9223372036854775807) (leb 9223372036854775807 a) e) in
     sym (low_is (negsuc a) (lt-ltb 999999 a (omega arith)))
 
-ranged : (x : ℤ) → in_class n?_c x ≡ true → is_none x ≡ false → Ranged x
+ranged : (x : ℤ) → in_class OptionalNumber x ≡ true → is_none x ≡ false → Ranged x
 unfolding in_class in_range between
 ranged x e f = and_left (le_z (negsuc 999999) x) (le_z x (pos 1000000)) (or_left _ (is_none x) e f)
 
-pub before_key : (x y : ℤ) → in_class n?_c x ≡ true → in_class n?_c y ≡ true
+pub before_key : (x y : ℤ) → in_class OptionalNumber x ≡ true → in_class OptionalNumber y ≡ true
     → before_index (index_in x) (index_in y) ≡ ltb (index_key x) (index_key y)
 before_key x y f g = go (is_none x) (is_none y) refl refl
   where
@@ -180,7 +180,7 @@ before_key x y f g = go (is_none x) (is_none y) refl refl
     go false true p q = rw (none_key y q) (sym (le-ltb (index_key x) 0 (omega arith)))
     go false false p q = ranged_before x y (ranged x f p) (ranged y g q)
 
-pub same_key : (x y : ℤ) → in_class n?_c x ≡ true → in_class n?_c y ≡ true → same_index (index_in x) (index_in y) ≡ eqb (index_key x) (index_key y)
+pub same_key : (x y : ℤ) → in_class OptionalNumber x ≡ true → in_class OptionalNumber y ≡ true → same_index (index_in x) (index_in y) ≡ eqb (index_key x) (index_key y)
 same_key x y f g = ap₂ (λ a b. not a && not b) (before_key x y f g) (before_key y x g f) ∙ neither_below (index_key y) (index_key x) ∙ eqb_swap (index_key y) (index_key x)
 
 -- ---- the part of a booking

@@ -5,64 +5,58 @@
 
 ghost use Rattle.std.specs.Prelude.{◌≤◌, length};
 
-use calendar::WorkEnd;
+use calendar::{Calendars, Places, TimeWindow, WindowKind, WorkEnd};
 use std::io;
 use stored_numbers::Gathered;
 use stored_run::Run;
 
 // An instant or an amount. The last four of 64 bits are spelled -4 to -1, for a list's numbers go only to 2^63 - 1.
 fn instant(z: i64) -> u64 {
-    if z == -1 {
-        return 18446744073709551615;
+    match z {
+        -1 => u64::MAX,
+        -2 => u64::MAX - 1,
+        -3 => u64::MAX - 2,
+        -4 => u64::MAX - 3,
+        _ => rows::nat(z),
     }
-    if z == -2 {
-        return 18446744073709551614;
-    }
-    if z == -3 {
-        return 18446744073709551613;
-    }
-    if z == -4 {
-        return 18446744073709551612;
-    }
-    rows::nat(z)
 }
 
 fn number_at(numbers: &[i64], i: usize) -> i64 {
-    if i < numbers.len() {
-        return numbers[i];
-    }
-    0
+    numbers.get(i).copied().unwrap_or(0)
 }
 
-// The numbers as instants.
-fn instants(numbers: &[i64], out: &mut [u64]) {
-    let mut i = 0;
-    while i < out.len() {
-        out[i] = instant(number_at(numbers, i));
-        i += 1;
+// The numbers, three by three, as windows.
+fn windows_of(numbers: &[i64]) -> [TimeWindow; 800] {
+    let none = TimeWindow {
+        kind: WindowKind::Neither,
+        start: 0,
+        end: 0,
+    };
+    let mut windows = [none; 800];
+    for (i, w) in windows.iter_mut().enumerate() {
+        *w = TimeWindow {
+            kind: WindowKind::from(instant(number_at(numbers, 3 * i))),
+            start: instant(number_at(numbers, 3 * i + 1)),
+            end: instant(number_at(numbers, 3 * i + 2)),
+        };
     }
+    windows
 }
 
-// The numbers of a line that judges, from a place on, as places of windows.
-fn places(given: &[i64], from: usize, out: &mut [usize]) {
-    let mut i = 0;
-    while i < out.len() {
-        out[i] = rows::nat(number_at(given, sum(from, i))) as usize;
-        i += 1;
+// The numbers of a line that judges, two by two, as the places of calendars.
+fn places_of(numbers: &[i64]) -> [Places; 8] {
+    let mut places = [Places { from: 0, to: 0 }; 8];
+    for (i, p) in places.iter_mut().enumerate() {
+        *p = Places {
+            from: rows::nat(number_at(numbers, 2 * i)) as usize,
+            to: rows::nat(number_at(numbers, 2 * i + 1)) as usize,
+        };
     }
-}
-
-fn sum(a: usize, b: usize) -> usize {
-    if a < 100 {
-        if b < 100 {
-            return a + b;
-        }
-    }
-    a
+    places
 }
 
 fn is_bool(found: bool, yes: i64) -> bool {
-    if found { yes == 1 } else { yes == 0 }
+    i64::from(found) == yes
 }
 
 // An end is 0 and the instant; a pause, never and beyond 64 bits are 1, 2 and 3.
@@ -77,64 +71,46 @@ fn is_end(found: WorkEnd, outcome: i64, end: i64) -> bool {
 
 // The windows from place FROM to place TO of the one calendar, or the calendars as pairs of places, stand last in a line:
 // `FX,Y,YES,FROM,TO`, `WX,YES,FROM,TO`, `JX,YES,PLACE..`, `AX,Y,MS,PLACE..`, `EX,WORK,OUTCOME,END,PLACE..`, `BX,WORK,OUTCOME,END,PLACE..`.
-fn is_answer(letter: u8, given: &[i64; 16], w: &[u64], cs: &[usize]) -> bool {
+fn is_answer(letter: u8, given: &[i64; 16], calendars: Calendars) -> bool {
     let x = instant(given[0]);
     let y = instant(given[1]);
+    let none = Places { from: 0, to: 0 };
+    let one = calendars.places.first().copied().unwrap_or(none);
+    let windows = one.windows_in(calendars.windows);
     match letter {
-        b'F' => is_bool(
-            calendar::interval_fits(w, place(cs, 0), place(cs, 1), x, y),
-            given[2],
-        ),
-        b'W' => is_bool(
-            calendar::is_working_time(w, place(cs, 0), place(cs, 1), x),
-            given[1],
-        ),
-        b'J' => is_bool(calendar::joint_working(cs, w, x), given[1]),
-        b'A' => calendar::joint_available_ms(cs, w, x, y) == instant(given[2]),
-        b'E' => is_end(
-            calendar::joint_work_end(cs, w, x, given[1]),
-            given[2],
-            given[3],
-        ),
-        b'B' => is_end(calendar::end_from(cs, w, x, y), given[2], given[3]),
+        b'F' => is_bool(calendar::interval_fits(windows, x, y), given[2]),
+        b'W' => is_bool(calendar::is_working_time(windows, x), given[1]),
+        b'J' => is_bool(calendars.joint_working(x), given[1]),
+        b'A' => calendars.joint_available_ms(x, y) == instant(given[2]),
+        b'E' => is_end(calendars.joint_work_end(x, given[1]), given[2], given[3]),
+        b'B' => is_end(calendars.end_from(x, y), given[2], given[3]),
         _ => false,
     }
-}
-
-fn place(cs: &[usize], i: usize) -> usize {
-    if i < cs.len() { cs[i] } else { 0 }
 }
 
 // How many numbers a line has before its places.
 fn before_places(letter: u8) -> usize {
     match letter {
-        b'W' => 2,
-        b'J' => 2,
-        b'F' => 3,
-        b'A' => 3,
-        b'E' => 4,
-        b'B' => 4,
+        b'W' | b'J' => 2,
+        b'F' | b'A' => 3,
+        b'E' | b'B' => 4,
         _ => 16,
     }
 }
 
 // Whether the question of a line of k numbers over n windows' numbers comes out so.
 fn question_passes(letter: u8, given: &[i64; 16], k: usize, numbers: &[i64], n: usize) -> bool {
-    let mut w = [0u64; 2400];
-    let mut cs = [0usize; 16];
-    instants(numbers, &mut w);
     let from = before_places(letter);
-    places(given, from, &mut cs);
-    if k < from {
+    if k < from || k > 16 || n > 2400 {
         return false;
     }
-    let count = k - from;
-    if n <= 2400 {
-        if count <= 16 {
-            return is_answer(letter, given, &w[..n], &cs[..count]);
-        }
-    }
-    false
+    let windows = windows_of(numbers);
+    let places = places_of(&given[from..k]);
+    let calendars = Calendars {
+        windows: &windows[..n / 3],
+        places: &places[..(k - from) / 2],
+    };
+    is_answer(letter, given, calendars)
 }
 
 // Whether the case of these lines comes out as the line that judges it says.

@@ -1,7 +1,7 @@
 -- Worked examples of the definitions of derived times, by computation. Assumes nothing.
 use mathlib.Core.Path.{◌≡◌, refl}
 use mathlib.Core.List.{[], ◌∷◌}
-use Rattle.std.specs.Prelude.{Some}
+use Rattle.std.specs.Prelude.{Some, Ok}
 use Prim.Native.Nat.{ℕ}
 use lib.ListN.{replicate}
 use lib.IntN.{pos, negsuc}
@@ -11,7 +11,7 @@ use Rattle.part_share.specs.Share.{share_of}
 use Rattle.resource_timing.specs.declared.ActivityDuration.{ActivityDuration}
 use Rattle.resource_timing.specs.declared.ResourceTiming.TheVariants.{Speed, Duration}
 use Rattle.resource_timing.specs.declared.Piece.TheVariants.{InPart}
-use Rattle.resource_timing.specs.declared.Derived.TheVariants.{Within, TooLarge}
+use Rattle.rounding.specs.inner.Limited.{too_large}
 use Rattle.resource_timing.specs.Durations.{part_of, piece_duration, piece_fixed, at_speed, timed_duration}
 use Rattle.resource_timing.specs.inner.Limits.{within}
 
@@ -34,18 +34,18 @@ examples = (refl, refl, refl)
 
 -- the process 4,000,000,000,000 at 2^-10 passes, and at 2^-20 over two resources it is too large
 pub slow :
-    (within (timed_duration (ms 0 4000000000000 0) (Speed slowest ∷ [])) ≡ Within (ms 0 4096000000000000 0))
-    × (within (timed_duration (ms 0 4000000000000 0) (Speed slowest ∷ Speed slowest ∷ [])) ≡ TooLarge)
+    (within (timed_duration (ms 0 4000000000000 0) (Speed slowest ∷ [])) ≡ Ok (ms 0 4096000000000000 0))
+    × (within (timed_duration (ms 0 4000000000000 0) (Speed slowest ∷ Speed slowest ∷ [])) ≡ too_large)
 unfolding within timed_duration at_speed divided_by rounded half_up of_int div mul eq of_bits
 slow = (refl, refl)
 
 -- A product that has run down to 0: no quotient, whatever the process. One resource less, and the product is the least float. A product
 -- that has run up to infinity: the quotient is 0.
 pub run_out :
-    (within (timed_duration (ms 0 0 0) (replicate 107 (Speed slowest))) ≡ Within (ms 0 0 0))
-    × (within (timed_duration (ms 0 0 0) (replicate 108 (Speed slowest))) ≡ TooLarge)
-    × (within (timed_duration (ms 0 1 0) (replicate 108 (Speed slowest))) ≡ TooLarge)
-    × (within (timed_duration (ms 1 4000000000000 2) (replicate 103 (Speed fastest))) ≡ Within (ms 1 0 2))
+    (within (timed_duration (ms 0 0 0) (replicate 107 (Speed slowest))) ≡ Ok (ms 0 0 0))
+    × (within (timed_duration (ms 0 0 0) (replicate 108 (Speed slowest))) ≡ too_large)
+    × (within (timed_duration (ms 0 1 0) (replicate 108 (Speed slowest))) ≡ too_large)
+    × (within (timed_duration (ms 1 4000000000000 2) (replicate 103 (Speed fastest))) ≡ Ok (ms 1 0 2))
 unfolding within timed_duration at_speed divided_by rounded half_up of_int div mul eq of_bits
 run_out = (refl, refl, refl, refl)
 
@@ -71,8 +71,8 @@ pub parts :
     × (piece_duration (InPart (part_of (pos 1) 4 10 5)) (ms 1 10 2) ≡ ms 1 4 7)
     × (piece_duration (InPart (part_of (negsuc 0) 4 10 5)) (ms 1 10 2) ≡ ms 1 4 2)
     × (piece_fixed (InPart (part_of (pos 1) 4 10 5)) (ms 3 20 4) ≡ ms 3 8 9)
-    × (within (Some (piece_fixed (InPart (part_of (pos 0) 8192 1 0)) (ms 8191 1099511627775 0))) ≡ Within (ms 8191 9007199254732800 0))
-    × (within (Some (piece_fixed (InPart (part_of (pos 0) 8192 1 0)) (ms 8192 1099511627775 0))) ≡ TooLarge)
-    × (within (Some (piece_fixed (InPart (part_of (pos 0) 4000000000000 1 0)) (ms 0 4000000000000 0))) ≡ TooLarge)
+    × (within (Some (piece_fixed (InPart (part_of (pos 0) 8192 1 0)) (ms 8191 1099511627775 0))) ≡ Ok (ms 8191 9007199254732800 0))
+    × (within (Some (piece_fixed (InPart (part_of (pos 0) 8192 1 0)) (ms 8192 1099511627775 0))) ≡ too_large)
+    × (within (Some (piece_fixed (InPart (part_of (pos 0) 4000000000000 1 0)) (ms 0 4000000000000 0))) ≡ too_large)
 unfolding within share_of
 parts = (refl, refl, refl, refl, refl, refl, refl)

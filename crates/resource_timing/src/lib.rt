@@ -1,13 +1,12 @@
 // The time of a piece, an activity or one of its parts, on the resources that it runs on.
 #![tactic(auto)]
 
-ghost use Rattle.std.specs.Prelude.{◌≡◌, ◌+◌};
-ghost use Rattle.std.specs.Prelude.{Some};
+ghost use Rattle.std.specs.Prelude.{◌≡◌, ◌+◌, ◌<◌, ◌^◌, Some, OkIff};
 ghost use Rattle.rounding.specs.inner.Limited.{limited};
 ghost use Rattle.resource_timing.specs.Durations.{total_ms, part_of, in_part, piece_duration, start, at_speed};
-ghost use Rattle.resource_timing.specs.inner.Limits.{within, timed_of, time_of, longer_of, fixed_in, fixed_with, timed_with, derived_of};
+ghost use Rattle.resource_timing.specs.inner.Limits.{within, timed_of, longer_of, fixed_in, timed_with, derived_of};
 
-use rounding::Time;
+use rounding::TooLarge;
 
 // Time components of an activity.
 #[derive(Clone, Copy)]
@@ -16,6 +15,9 @@ pub struct ActivityDuration {
     pub process_ms: u64,
     pub teardown_ms: u64,
 }
+
+// A duration whose total is below 2^53, or word that it is refused.
+pub type Derived = Result<ActivityDuration, TooLarge>;
 
 // How an activity's time changes on one resource: processing runs at a speed, or the activity takes this long here.
 #[derive(Clone, Copy)]
@@ -32,112 +34,64 @@ pub struct PartTimes {
     pub overhead_ms: u64,
 }
 
-// What a piece is judged as: the activity whole, or the part it is.
+// What a piece is judged as: the activity whole, or the part it is. No Option, since the whole activity is a piece too.
 #[derive(Clone, Copy)]
 pub enum Piece {
     Whole,
     InPart(PartTimes),
 }
 
-// A duration whose total is below 2^53, or word that there is none.
-#[derive(Clone, Copy)]
-pub enum Derived {
-    Within(ActivityDuration),
-    TooLarge,
-}
-
-// The fixed duration of greatest total so far, if there is any.
-#[derive(Clone, Copy)]
-enum Fixed {
-    Nothing,
-    Standing(Derived),
-}
-
-// What the resources of a piece have made of its time so far: the product of their speeds, and the fixed duration that stands.
+// What the resources of a piece have made of its time so far: the product of their speeds, and the fixed duration of greatest total, if
+// there is any.
 #[derive(Clone, Copy)]
 pub struct Timed {
     speed: f64,
-    fixed: Fixed,
+    fixed: Option<Derived>,
 }
 
 impl ActivityDuration {
     // Total duration (setup + process + teardown).
-    pub fn total_ms(self) -> Time
+    #[tactic(auto, unfolding(rounding::specs::inner::Limited::limited))]
+    pub fn total_ms(self) -> Result<u64, TooLarge>
         ensures { result ≡ limited (Some (total_ms self)) }
     {
-        let setup = self.setup_ms;
-        let process = self.process_ms;
-        let teardown = self.teardown_ms;
-        if 9007199254740992 <= setup {
-            return Time::TooLarge;
-        }
-        if 9007199254740992 <= process {
-            return Time::TooLarge;
-        }
-        if 9007199254740992 <= teardown {
-            return Time::TooLarge;
-        }
-        rounding::limit(setup + process + teardown)
+        let sum = self.setup_ms.checked_add(self.process_ms).ok_or(TooLarge)?;
+        rounding::limit(sum.checked_add(self.teardown_ms).ok_or(TooLarge)?)
     }
 
     // The duration where its total is below 2^53.
-    fn derived(self) -> Derived
+    #[tactic(auto, unfolding(rounding::specs::inner::Limited::limited, crate::specs::inner::Limits::within))]
+    fn within(self) -> Derived
         ensures { result ≡ within (Some self) }
     {
-        let total = self.total_ms();
-        match total {
-            Time::Ms(_) => Derived::Within(self),
-            Time::TooLarge => Derived::TooLarge,
-        }
+        self.total_ms()?;
+        Ok(self)
     }
 
     // The duration with its processing divided by a product of speeds; a product of 1.0 changes nothing.
+    #[tactic(auto, unfolding(rounding::specs::inner::Limited::limited, crate::specs::inner::Limits::within, crate::specs::Durations::at_speed))]
     fn at_speed(self, speed: f64) -> Derived
         ensures { result ≡ within (at_speed self speed) }
     {
         if speed == 1.0 {
-            return self.derived();
+            return self.within();
         }
-        let setup = self.setup_ms;
-        let process = self.process_ms;
-        let teardown = self.teardown_ms;
-        let divided = rounding::divided(process, speed);
-        match divided {
-            Time::Ms(n) => {
-                let d = ActivityDuration {
-                    setup_ms: setup,
-                    process_ms: n,
-                    teardown_ms: teardown,
-                };
-                d.derived()
-            }
-            Time::TooLarge => Derived::TooLarge,
-        }
+        let process_ms = rounding::divided(self.process_ms, speed)?;
+        ActivityDuration { process_ms, ..self }.within()
     }
 }
 
-impl Derived {
-    // The total, where it is below 2^53.
-    fn total_ms(self) -> Time
-        ensures { result ≡ time_of self }
-    {
-        match self {
-            Derived::Within(d) => d.total_ms(),
-            Derived::TooLarge => Time::TooLarge,
-        }
-    }
-
-    // The duration of greater total, the first of two equal ones.
-    fn longer(self, next: Derived) -> Derived
-        ensures { result ≡ longer_of self next }
-    {
-        let Time::Ms(standing) = self.total_ms() else {
-            return Derived::TooLarge;
-        };
-        let Time::Ms(total) = next.total_ms() else {
-            return Derived::TooLarge;
-        };
-        if standing < total { next } else { self }
+// The duration of greater total, the first of two equal ones.
+#[tactic(auto, unfolding(rounding::specs::inner::Limited::limited, crate::specs::inner::Limits::longer_of, crate::specs::inner::Limits::time_of))]
+fn longer(first: Derived, next: Derived) -> Derived
+    ensures { result ≡ longer_of first next }
+{
+    let a = first?;
+    let b = next?;
+    if a.total_ms()? < b.total_ms()? {
+        Ok(b)
+    } else {
+        Ok(a)
     }
 }
 
@@ -145,93 +99,50 @@ impl Derived {
 pub fn part_of(index: i64, work: u64, whole: u64, overhead: u64) -> PartTimes
     ensures { result ≡ part_of index work whole overhead }
 {
-    if 0 < index {
-        return PartTimes {
-            work_ms: work,
-            whole_ms: whole,
-            overhead_ms: overhead,
-        };
-    }
     PartTimes {
         work_ms: work,
         whole_ms: whole,
-        overhead_ms: 0,
+        overhead_ms: if 0 < index { overhead } else { 0 },
     }
 }
 
-// A teardown with a part's overhead.
-fn with_overhead(teardown: u64, overhead: u64) -> Time
-    ensures { result ≡ limited (Some (teardown + overhead)) }
-{
-    if 9007199254740992 <= teardown {
-        return Time::TooLarge;
-    }
-    if 9007199254740992 <= overhead {
-        return Time::TooLarge;
-    }
-    rounding::limit(teardown + overhead)
-}
-
-// A duration with another processing time, and with the part's overhead in its teardown, at a product of speeds.
-fn in_part(d: ActivityDuration, process: u64, p: PartTimes, speed: f64) -> Derived
-    ensures { result ≡ within (at_speed (in_part d process p) speed) }
-{
-    let setup = d.setup_ms;
-    let teardown = with_overhead(d.teardown_ms, p.overhead_ms);
-    match teardown {
-        Time::Ms(n) => {
-            let x = ActivityDuration {
-                setup_ms: setup,
-                process_ms: process,
-                teardown_ms: n,
-            };
-            x.at_speed(speed)
-        }
-        Time::TooLarge => Derived::TooLarge,
-    }
-}
-
-// A resource's own duration for the activity, as the part has it.
-fn fixed_in_part(d: ActivityDuration, p: PartTimes) -> Derived
-    ensures { result ≡ within (fixed_in (Piece.InPart p) d) }
-{
-    let process = part_share::share(d.process_ms, p.work_ms, p.whole_ms);
-    match process {
-        Time::Ms(n) => in_part(d, n, p, 1.0),
-        Time::TooLarge => Derived::TooLarge,
+impl PartTimes {
+    // A duration with another processing time, and with the part's overhead in its teardown.
+    fn of(self, d: ActivityDuration, process_ms: u64) -> Derived
+        ensures { OkIff result (d.teardown_ms + self.overhead_ms < 2 ^ 64) (in_part d process_ms self) }
+    {
+        let teardown_ms = d.teardown_ms.checked_add(self.overhead_ms).ok_or(TooLarge)?;
+        Ok(ActivityDuration {
+            process_ms,
+            teardown_ms,
+            ..d
+        })
     }
 }
 
 impl Piece {
     // The activity's duration, as the piece has it, at a product of speeds.
+    #[tactic(auto, using(crate::proofs::Laws::at_beyond))]
     fn at_speed(self, base: ActivityDuration, speed: f64) -> Derived
         ensures { result ≡ within (at_speed (piece_duration self base) speed) }
     {
         match self {
             Piece::Whole => base.at_speed(speed),
-            Piece::InPart(p) => in_part(base, p.work_ms, p, speed),
+            Piece::InPart(p) => p.of(base, p.work_ms)?.at_speed(speed),
         }
     }
 
     // A resource's own duration for the activity, as the piece has it.
+    #[tactic(auto, unfolding(rounding::specs::inner::Limited::limited, crate::specs::inner::Limits::within))]
     fn fixed(self, d: ActivityDuration) -> Derived
         ensures { result ≡ within (fixed_in self d) }
     {
         match self {
-            Piece::Whole => d.derived(),
-            Piece::InPart(p) => fixed_in_part(d, p),
-        }
-    }
-}
-
-impl Fixed {
-    // One fixed duration more.
-    fn with(self, d: Derived) -> Fixed
-        ensures { result ≡ fixed_with self d }
-    {
-        match self {
-            Fixed::Nothing => Fixed::Standing(d),
-            Fixed::Standing(f) => Fixed::Standing(f.longer(d)),
+            Piece::Whole => d.within(),
+            Piece::InPart(p) => {
+                let process_ms = part_share::share(d.process_ms, p.work_ms, p.whole_ms)?;
+                p.of(d, process_ms)?.within()
+            }
         }
     }
 }
@@ -243,25 +154,31 @@ impl Timed {
     {
         Timed {
             speed: 1.0,
-            fixed: Fixed::Nothing,
+            fixed: None,
         }
     }
 
     // One resource more that the piece runs on, by the activity's timing there.
+    #[tactic(auto, unfolding(crate::specs::inner::Limits::timed_with))]
     pub fn on(self, piece: Piece, timing: ResourceTiming) -> Timed
         ensures { result ≡ timed_with self piece timing }
     {
-        let speed = self.speed;
-        let fixed = self.fixed;
         match timing {
             ResourceTiming::Speed(s) => Timed {
-                speed: speed * s,
-                fixed: fixed,
+                speed: self.speed * s,
+                ..self
             },
-            ResourceTiming::Duration(d) => Timed {
-                speed: speed,
-                fixed: fixed.with(piece.fixed(d)),
-            },
+            ResourceTiming::Duration(d) => {
+                let next = piece.fixed(d);
+                let fixed = match self.fixed {
+                    Some(first) => longer(first, next),
+                    None => next,
+                };
+                Timed {
+                    fixed: Some(fixed),
+                    ..self
+                }
+            }
         }
     }
 
@@ -269,11 +186,9 @@ impl Timed {
     pub fn duration(self, piece: Piece, base: ActivityDuration) -> Derived
         ensures { result ≡ derived_of self (piece_duration piece base) }
     {
-        let speed = self.speed;
-        let fixed = self.fixed;
-        match fixed {
-            Fixed::Nothing => piece.at_speed(base, speed),
-            Fixed::Standing(d) => d,
+        match self.fixed {
+            Some(d) => d,
+            None => piece.at_speed(base, self.speed),
         }
     }
 }

@@ -9,10 +9,9 @@ use lib.Ieee.Nearest.{div_same}
 use lib.Ieee.Positive.{num, den, den_pos}
 use lib.Ieee.Digits.{back}
 use Rattle.rounding.specs.Rounding.{half_up, rounded, divided_by}
-use Rattle.rounding.specs.inner.Limited.{limited}
-use Rattle.rounding.specs.declared.Time.{Time}
-use Rattle.rounding.specs.declared.Time.TheVariants.{Ms, TooLarge}
-use Rattle.std.specs.Prelude.{Option, None, Some}
+use Rattle.rounding.specs.inner.Limited.{limited, too_large}
+use Rattle.rounding.specs.declared.TooLarge.{TooLarge}
+use Rattle.std.specs.Prelude.{Option, None, Some, Result, Ok}
 use lib.Ieee.Bits.{nan_bits_is, nan_bits_above}
 
 -- (2n / d + 1) / 2
@@ -139,38 +138,38 @@ doubled (fin false m e) t p q =
 
 -- ---- the limit
 
-pub limit_within : (n : ℕ) → n < 2 ^ 53 → Ms n ≡ limited (Some n)
+pub limit_within : (n : ℕ) → n < 2 ^ 53 → Ok n ≡ limited (Some n)
 unfolding limited
 limit_within n h = rw (lt-ltb n (2 ^ 53) h)
 
-pub limit_beyond : (n : ℕ) → 2 ^ 53 ≤ n → TooLarge ≡ limited (Some n)
+pub limit_beyond : (n : ℕ) → 2 ^ 53 ≤ n → too_large ≡ limited (Some n)
 unfolding limited
 limit_beyond n h = rw (le-ltb n (2 ^ 53) h)
 
 -- what a limited time tells of the time
-pub limited_ms : (o : Option ℕ) (n : ℕ) → Ms n ≡ limited o → o ≡ Some n
+pub limited_ms : (o : Option ℕ) (n : ℕ) → Ok n ≡ limited o → o ≡ Some n
 unfolding limited
-limited_ms None n e = absurd (let z : ◌≡◌ {A = ℕ} 0 1 = cc in omega arith)
+limited_ms None n e = cc
 limited_ms (Some m) n e = go (ltb m (2 ^ 53)) e
   where
-    go : (b : Bool) → Ms n ≡ cond b (Ms m) TooLarge → Some m ≡ Some n
+    go : (b : Bool) → Ok n ≡ cond b (Ok m) too_large → Some m ≡ Some n
     go true h = cc
-    go false h = absurd (let z : ◌≡◌ {A = ℕ} 0 1 = cc in omega arith)
+    go false h = cc
 
-pub limited_below : (n m : ℕ) → Ms m ≡ limited (Some n) → (m ≡ n) × (n < 2 ^ 53)
+pub limited_below : (n m : ℕ) → Ok m ≡ limited (Some n) → (m ≡ n) × (n < 2 ^ 53)
 unfolding limited
 limited_below n m e = go (ltb n (2 ^ 53)) (ltb-true n (2 ^ 53)) e
   where
-    go : (b : Bool) → (b ≡ true → n < 2 ^ 53) → Ms m ≡ cond b (Ms n) TooLarge → (m ≡ n) × (n < 2 ^ 53)
+    go : (b : Bool) → (b ≡ true → n < 2 ^ 53) → Ok m ≡ cond b (Ok n) too_large → (m ≡ n) × (n < 2 ^ 53)
     go true k h = (cc, k refl)
-    go false k h = absurd (let z : ◌≡◌ {A = ℕ} 0 1 = cc in omega arith)
+    go false k h = absurd cc
 
-pub limited_large : (n : ℕ) → TooLarge ≡ limited (Some n) → 2 ^ 53 ≤ n
+pub limited_large : (n : ℕ) → too_large ≡ limited (Some n) → 2 ^ 53 ≤ n
 unfolding limited
 limited_large n e = go (ltb n (2 ^ 53)) (ltb-false n (2 ^ 53)) e
   where
-    go : (b : Bool) → (b ≡ false → 2 ^ 53 ≤ n) → TooLarge ≡ cond b (Ms n) TooLarge → 2 ^ 53 ≤ n
-    go true k h = absurd (let z : ◌≡◌ {A = ℕ} 0 1 = cc in omega arith)
+    go : (b : Bool) → (b ≡ false → 2 ^ 53 ≤ n) → too_large ≡ cond b (Ok n) too_large → 2 ^ 53 ≤ n
+    go true k h = absurd cc
     go false k h = k refl
 
 -- ---- what `rounded` is, by the tests of the code
@@ -189,7 +188,7 @@ half_above : (n d : ℕ) → 0 < d → 2 ^ 53 * d ≤ n → 2 ^ 53 ≤ half_up n
 unfolding half_up
 half_above n d D h = (le-div_iff_mul-le {k = 2 * d} (omega arith)).1 (omega arith)
 
-below_limit : (x : Float) → T (fits binary64 x) → le (fin false 0 (pos 0)) x ≡ true → lt x (fin false 1 (pos 53)) ≡ true → Ms (half_up (num x) (den x)) ≡ limited (rounded x)
+below_limit : (x : Float) → T (fits binary64 x) → le (fin false 0 (pos 0)) x ≡ true → lt x (fin false 1 (pos 53)) ≡ true → Ok (half_up (num x) (den x)) ≡ limited (rounded x)
 unfolding rounded
 below_limit nan t p q = absurd (true≢false (sym (unfold lt in q)))
 below_limit (inf true) t p q = absurd (true≢false (sym (unfold le in p)))
@@ -207,7 +206,7 @@ below_limit (fin false m e) t p q =
     let h : m * up e * 1 < 1 * 2 ^ 53 * down e = ltb-true (m * up e * 1) (1 * 2 ^ 53 * down e) q' in
     limit_within _ (half_below binary64 false m e refl t (omega arith))
 
-pub above_limit : (x : Float) → lt x (fin false 1 (pos 53)) ≡ false → TooLarge ≡ limited (rounded x)
+pub above_limit : (x : Float) → lt x (fin false 1 (pos 53)) ≡ false → too_large ≡ limited (rounded x)
 unfolding rounded limited lt
 above_limit nan q = refl
 above_limit (inf s) q = refl
@@ -224,7 +223,7 @@ from_zero : (a b : ℕ) → a ≡ 0 → (ltb a b || (eqb a b && true)) ≡ true
 from_zero a zero e = rw e
 from_zero a (suc b) e = rw (lt-ltb a (suc b) (omega arith))
 
-pub below_zero : (x : Float) → le (fin false 0 (pos 0)) x ≡ false → TooLarge ≡ limited (rounded x)
+pub below_zero : (x : Float) → le (fin false 0 (pos 0)) x ≡ false → too_large ≡ limited (rounded x)
 unfolding rounded limited le
 below_zero nan p = refl
 below_zero (inf s) p = refl
@@ -258,10 +257,10 @@ module _ (x : Float) (t : T (fits binary64 x)) (p : le (fin false 0 (pos 0)) x �
     pub twice_fits : Fits w64 (k + 1)
     twice_fits = let d = doubled x t p q in record { fits = omega (arith, d.0.whole, d.1) }
 
-    pub nearest_is : Ms ((k + 1) / 2) ≡ limited (rounded x)
-    nearest_is = ap (λ (n : ℕ). Ms ((n + 1) / 2)) (e ∙ (doubled x t p q).0.whole) ∙ ap Ms (half_of_double (num x) (den x) (den_pos x)) ∙ below_limit x t p q
+    pub nearest_is : Ok ((k + 1) / 2) ≡ limited (rounded x)
+    nearest_is = ap (λ (n : ℕ). Ok ((n + 1) / 2)) (e ∙ (doubled x t p q).0.whole) ∙ ap Ok (half_of_double (num x) (den x) (den_pos x)) ∙ below_limit x t p q
 
-pub divided_is : (process : ℕ) (product : Float) {x : Float} {r : Time} → r ≡ limited (rounded (div binary64 x product)) → x ≡ of_int binary64 (pos process)
+pub divided_is : (process : ℕ) (product : Float) {x : Float} {r : Result ℕ TooLarge} → r ≡ limited (rounded (div binary64 x product)) → x ≡ of_int binary64 (pos process)
     → r ≡ limited (divided_by process product)
 unfolding divided_by
 divided_is process product g e = rw (← e) g

@@ -1,3 +1,4 @@
+pub mod KindNumbers
 pub mod Signed
-pub mod Signs
+pub mod CellLaws
 pub mod Tables

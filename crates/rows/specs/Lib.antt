@@ -1,5 +1,4 @@
 pub mod Cells
-pub mod Class
+pub mod Kinds
 pub mod Ranges
 pub mod Table
-pub mod inner

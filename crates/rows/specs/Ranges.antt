@@ -2,7 +2,8 @@
 use Rattle.std.specs.Prelude.{◌^◌, ◌-◌, Bool, true, false, ◌&&◌, ◌||◌, ℤ, pos}
 use Rattle.std.specs.Int.Signed.{le_z}
 use Rattle.loops.specs.Numbers.{minus}
-use Rattle.rows.specs.Class.{Class, blank_c, kind_c, id_c, n_c, u_c, t_c, m_c, g_c, f_c, share_c, speed_c, n?_c, t?_c, m?_c, task_c, activity_c, resource_c, requirement_c, constraint_c}
+use Rattle.rows.specs.declared.Class.{Class}
+use Rattle.rows.specs.declared.Class.TheVariants.{Blank, RowKind, Id, Number, Count, Instant, Duration, SignedTime, Flag, ShareBits, SpeedBits, OptionalNumber, OptionalInstant, OptionalDuration, TaskId, ActivityId, ResourceId, RequirementPlace, ConstraintPlace}
 
 -- the least number and the greatest, both included; and whether it may be none instead
 pub record Range : Type 0 where
@@ -19,25 +20,25 @@ or_none r = record { least = r.least; greatest = r.greatest; none? = true }
 
 -- A float's bits lie between those of its ends: 0.0 and 1.0, 2^-10 and 2^10. The kind is judged by refusal 2, and a blank column is 0.
 abbrev pub range : Class → Range
-range id_c = pos 0 to pos 999_999_999
-range n_c = minus 1_000_000 to pos 1_000_000
-range u_c = pos 0 to pos 1_000_000
-range t_c = pos 0 to pos 4_000_000_000_000
-range m_c = pos 0 to pos 4_000_000_000_000
-range g_c = minus 4_000_000_000_000 to pos 4_000_000_000_000
-range f_c = pos 0 to pos 1
-range share_c = pos 0 to pos 0x3ff0_0000_0000_0000
-range speed_c = pos 0x3f50_0000_0000_0000 to pos 0x4090_0000_0000_0000
-range n?_c = or_none (minus 1_000_000 to pos 1_000_000)
-range t?_c = or_none (pos 0 to pos 4_000_000_000_000)
-range m?_c = or_none (pos 0 to pos 4_000_000_000_000)
-range task_c = pos 0 to pos 999_999_999
-range activity_c = pos 0 to pos 999_999_999
-range resource_c = pos 0 to pos 999_999_999
-range requirement_c = pos 0 to pos 1_000_000
-range constraint_c = pos 0 to pos 1_000_000
-range blank_c = pos 0 to pos 0
-range kind_c = minus (2 ^ 63) to pos (2 ^ 63 - 1)
+range Id = pos 0 to pos 999_999_999
+range Number = minus 1_000_000 to pos 1_000_000
+range Count = pos 0 to pos 1_000_000
+range Instant = pos 0 to pos 4_000_000_000_000
+range Duration = pos 0 to pos 4_000_000_000_000
+range SignedTime = minus 4_000_000_000_000 to pos 4_000_000_000_000
+range Flag = pos 0 to pos 1
+range ShareBits = pos 0 to pos 0x3ff0_0000_0000_0000
+range SpeedBits = pos 0x3f50_0000_0000_0000 to pos 0x4090_0000_0000_0000
+range OptionalNumber = or_none (minus 1_000_000 to pos 1_000_000)
+range OptionalInstant = or_none (pos 0 to pos 4_000_000_000_000)
+range OptionalDuration = or_none (pos 0 to pos 4_000_000_000_000)
+range TaskId = pos 0 to pos 999_999_999
+range ActivityId = pos 0 to pos 999_999_999
+range ResourceId = pos 0 to pos 999_999_999
+range RequirementPlace = pos 0 to pos 1_000_000
+range ConstraintPlace = pos 0 to pos 1_000_000
+range Blank = pos 0 to pos 0
+range RowKind = minus (2 ^ 63) to pos (2 ^ 63 - 1)
 
 -- low to high, both included
 unfoldable pub between : ℤ → ℤ → ℤ → Bool

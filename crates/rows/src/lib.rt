@@ -2,198 +2,254 @@
 // validation of rows and the text reader read.
 #![tactic(auto)]
 
-ghost use Rattle.std.specs.Prelude.{◌≡◌, ◌&&◌, suc, ◌+◌, ◌<◌, pos, eqb, get_or};
+ghost use Rattle.std.specs.Prelude.{◌≡◌, suc, ◌<◌, [], eqb, get_or, Some, None, MatchResult};
 ghost use Rattle.loops.specs.Numbers.{to_nat};
-ghost use Rattle.rows.specs.Table.{class_of, width};
-ghost use Rattle.rows.specs.inner.Codes.{class_table, code_of, class_at, range_of, range_table};
-ghost use Rattle.rows.specs.Ranges.{range, between, is_none, in_range, in_class};
+ghost use Rattle.rows.specs.Kinds.{kind_of, kind_number};
+ghost use Rattle.rows.specs.Table.{columns, class_of, width};
+ghost use Rattle.rows.specs.Ranges.{range, is_none, in_class};
 ghost use Rattle.rows.specs.Cells.{row_count, cell, num, is};
 
-// The classes of columns. What names an owner that must be in the sheet has a class of its own.
-const X: u8 = 0;
+use Class::{
+    ActivityId, ConstraintPlace, Count, Duration, Flag, Id, Instant, Number, OptionalDuration,
+    OptionalInstant, OptionalNumber, RequirementPlace, ResourceId, ShareBits, SignedTime,
+    SpeedBits, TaskId,
+};
 
-const KIND: u8 = 1;
+// ---- kinds
 
-const ID: u8 = 2;
+// The kinds of rows. Each counts one more than the one before it, from 1.
+#[derive(Clone, Copy, PartialEq, Eq)]
+pub enum Kind {
+    Task = 1,
+    Activity,
+    Overlap,
+    Split,
+    Requirement,
+    Candidate,
+    WantedSkill,
+    Predecessor,
+    Speed,
+    FixedTiming,
+    Resource,
+    Skill,
+    Companion,
+    Transport,
+    ResourceWindow,
+    ActivityWindow,
+    Precedence,
+    Capacity,
+    TimeWindow,
+    NoOverlap,
+    Synchronize,
+    Member,
+    Booking,
+    TimeOnlySpan,
+}
 
-const N: u8 = 3;
+// A number that stands for no kind.
+#[derive(Clone, Copy, PartialEq, Eq)]
+pub struct UnknownKind;
 
-const U: u8 = 4;
+impl TryFrom<u64> for Kind {
+    type Error = UnknownKind;
 
-const T: u8 = 5;
+    ghost try_from_gives = { λ n r. MatchResult r (λ kind. kind_of n ≡ Some kind) (λ _. kind_of n ≡ None) };
 
-const M: u8 = 6;
+    fn try_from(number: u64) -> Result<Self, UnknownKind> {
+        match number {
+            1 => Ok(Kind::Task),
+            2 => Ok(Kind::Activity),
+            3 => Ok(Kind::Overlap),
+            4 => Ok(Kind::Split),
+            5 => Ok(Kind::Requirement),
+            6 => Ok(Kind::Candidate),
+            7 => Ok(Kind::WantedSkill),
+            8 => Ok(Kind::Predecessor),
+            9 => Ok(Kind::Speed),
+            10 => Ok(Kind::FixedTiming),
+            11 => Ok(Kind::Resource),
+            12 => Ok(Kind::Skill),
+            13 => Ok(Kind::Companion),
+            14 => Ok(Kind::Transport),
+            15 => Ok(Kind::ResourceWindow),
+            16 => Ok(Kind::ActivityWindow),
+            17 => Ok(Kind::Precedence),
+            18 => Ok(Kind::Capacity),
+            19 => Ok(Kind::TimeWindow),
+            20 => Ok(Kind::NoOverlap),
+            21 => Ok(Kind::Synchronize),
+            22 => Ok(Kind::Member),
+            23 => Ok(Kind::Booking),
+            24 => Ok(Kind::TimeOnlySpan),
+            _ => Err(UnknownKind),
+        }
+    }
+}
 
-const G: u8 = 7;
+impl Kind {
+    // The number that stands for the kind.
+    pub fn number(self) -> u64
+        ensures { result ≡ kind_number self }
+    {
+        self as u64
+    }
+}
 
-const F: u8 = 8;
+// ---- the classes of columns
 
-const SHARE: u8 = 9;
+// What a column holds. A column that names what must be in the sheet has a class of its own.
+#[derive(Clone, Copy, PartialEq, Eq)]
+pub enum Class {
+    // past the columns of the row's kind
+    Blank,
+    // column 0
+    RowKind,
+    Id,
+    Number,
+    Count,
+    Instant,
+    Duration,
+    // an amount of time that may be negative
+    SignedTime,
+    Flag,
+    // the bits of a float
+    ShareBits,
+    SpeedBits,
+    // these three may be none
+    OptionalNumber,
+    OptionalInstant,
+    OptionalDuration,
+    TaskId,
+    ActivityId,
+    ResourceId,
+    RequirementPlace,
+    ConstraintPlace,
+}
 
-const SPEED: u8 = 10;
-
-const NQ: u8 = 11;
-
-const TQ: u8 = 12;
-
-const MQ: u8 = 13;
-
-const TASK: u8 = 14;
-
-const ACT: u8 = 15;
-
-const RES: u8 = 16;
-
-const REQ: u8 = 17;
-
-const CON: u8 = 18;
-
-// The columns of each kind, from column 1 on.
-const CLASSES: [[u8; 9]; 25] = [
-    [X, X, X, X, X, X, X, X, X],
-    [ID, TQ, TQ, X, X, X, X, X, X],
-    [ID, TASK, N, M, M, M, F, TQ, X],
-    [ACT, SHARE, G, X, X, X, X, X, X],
-    [ACT, N, M, M, X, X, X, X, X],
-    [ACT, ID, N, U, X, X, X, X, X],
-    [ACT, REQ, ID, X, X, X, X, X, X],
-    [ACT, REQ, ID, X, X, X, X, X, X],
-    [ACT, ID, X, X, X, X, X, X, X],
-    [ACT, ID, SPEED, X, X, X, X, X, X],
-    [ACT, ID, M, M, M, X, X, X, X],
-    [ID, ID, N, X, X, X, X, X, X],
-    [RES, ID, X, X, X, X, X, X, X],
-    [RES, ID, X, X, X, X, X, X, X],
-    [RES, ID, M, X, X, X, X, X, X],
-    [RES, F, T, T, X, X, X, X, X],
-    [ACT, F, T, T, X, X, X, X, X],
-    [ID, ID, G, X, X, X, X, X, X],
-    [ID, N, X, X, X, X, X, X, X],
-    [ID, T, T, X, X, X, X, X, X],
-    [ID, X, X, X, X, X, X, X, X],
-    [X, X, X, X, X, X, X, X, X],
-    [CON, ID, X, X, X, X, X, X, X],
-    [ID, ID, ID, T, T, M, NQ, MQ, X],
-    [ID, ID, T, T, X, X, X, X, X],
+// The columns of each kind, from column 1 on. Kind 0 is none.
+static CLASSES: [&[Class]; 25] = [
+    &[],
+    &[Id, OptionalInstant, OptionalInstant],
+    &[
+        Id,
+        TaskId,
+        Number,
+        Duration,
+        Duration,
+        Duration,
+        Flag,
+        OptionalInstant,
+    ],
+    &[ActivityId, ShareBits, SignedTime],
+    &[ActivityId, Number, Duration, Duration],
+    &[ActivityId, Id, Number, Count],
+    &[ActivityId, RequirementPlace, Id],
+    &[ActivityId, RequirementPlace, Id],
+    &[ActivityId, Id],
+    &[ActivityId, Id, SpeedBits],
+    &[ActivityId, Id, Duration, Duration, Duration],
+    &[Id, Id, Number],
+    &[ResourceId, Id],
+    &[ResourceId, Id],
+    &[ResourceId, Id, Duration],
+    &[ResourceId, Flag, Instant, Instant],
+    &[ActivityId, Flag, Instant, Instant],
+    &[Id, Id, SignedTime],
+    &[Id, Number],
+    &[Id, Instant, Instant],
+    &[Id],
+    &[],
+    &[ConstraintPlace, Id],
+    &[
+        Id,
+        Id,
+        Id,
+        Instant,
+        Instant,
+        Duration,
+        OptionalNumber,
+        OptionalDuration,
+    ],
+    &[Id, Id, Instant, Instant],
 ];
 
-// The table laid out once, to be lent to its readers: a constant is laid out anew wherever it is named.
-pub fn class_table() -> [[u8; 9]; 25]
-    ensures { result ≡ class_table }
+// The columns of a kind, from column 1 on.
+fn columns_of(kind: u64) -> &'static [Class]
+    ensures { result.now ≡ get_or columns kind [] }
 {
-    CLASSES
+    if kind < 25 {
+        CLASSES[kind as usize]
+    } else {
+        &[]
+    }
 }
 
 // The class of column c in a row of a kind.
-pub fn class_of(table: &[[u8; 9]; 25], kind: u64, c: usize) -> u8
-    requires { table.now ≡ class_table }
-    ensures { result ≡ code_of (class_of kind c) }
+#[tactic(auto, using(crate::proofs::Tables::class_later))]
+pub fn class_of(kind: u64, c: usize) -> Class
+    ensures { result ≡ class_of kind c }
 {
     if c == 0 {
-        return KIND;
+        return Class::RowKind;
     }
-    if c < 10 {
-        if kind < 25 {
-            return table[kind as usize][c - 1];
-        }
-    }
-    X
+    let column = columns_of(kind).get(c - 1);
+    column.copied().unwrap_or(Class::Blank)
 }
 
-// Whether a row of a kind has n numbers, the kind's own among them: the last stands in one of its columns, and the next column is blank.
-pub fn has_width(table: &[[u8; 9]; 25], kind: u64, n: usize) -> bool
-    requires { table.now ≡ class_table }
+// Whether a row of a kind has n numbers, the kind's own among them.
+#[tactic(auto, unfolding(crate::specs::Table::width))]
+pub fn has_width(kind: u64, n: usize) -> bool
     ensures { result ≡ eqb n (suc (width kind)) }
 {
-    if class_of(table, kind, n) != X {
-        return false;
-    }
-    class_of(table, kind, n - 1) != X
-}
-
-// Whether x lies between low and high, both included.
-fn is_within(low: i64, high: i64, x: i64) -> bool
-    ensures { result ≡ between low high x }
-{
-    low <= x && x <= high
+    n == columns_of(kind).len() + 1
 }
 
 // Whether a number stands for none.
+#[tactic(auto, unfolding(crate::specs::Ranges::is_none, crate::specs::Ranges::between))]
 pub fn is_none(x: i64) -> bool
     ensures { result ≡ is_none x }
 {
-    is_within(-9223372036854775808, -9223372036854775808, x)
+    x == i64::MIN
 }
 
-// Of each class the least number, the greatest, and 1 where it may be none.
-const RANGES: [[i64; 3]; 19] = [
-    [0, 0, 0],
-    [-9223372036854775808, 9223372036854775807, 0],
-    [0, 999999999, 0],
-    [-1000000, 1000000, 0],
-    [0, 1000000, 0],
-    [0, 4000000000000, 0],
-    [0, 4000000000000, 0],
-    [-4000000000000, 4000000000000, 0],
-    [0, 1, 0],
-    [0, 0x3ff0_0000_0000_0000, 0],
-    [0x3f50_0000_0000_0000, 0x4090_0000_0000_0000, 0],
-    [-1000000, 1000000, 1],
-    [0, 4000000000000, 1],
-    [0, 4000000000000, 1],
-    [0, 999999999, 0],
-    [0, 999999999, 0],
-    [0, 999999999, 0],
-    [0, 1000000, 0],
-    [0, 1000000, 0],
-];
-
-// The same, laid out once.
-pub fn range_table() -> [[i64; 3]; 19]
-    ensures { result ≡ range_table }
-{
-    RANGES
-}
-
-// Column j of a class's ranges.
-fn range_at(ranges: &[[i64; 3]; 19], class: u8, j: usize) -> i64
-    requires { (ranges.now ≡ range_table) × (j < 3) }
-    ensures { result ≡ get_or (range_of (class_at class)) j (pos 0) }
-{
-    if class < 19 {
-        return ranges[class as usize][j];
+impl Class {
+    // The least number and the greatest of a column of the class, where it is not none.
+    fn ends(self) -> (i64, i64)
+        ensures { result ≡ ((range self).least, (range self).greatest) }
+    {
+        match self {
+            Class::Blank => (0, 0),
+            Class::RowKind => (i64::MIN, i64::MAX),
+            Class::Id | Class::TaskId | Class::ActivityId | Class::ResourceId => (0, 999_999_999),
+            Class::Number | Class::OptionalNumber => (-1_000_000, 1_000_000),
+            Class::Count | Class::RequirementPlace | Class::ConstraintPlace => (0, 1_000_000),
+            Class::Instant | Class::Duration => (0, 4_000_000_000_000),
+            Class::OptionalInstant | Class::OptionalDuration => (0, 4_000_000_000_000),
+            Class::SignedTime => (-4_000_000_000_000, 4_000_000_000_000),
+            Class::Flag => (0, 1),
+            Class::ShareBits => (0, 0x3ff0_0000_0000_0000),
+            Class::SpeedBits => (0x3f50_0000_0000_0000, 0x4090_0000_0000_0000),
+        }
     }
-    0
-}
 
-// Whether x lies in the range of the class; whether it may be none is another question.
-fn in_range(ranges: &[[i64; 3]; 19], class: u8, x: i64) -> bool
-    requires { ranges.now ≡ range_table }
-    ensures { result ≡ in_range (class_at class) x }
-{
-    is_within(range_at(ranges, class, 0), range_at(ranges, class, 1), x)
-}
-
-// Whether a class has none.
-fn or_none(ranges: &[[i64; 3]; 19], class: u8) -> bool
-    requires { ranges.now ≡ range_table }
-    ensures { result ≡ (range (class_at class)).none? }
-{
-    range_at(ranges, class, 2) == 1
-}
-
-// Whether x may stand in a column of the class.
-pub fn in_class(ranges: &[[i64; 3]; 19], class: u8, x: i64) -> bool
-    requires { ranges.now ≡ range_table }
-    ensures { result ≡ in_class (class_at class) x }
-{
-    if in_range(ranges, class, x) {
-        return true;
+    // Whether a column of the class may be none.
+    fn is_optional(self) -> bool
+        ensures { result ≡ (range self).none? }
+    {
+        matches!(
+            self,
+            Class::OptionalNumber | Class::OptionalInstant | Class::OptionalDuration
+        )
     }
-    if or_none(ranges, class) {
-        return is_none(x);
+
+    // Whether x may stand in a column of the class.
+    #[tactic(auto, unfolding(crate::specs::Ranges::in_class, crate::specs::Ranges::in_range, crate::specs::Ranges::between))]
+    pub fn allows(self, x: i64) -> bool
+        ensures { result ≡ in_class self x }
+    {
+        let (least, greatest) = self.ends();
+        (least..=greatest).contains(&x) || self.is_optional() && is_none(x)
     }
-    false
 }
 
 // ---- cells
@@ -206,25 +262,22 @@ pub fn row_count(rows: &[i64]) -> usize
 }
 
 // Column c of row k, 0 past the end.
+#[tactic(auto, unfolding(crate::specs::Cells::cell))]
 pub fn cell_at(rows: &[i64], k: usize, c: usize) -> i64
     ensures { result ≡ cell rows.now k c }
 {
-    if c < 10 {
-        if k < rows.len() {
-            let at = k * 10 + c;
-            if at < rows.len() {
-                return rows[at];
-            }
-        }
+    if c < 10 && k < rows.len() {
+        rows.get(k * 10 + c).copied().unwrap_or(0)
+    } else {
+        0
     }
-    0
 }
 
 // A number as a natural number, 0 for a negative one.
 pub fn nat(x: i64) -> u64
     ensures { result ≡ to_nat x }
 {
-    if x < 0 { 0 } else { x as u64 }
+    u64::try_from(x).unwrap_or(0)
 }
 
 // Column c of row k as a natural number.
@@ -235,6 +288,7 @@ pub fn num_at(rows: &[i64], k: usize, c: usize) -> u64
 }
 
 // Whether column c of row k is v.
+#[tactic(auto, unfolding(crate::specs::Cells::is))]
 pub fn is_at(rows: &[i64], k: usize, c: usize, v: u64) -> bool
     ensures { result ≡ is rows.now k c v }
 {
@@ -246,6 +300,19 @@ pub fn id_at(rows: &[i64], k: usize, c: usize) -> u64
     ensures value { result ≡ num rows.now k c }
     ensures bound { result < 9223372036854775808 }
 {
-    let x = cell_at(rows, k, c);
-    if x < 0 { 0 } else { x as u64 }
+    nat(cell_at(rows, k, c))
+}
+
+// The kind of row k, if it is one.
+pub fn kind_at(rows: &[i64], k: usize) -> Option<Kind>
+    ensures { result ≡ kind_of (num rows.now k 0) }
+{
+    Kind::try_from(num_at(rows, k, 0)).ok()
+}
+
+// Whether row k is of that kind.
+pub fn is_of_kind(rows: &[i64], k: usize, kind: Kind) -> bool
+    ensures { result ≡ is rows.now k 0 (kind_number kind) }
+{
+    is_at(rows, k, 0, kind.number())
 }

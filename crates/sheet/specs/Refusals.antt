@@ -8,7 +8,8 @@ use Rattle.refusals.specs.Refusals.{refuse}
 use Rattle.refusals.specs.declared.Reason.TheVariants.{Misshapen, UnknownKind, OutOfRange, Stray, Twice}
 use Rattle.refusals.specs.declared.Refusal.{Refusal}
 use Rattle.rows.specs.Cells.{row_count, cell, num, is}
-use Rattle.rows.specs.Class.{Class, blank_c, kind_c, id_c, n_c, u_c, t_c, m_c, g_c, f_c, share_c, speed_c, n?_c, t?_c, m?_c, task_c, activity_c, resource_c, requirement_c, constraint_c}
+use Rattle.rows.specs.declared.Class.{Class}
+use Rattle.rows.specs.declared.Class.TheVariants.{TaskId, ActivityId, ResourceId, RequirementPlace, ConstraintPlace}
 use Rattle.rows.specs.Table.{class_of}
 use Rattle.rows.specs.Ranges.{is_none, in_class}
 use Rattle.sheet.specs.Places.{task_place, activity_place, resource_place, requirement_place, constraint_place}
@@ -48,25 +49,12 @@ has_members rows (Some k) = leb 20 (num rows k 0) && leb (num rows k 0) 21
 
 -- what column c of row k names by its class is absent
 unfoldable pub lacks : Class → List ℤ → ℕ → ℕ → Bool
-lacks task_c rows k c = is_absent (task_place rows (num rows k c))
-lacks activity_c rows k c = is_absent (activity_place rows (num rows k c))
-lacks resource_c rows k c = is_absent (resource_place rows (num rows k c))
-lacks requirement_c rows k c = is_absent (requirement_place rows (num rows k 1) (num rows k c))
-lacks constraint_c rows k c = not (has_members rows (constraint_place rows (num rows k c)))
-lacks blank_c rows k c = false
-lacks kind_c rows k c = false
-lacks id_c rows k c = false
-lacks n_c rows k c = false
-lacks u_c rows k c = false
-lacks t_c rows k c = false
-lacks m_c rows k c = false
-lacks g_c rows k c = false
-lacks f_c rows k c = false
-lacks share_c rows k c = false
-lacks speed_c rows k c = false
-lacks n?_c rows k c = false
-lacks t?_c rows k c = false
-lacks m?_c rows k c = false
+lacks TaskId rows k c = is_absent (task_place rows (num rows k c))
+lacks ActivityId rows k c = is_absent (activity_place rows (num rows k c))
+lacks ResourceId rows k c = is_absent (resource_place rows (num rows k c))
+lacks RequirementPlace rows k c = is_absent (requirement_place rows (num rows k 1) (num rows k c))
+lacks ConstraintPlace rows k c = not (has_members rows (constraint_place rows (num rows k c)))
+lacks _ rows k c = false
 
 unfoldable pub absent_at : List ℤ → ℕ → ℕ → Bool
 absent_at rows k c = lacks (class_of (num rows k 0) c) rows k c

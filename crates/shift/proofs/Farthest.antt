@@ -16,7 +16,7 @@ use Rattle.loops.proofs.SearchLaws.{any_none}
 use Rattle.rows.specs.Table.{class_of}
 use Rattle.rows.specs.Ranges.{between, is_none, in_range, in_class}
 use Rattle.rows.specs.Cells.{cell, num}
-use Rattle.rows.proofs.Signs.{cell_past, cell_wide}
+use Rattle.rows.proofs.CellLaws.{cell_past, cell_wide}
 use Rattle.rows.proofs.Tables.{class_wide}
 use Rattle.definition.specs.CheckSchedule.{findings}
 use Rattle.shift.specs.Shift.{shifted, Shifted}

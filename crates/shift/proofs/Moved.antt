@@ -10,7 +10,8 @@ use lib.IntN.{ℤ, pos, negsuc, ◌+ℤ◌}
 use lib.Dec.{T, eqb, ltb, leb, eqb→eq}
 use borrow.Author.Tests.{ltb-false, leb-true, leb-false}
 use Rattle.loops.specs.Numbers.{to_nat}
-use Rattle.rows.specs.Class.{Class, blank_c, kind_c, id_c, n_c, u_c, t_c, m_c, g_c, f_c, share_c, speed_c, n?_c, t?_c, m?_c, task_c, activity_c, resource_c, requirement_c, constraint_c}
+use Rattle.rows.specs.declared.Class.{Class}
+use Rattle.rows.specs.declared.Class.TheVariants.{Instant, OptionalNumber, OptionalInstant, OptionalDuration}
 use Rattle.rows.specs.Table.{class_of}
 use Rattle.rows.specs.Ranges.{between, is_none, in_range, in_class}
 use Rattle.rows.specs.Cells.{cell, num}
@@ -54,13 +55,13 @@ near_none n (negsuc e) h = go (ltb n (suc e)) (leb-false 4000000000000 e h)
     go false l = refl
 
 -- an instant of the class is not negative
-exact : (x : ℤ) → in_class t_c x ≡ true → pos (to_nat x) ≡ x
+exact : (x : ℤ) → in_class Instant x ≡ true → pos (to_nat x) ≡ x
 unfolding in_class in_range between
 exact (pos x) h = refl
 exact (negsuc x) h = absurd (false≢true h)
 
--- of the class t?: none, or an instant
-read_exact : (x : ℤ) → in_class t?_c x ≡ true → read t?_c x ≡ cond (is_none x) nothing (instant x)
+-- of the class OptionalInstant: none, or an instant
+read_exact : (x : ℤ) → in_class OptionalInstant x ≡ true → read OptionalInstant x ≡ cond (is_none x) nothing (instant x)
 unfolding in_class in_range between is_none
 read_exact (pos x) h = refl
 read_exact (negsuc x) h = rw h
@@ -69,11 +70,11 @@ kept : (f : ℤ → ℤ) (x : ℤ) (n : Bool) → cond n nothing (number x) ≡ 
 kept f x true = refl
 kept f x false = refl
 
--- of the class t?: none stays none, and an instant stays an instant
+-- of the class OptionalInstant: none stays none, and an instant stays an instant
 maybe_moved : (d : ℤ) → far d ≡ false → (x : ℤ)
-    → in_class t?_c x ≡ true
-    → in_class t?_c (shifted d t?_c x) ≡ true
-    → read t?_c (shifted d t?_c x) ≡ map_cell (by d) (read t?_c x)
+    → in_class OptionalInstant x ≡ true
+    → in_class OptionalInstant (shifted d OptionalInstant x) ≡ true
+    → read OptionalInstant (shifted d OptionalInstant x) ≡ map_cell (by d) (read OptionalInstant x)
 unfolding is_none between in_class in_range
 maybe_moved d near (pos n) p q = read_exact (pos n +ℤ d) q ∙ ap (λ b. cond b nothing (instant (pos n +ℤ d))) (near_none n d near)
 maybe_moved d near (negsuc n) p q = rw p
@@ -83,25 +84,11 @@ module _ (d : ℤ) (near : far d ≡ false) (x : ℤ) where
       → in_class c x ≡ true
       → in_class c (shifted d c x) ≡ true
       → read c (shifted d c x) ≡ map_cell (by d) (read c x)
-  read_moved t_c p q = ap instant (exact (x +ℤ d) q ∙ ap (by d) (sym (exact x p)))
-  read_moved t?_c p q = maybe_moved d near x p q
-  read_moved n?_c p q = kept (by d) x (is_none x)
-  read_moved m?_c p q = kept (by d) x (is_none x)
-  read_moved blank_c p q = refl
-  read_moved kind_c p q = refl
-  read_moved id_c p q = refl
-  read_moved n_c p q = refl
-  read_moved u_c p q = refl
-  read_moved m_c p q = refl
-  read_moved g_c p q = refl
-  read_moved f_c p q = refl
-  read_moved share_c p q = refl
-  read_moved speed_c p q = refl
-  read_moved task_c p q = refl
-  read_moved activity_c p q = refl
-  read_moved resource_c p q = refl
-  read_moved requirement_c p q = refl
-  read_moved constraint_c p q = refl
+  read_moved Instant p q = ap instant (exact (x +ℤ d) q ∙ ap (by d) (sym (exact x p)))
+  read_moved OptionalInstant p q = maybe_moved d near x p q
+  read_moved OptionalNumber p q = kept (by d) x (is_none x)
+  read_moved OptionalDuration p q = kept (by d) x (is_none x)
+  read_moved _ p q = refl
 
 module _ (d : ℤ) (a b : List ℤ) (h : Shifted d a b) where
   -- a kind is no instant
@@ -123,33 +110,16 @@ module _ (d : ℤ) (a b : List ℤ) (h : Shifted d a b) where
 -- ---- far
 
 -- the number of a cell is no instant
-time_int : (x : ℤ) → as_int (read t?_c x) ≡ pos 0
+time_int : (x : ℤ) → as_int (read OptionalInstant x) ≡ pos 0
 time_int (pos x) = refl
 time_int (negsuc x) = refl
 
 int_same : (d x : ℤ) (c : Class) → as_int (read c (shifted d c x)) ≡ as_int (read c x)
-int_same d x t_c = refl
-int_same d x t?_c = time_int (shifted d t?_c x) ∙ sym (time_int x)
-int_same d x n?_c = refl
-int_same d x m?_c = refl
-int_same d x blank_c = refl
-int_same d x kind_c = refl
-int_same d x id_c = refl
-int_same d x n_c = refl
-int_same d x u_c = refl
-int_same d x m_c = refl
-int_same d x g_c = refl
-int_same d x f_c = refl
-int_same d x share_c = refl
-int_same d x speed_c = refl
-int_same d x task_c = refl
-int_same d x activity_c = refl
-int_same d x resource_c = refl
-int_same d x requirement_c = refl
-int_same d x constraint_c = refl
+int_same d x OptionalInstant = time_int (shifted d OptionalInstant x) ∙ sym (time_int x)
+int_same d x _ = refl
 
 -- an instant so far back is in no class
-too_far : (d x : ℤ) → far d ≡ true → in_class t_c x ≡ true → in_class t_c (x +ℤ d) ≡ true → ⊥
+too_far : (d x : ℤ) → far d ≡ true → in_class Instant x ≡ true → in_class Instant (x +ℤ d) ≡ true → ⊥
 unfolding in_class in_range between
 too_far (pos e) x f p q = false≢true f
 too_far (negsuc e) (negsuc n) f p q = false≢true p
@@ -160,7 +130,7 @@ too_far (negsuc e) (pos n) f p q = go (ltb n (suc e)) refl q
     high true false h = h
     high false a h = absurd (false≢true h)
 
-    go : (b : Bool) → ltb n (suc e) ≡ b → in_class t_c (cond b (negsuc (suc e - suc n)) (pos (n - suc e))) ≡ true → ⊥
+    go : (b : Bool) → ltb n (suc e) ≡ b → in_class Instant (cond b (negsuc (suc e - suc n)) (pos (n - suc e))) ≡ true → ⊥
     go true t h = false≢true h
     go false t h = omega (arith, ltb-false n (suc e) t, leb-true 4000000000000 e f, leb-true n 4000000000000 (high (leb 0 n) (leb n 4000000000000) p))
 
@@ -174,10 +144,10 @@ module _ (d : ℤ) (a b : List ℤ) (h : Shifted d a b) where
           ∙ ap (λ z. as_int (read (class_of (num a k 0) c) z)) (h.cells k c)
           ∙ int_same d (cell a k c) (class_of (num a k 0) c)
 
-  no_instant : far d ≡ true → InClass a → InClass b → (k c : ℕ) → class_of (num a k 0) c ≡ t_c → ⊥
+  no_instant : far d ≡ true → InClass a → InClass b → (k c : ℕ) → class_of (num a k 0) c ≡ Instant → ⊥
   no_instant f okA okB k c e = too_far d (cell a k c) f (rw e at (okA.columns k c)) (rw e at (in_b d a b h okB k c))
 
-  no_kind : far d ≡ true → InClass a → InClass b → (kind c : ℕ) → class_of kind c ≡ t_c → (k : ℕ) → is_kind (sheet a) kind k ≡ false
+  no_kind : far d ≡ true → InClass a → InClass b → (kind c : ℕ) → class_of kind c ≡ Instant → (k : ℕ) → is_kind (sheet a) kind k ≡ false
   no_kind f okA okB kind c e k = go (eqb (num a k 0) kind) refl
     where
       go : (t : Bool) → eqb (num a k 0) kind ≡ t → t ≡ false

@@ -4,6 +4,7 @@ use Rattle.std.specs.Prelude.{Some}
 use Rattle.std.specs.Float.{binary64}
 use Rattle.std.specs.Float.Ieee.{of_bits}
 use Rattle.rows.specs.Ranges.{held_none}
+use Rattle.calendar.specs.declared.WindowKind.TheVariants.{Open, Closure}
 use Rattle.calendar.specs.Clock.{clock}
 use Rattle.calendar.specs.Calendar.{Window, Calendar, interval_fits}
 use Rattle.calendar.specs.WorkEnd.{ends_at, pauses, never, joint_work_end}
@@ -27,10 +28,10 @@ booked start end =
 
 -- an open window, a closure
 abbrev pub open' : ℕ → ℕ → Window ℤ
-open' start end = record { closed = 0; start = pos start; end = pos end }
+open' start end = record { kind = Open; start = pos start; end = pos end }
 
 abbrev pub closure : ℕ → ℕ → Window ℤ
-closure start end = record { closed = 1; start = pos start; end = pos end }
+closure start end = record { kind = Closure; start = pos start; end = pos end }
 
 -- a calendar with the closure 5..5, and one with the windows 0..10 and 20..30
 abbrev pub closed5 : Calendar ℤ

@@ -12,7 +12,7 @@ use mir.Facts.{to_z-of_z}
 use borrow.Author.Tests.{lt-ltb, le-ltb}
 use Rattle.loops.proofs.SignLaws.{below_zero, from_zero}
 use Rattle.calendar.specs.Clock.{clock}
-use Rattle.rows.specs.Class.{t?_c}
+use Rattle.rows.specs.declared.Class.TheVariants.{OptionalInstant}
 use Rattle.rows.specs.Cells.{num, is}
 use Rattle.model.specs.Sheet.{as_instant, read}
 use Rattle.model.specs.Schedule.{later_of}
@@ -21,10 +21,10 @@ use Rattle.spans.specs.declared.Instant.TheVariants.{At}
 use Rattle.spans.specs.inner.Instants.{meant, end_if}
 
 module _ (z : ℤ) (f : SFits w64 z) where
-  pub read_none : {v : ℤ} → lt_z (to_z w64 (of_z w64 z)) (pos 0) ≡ true → z ≡ v → None ≡ as_instant (read t?_c v)
+  pub read_none : {v : ℤ} → lt_z (to_z w64 (of_z w64 z)) (pos 0) ≡ true → z ≡ v → None ≡ as_instant (read OptionalInstant v)
   read_none e q = rw (← q, (below_zero z f e).1)
 
-  pub read_some : {v : ℤ} → lt_z (to_z w64 (of_z w64 z)) (pos 0) ≡ false → z ≡ v → Some (pos (nat_abs (to_z w64 (of_z w64 z)))) ≡ as_instant (read t?_c v)
+  pub read_some : {v : ℤ} → lt_z (to_z w64 (of_z w64 z)) (pos 0) ≡ false → z ≡ v → Some (pos (nat_abs (to_z w64 (of_z w64 z)))) ≡ as_instant (read OptionalInstant v)
   read_some e q = rw (to_z-of_z f, ← q, (from_zero z f e).1)
 
 -- the later of an instant and x

@@ -3,7 +3,6 @@
 
 ghost use Rattle.std.specs.Prelude.{◌≡◌, ◌/◌, ◌<◌, length};
 ghost use Rattle.std.proofs.lemmas.List.Edits.{sets};
-ghost use Rattle.rows.specs.inner.Codes.{class_table};
 ghost use Rattle.text_fields.specs.Parts.{parts};
 ghost use Rattle.text.specs.Text.{answer_from, answer_of, rows_after};
 ghost use Rattle.text.specs.inner.Stored.{rows_read};
@@ -11,8 +10,8 @@ ghost use Rattle.text.specs.inner.Stored.{rows_read};
 use refusals::{Answer, Reason};
 
 // Reads a text's lines, where `lent` rows are lent. The rows' numbers go to `rows`, as far as they lie within it.
-fn read_lines(text: &[u8], rows: &mut [i64], lent: usize, classes: &[[u8; 9]; 25]) -> Answer
-    requires { (length text.now < 65537) × (classes.now ≡ class_table) }
+fn read_lines(text: &[u8], rows: &mut [i64], lent: usize) -> Answer
+    requires { length text.now < 65537 }
     ensures value { result ≡ answer_from lent 0 (parts 10 text.now) }
     ensures rows_after { rows.new ≡ sets rows.old 0 (rows_read lent 0 (parts 10 text.now)) }
 {
@@ -24,7 +23,7 @@ fn read_lines(text: &[u8], rows: &mut [i64], lent: usize, classes: &[[u8; 9]; 25
         if rest.len() <= n {
             return Err(Reason::Misspelt.at(place));
         }
-        if let Err(reason) = text_line::read_line(line, rows, place * 10, classes) {
+        if let Err(reason) = text_line::read_line(line, rows, place * 10) {
             return Err(reason.at(place));
         }
         if lent <= place {
@@ -45,7 +44,6 @@ pub fn read_text(text: &[u8], rows: &mut [i64]) -> Answer
         return Err(Reason::Overlong.at(0));
     }
     let lent = rows.len() / 10;
-    let classes = rows::class_table();
-    read_lines(text, &mut rows[..0], lent, &classes)?;
-    read_lines(text, rows, lent, &classes)
+    read_lines(text, &mut rows[..0], lent)?;
+    read_lines(text, rows, lent)
 }

@@ -1,4 +1,4 @@
 pub mod DigitLaws
 pub mod Examples
 pub mod PartLaws
-pub mod SignedLaws
+pub mod AllLaws

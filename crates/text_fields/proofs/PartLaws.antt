@@ -1,30 +1,40 @@
 -- Laws of a text's parts. Assumes nothing.
-use Prim.Native.Nat.{ℕ, suc, ◌+◌, ◌≤◌, ◌<◌}
-use mathlib.Core.Bool.{Bool, true, false, cond}
-use mathlib.Core.List.{List, [], ◌∷◌, ◌++◌, append-nil, append_assoc}
-use mathlib.Core.Path.{◌≡◌, refl, ap}
+use Prim.Native.Nat.{ℕ, suc, ◌+◌, ◌-◌, ◌≤◌, ◌<◌}
+use mathlib.Core.Bool.{Bool, true, false, cond, not}
+use mathlib.Core.List.{List, [], ◌∷◌}
+use mathlib.Core.Path.{◌≡◌, refl, sym, ap, ◌∙◌}
 use native.Mathlib.Omega.{arith}
-use native.Mathlib.Numerals.{add-one}
-use lib.Dec.{eqb}
-use lib.ListN.{length, get_or, drop, take, drop_of_length-le}
-use lib.Seq.{drop-cons, take-suc, take_all}
-use borrow.Author.Tests.{eq-eqb, ne_eqb}
-use Rattle.text_fields.specs.Parts.{until_byte, parts, on_first}
+use native.Mathlib.Numerals.{add-one, one-add}
+use lib.Dec.{eqb, ltb}
+use lib.ListN.{length, drop, take, length-drop}
+use lib.Seq.{take_all}
+use borrow.Author.Tests.{ltb-false}
+use Rattle.std.specs.List.{position_or_len, position}
+use Rattle.std.specs.Prelude.{Option, None, Some}
+use Rattle.std.specs.Option.{MatchOption, unwrap_or}
+use Rattle.std.specs.Slice.{IsGetRangeResult}
+use mathlib.Core.Logic.{inl, inr}
+use denote.Ref.{Bor}
+use Rattle.text_fields.specs.Parts.{until_byte, parts, parts_left, on_first}
 
--- the search for b at a position: found, one further, at the end
-pub up_found : (s : List ℕ) (b i : ℕ) → i < length s → get_or s i 0 ≡ b → take i s ++ until_byte b (drop i s) ≡ take i s
+-- the first part ends at the first b, or at the end
+until_place : (b : ℕ) (xs : List ℕ) → take (position_or_len (λ x. eqb x b) xs) xs ≡ until_byte b xs
 unfolding until_byte
-up_found s b i h e = rw (drop-cons s i 0, eq-eqb (get_or s i 0) b e) (append-nil (take i s))
+until_place b [] = refl
+until_place b (x ∷ xs) = go (eqb x b) (until_place b xs)
+  where
+    go : (t : Bool) → take (position_or_len (λ x. eqb x b) xs) xs ≡ until_byte b xs
+        → take (cond (not t) (1 + position_or_len (λ x. eqb x b) xs) 0) (x ∷ xs) ≡ cond t [] (x ∷ until_byte b xs)
+    go true e = refl
+    go false e = rw (one-add (position_or_len (λ x. eqb x b) xs)) (ap (λ (l : List ℕ). x ∷ l) e)
 
-pub up_more : (s : List ℕ) (b i : ℕ) → i < length s → (get_or s i 0 ≡ b → ⊥) → take (i + 1) s ++ until_byte b (drop (i + 1) s) ≡ take i s ++ until_byte b (drop i s)
-unfolding until_byte
-up_more s b i h n =
-    rw (add-one i, take-suc s i 0, drop-cons s i 0, ne_eqb (get_or s i 0) b n)
-    (append_assoc (take i s) (get_or s i 0 ∷ []) (until_byte b (drop (suc i) s)))
-
-pub up_end : (s : List ℕ) (b i : ℕ) → length s ≤ i → take i s ++ until_byte b (drop i s) ≡ s
-unfolding until_byte
-up_end s b i h = rw (drop_of_length-le s {i = i} h, take_all i s) (append-nil s)
+pub until_position : {r : Option ℕ} {n : ℕ} (b : ℕ) (xs : List ℕ) → r ≡ position (λ x. eqb x b) xs → n ≡ unwrap_or r (length xs) → take n xs ≡ until_byte b xs
+until_position b xs e q = rw (q, e) (go (ltb (position_or_len (λ x. eqb x b) xs) (length xs)) refl)
+  where
+    go : (t : Bool) → ltb (position_or_len (λ x. eqb x b) xs) (length xs) ≡ t
+        → take (unwrap_or (cond t (Some (position_or_len (λ x. eqb x b) xs)) None) (length xs)) xs ≡ until_byte b xs
+    go true h = until_place b xs
+    go false h = take_all (length xs) xs (omega arith) ∙ sym (take_all (position_or_len (λ x. eqb x b) xs) xs (ltb-false _ _ h)) ∙ until_place b xs
 
 -- the first part is no longer than the text
 pub up_within : (b : ℕ) (xs : List ℕ) → length (until_byte b xs) ≤ length xs
@@ -83,3 +93,19 @@ parts_count b (x ∷ xs) = go (eqb x b) (parts b xs) (parts_count b xs)
     go true ps h = omega arith
     go false [] h = omega arith
     go false (p ∷ ps) h = omega arith
+
+-- a turn of the iterator: the first part, and what it has left after it
+pub parts_turn : (b : ℕ) (rest part : List ℕ) (r : Option (Bor (List ℕ))) → part ≡ until_byte b rest
+    → MatchOption r (length rest < length part + 1) (λ y. (length part + 1 ≤ length rest) × (y.now ≡ drop (length part + 1) rest))
+    → parts b rest ≡ part ∷ parts_left (record { rest = r; stop = b })
+parts_turn b rest part None q h = parts_only b rest part q (omega arith)
+parts_turn b rest part (Some y) q h =
+    let l : length (until_byte b rest) < length rest = rw (← q) (omega (arith, h.0)) in
+    rw (h.1, q) (parts_more b rest l)
+
+-- what `get` gives of the bytes after a place
+pub got_after : (n : ℕ) (xs : List ℕ) (r : Option (Bor (List ℕ))) → IsGetRangeResult xs n (length xs) r
+    → MatchOption r (length xs < n) (λ y. (n ≤ length xs) × (y.now ≡ drop n xs))
+got_after n xs None (inl h, _) = h
+got_after n xs None (inr h, _) = absurd (omega arith)
+got_after n xs (Some y) (h, _) = (h.0, h.2 ∙ take_all (length xs - n) (drop n xs) (simp length-drop (omega arith)))

@@ -1,5 +1,6 @@
 -- The parts of a text between the bytes that part them: lines between line feeds (10), fields between commas (44). Assumes nothing.
-use Rattle.std.specs.Prelude.{ℕ, cond, List, [], ◌∷◌, eqb}
+use Rattle.std.specs.Prelude.{ℕ, cond, List, [], ◌∷◌, eqb, None, Some}
+use Rattle.text_fields.specs.declared.Parts.{Parts}
 
 -- the bytes before the first b, or all of them where there is none
 unfoldable pub until_byte : ℕ → List ℕ → List ℕ
@@ -15,3 +16,7 @@ on_first x (p ∷ ps) = (x ∷ p) ∷ ps
 unfoldable pub parts : ℕ → List ℕ → List (List ℕ)
 parts b [] = [] ∷ []
 parts b (x ∷ xs) = cond (eqb x b) ([] ∷ parts b xs) (on_first x (parts b xs))
+
+-- the parts that an iterator has still to give: none after the last one
+abbrev pub parts_left : Parts → List (List ℕ)
+parts_left p = elim p.rest [ None ↦ [] | Some rest ↦ parts p.stop rest.now ]

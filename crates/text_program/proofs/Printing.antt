@@ -1,7 +1,8 @@
 -- What stands in a program's buffer of bytes after it has printed a text; the parts of the buffers that it lends. Assumes nothing.
 use Rattle.std.specs.Prelude.{Result, Ok, Err}
-use Rattle.refusals.specs.Refusals.{at}
-use Rattle.refusals.specs.declared.Reason.TheVariants.{Overlong}
+use Rattle.refusals.specs.Refusals.{at, number_of}
+use Rattle.refusals.specs.declared.Reason.{Reason}
+use Rattle.refusals.specs.declared.Reason.TheVariants.{Misshapen, UnknownKind, OutOfRange, Stray, Twice, Stretched, Full, Overlong, Misspelt, Crowded, Malformed, Undated, Overfull}
 use Rattle.refusals.specs.declared.Refusal.{Refusal}
 use Prim.Native.Nat.{ℕ, zero, suc, ◌+◌, ◌*◌, ◌/◌, ◌^◌, ◌<◌, ◌≤◌}
 use mathlib.Core.Path.{◌≡◌, sym, ap, ◌∙◌}
@@ -46,7 +47,7 @@ small_numbers xs us p i = each_small xs us i p
 -- what an answer of the code holds
 abbrev pub Bounded : Result ℕ Refusal → Type 0
 Bounded (Ok n) = Unit {0}
-Bounded (Err e) = (number < 2 ^ 64) × (place < 2 ^ 64)
+Bounded (Err e) = e.place < 2 ^ 64
 
 -- ---- the buffer
 
@@ -57,15 +58,33 @@ stands o p {r = r} h l w =
     (omega arith, rw w.buffer (rw (sets-eq p o 0 (omega arith)) (take_at p (drop (0 + length p) o) r (sym z))))
 
 -- a refusal
-module _ {o o' : List ℕ} {r number place most : ℕ} (w : Wrote o 0 o' r (printed_refused number place)) (long : length o ≡ most) (wide : 50 ≤ most)
-    (h : number < 2 ^ 64) (l : place < 2 ^ 64) where
-  stood : (r ≤ most) × (take r o' ≡ printed_refused number place)
-  stood = stands o (printed_refused number place) long (omega (arith, refused_fits number place h l)) w
+reason_small : (r : Reason) → number_of r < 2 ^ 64
+reason_small Misshapen = omega arith
+reason_small UnknownKind = omega arith
+reason_small OutOfRange = omega arith
+reason_small Stray = omega arith
+reason_small Twice = omega arith
+reason_small Stretched = omega arith
+reason_small Full = omega arith
+reason_small Overlong = omega arith
+reason_small Misspelt = omega arith
+reason_small Crowded = omega arith
+reason_small Malformed = omega arith
+reason_small Undated = omega arith
+reason_small Overfull = omega arith
+
+pub refusal_fits : (e : Refusal) → e.place < 2 ^ 64 → length (printed_refused (number_of e.reason) e.place) ≤ 50
+refusal_fits e l = refused_fits (number_of e.reason) e.place (reason_small e.reason) l
+
+module _ {o o' : List ℕ} {r most : ℕ} (e : Refusal) (w : Wrote o 0 o' r (printed_refused (number_of e.reason) e.place)) (long : length o ≡ most) (wide : 50 ≤ most)
+    (l : e.place < 2 ^ 64) where
+  stood : (r ≤ most) × (take r o' ≡ printed_refused (number_of e.reason) e.place)
+  stood = stands o (printed_refused (number_of e.reason) e.place) long (omega (arith, refusal_fits e l)) w
 
   pub refused_within : r ≤ most
   refused_within = stood.0
 
-  pub refused_first : take r o' ≡ printed_refused number place
+  pub refused_first : take r o' ≡ printed_refused (number_of e.reason) e.place
   refused_first = stood.1
 
 -- the first bytes of a text that was read, and of what is printed
@@ -110,11 +129,11 @@ module _ (text : List ℕ) (lent : List ℤ) (room : 8000 ≡ length lent) {a : 
 
   -- what is printed of it, where rows are printed so
   module _ (ofRows : List ℤ → List ℕ) where
-    pub text_refused : {o o' : List ℕ} {r number place most : ℕ} → Wrote o 0 o' r (printed_refused number place) → length o ≡ most → 50 ≤ most
-        → a ≡ Err e → number < 2 ^ 64 → place < 2 ^ 64 → take r o' ≡ printed_text ofRows text
+    pub text_refused : {o o' : List ℕ} {r most : ℕ} {e : Refusal} → Wrote o 0 o' r (printed_refused (number_of e.reason) e.place) → length o ≡ most → 50 ≤ most
+        → a ≡ Err e → e.place < 2 ^ 64 → take r o' ≡ printed_text ofRows text
     unfolding printed_text
-    text_refused {number = number} {place = place} w long wide e h l =
-        let z : answer_of text 800 ≡ Err e = sym answer_is ∙ e in rw z (refused_first w long wide h l)
+    text_refused {e = e} w long wide q l =
+        let z : answer_of text 800 ≡ Err e = sym answer_is ∙ q in rw z (refused_first e w long wide l)
 
     pub text_accepted : {rows : List ℤ} {n : ℕ} (bytes : List ℕ) → rows ≡ rows_after (answer_of text (length lent / 10)) text lent → a ≡ Ok n
         → bytes ≡ ofRows (take (10 * n) rows) → bytes ≡ printed_text ofRows text

@@ -24,10 +24,8 @@ fn is_misshapen(n: usize) -> bool
 fn first_column_fault(rows: &[i64]) -> Verdict
     ensures { verdict_of result ≡ first (column_fault rows.now) (row_count rows.now) }
 {
-    let classes = rows::class_table();
-    let ranges = rows::range_table();
     for k in 0..rows::row_count(rows) {
-        column_faults::column_fault(&classes, &ranges, rows, k)?;
+        column_faults::column_fault(rows, k)?;
     }
     Ok(())
 }

@@ -1,3 +1,4 @@
 pub mod Fitting
 pub mod Laying
+pub mod Lists
 pub mod WindowRows

@@ -8,6 +8,8 @@ use native.Mathlib.Omega.{arith}
 use borrow.Author.Tests.{eqb-true}
 use lib.Dec.{eqb}
 use lib.IntN.{ℤ}
+use lib.ListN.{length}
+use Rattle.calendar.specs.declared.TimeWindow.{TimeWindow}
 use Rattle.loops.specs.Lists.{given}
 use Rattle.loops.specs.Range.{collect}
 use Rattle.loops.specs.Search.{count_below}
@@ -15,9 +17,10 @@ use Rattle.loops.proofs.BoolLaws.{and_left, and_right}
 use Rattle.loops.proofs.RangeLaws.{collect_ext}
 use Rattle.loops.proofs.PartLaws.{collect_nothing}
 use Rattle.loops.proofs.SearchLaws.{count_le}
-use Rattle.calendar.specs.Calendar.{Window, Calendar}
+use Rattle.calendar.specs.declared.WindowKind.{WindowKind}
+use Rattle.calendar.specs.Calendar.{Window, Calendar, kind_of}
 use Rattle.calendar.specs.Layout.{window_of}
-use Rattle.rows.specs.Class.{resource_c}
+use Rattle.rows.specs.declared.Class.TheVariants.{ResourceId}
 use Rattle.rows.specs.Cells.{row_count, num, is}
 use Rattle.sheet.specs.inner.Accepted.{Accepted}
 use Rattle.sheet.specs.Places.{place_of}
@@ -36,9 +39,9 @@ module _ (rows : List ℤ) where
   abbrev pub window_row : ℕ → Window ℤ
   window_row k = window_of (window_here rows k)
 
-  pub window_is : (k : ℕ) {a b c : ℕ} → a ≡ num rows k 2 → b ≡ num rows k 3 → c ≡ num rows k 4
-      → record { closed = a; start = b; end = c } ≡ window_here rows k
-  window_is k p q r = rw (p, q, r)
+  pub window_is : (k : ℕ) {a : WindowKind} {n b c : ℕ} → n ≡ num rows k 2 → a ≡ kind_of n → b ≡ num rows k 3 → c ≡ num rows k 4
+      → record { kind = a; start = b; end = c } ≡ window_here rows k
+  window_is k p u q r = rw (u, p, q, r)
 
   -- the window of row k, if it is of kind x and names that id
   abbrev pub window_naming : ℕ → ℕ → ℕ → Calendar ℤ
@@ -48,7 +51,7 @@ module _ (rows : List ℤ) where
   abbrev window_if : ℕ → ℕ → Calendar ℤ
   window_if id k =
       cond (eqb (num_at (sheet rows) k 1) id)
-      (with2 (time_at (sheet rows) k 3) (time_at (sheet rows) k 4) λ a e. record { closed = num_at (sheet rows) k 2; start = a; end = e })
+      (with2 (time_at (sheet rows) k 3) (time_at (sheet rows) k 4) λ a e. record { kind = kind_of (num_at (sheet rows) k 2); start = a; end = e })
       []
 
   pick : (b : Bool) (y : Window ℤ) → cond b (y ∷ []) [] ≡ given b y
@@ -76,7 +79,7 @@ module _ (rows : List ℤ) where
 
   -- a resource that is not in the sheet has no windows
   module _ (acc : Accepted rows) (id : ℕ) (q : place_of rows 11 id ≡ None) where
-    absent : (k : ℕ) → is rows k 1 id ≡ true → lacks resource_c rows k 1 ≡ true
+    absent : (k : ℕ) → is rows k 1 id ≡ true → lacks ResourceId rows k 1 ≡ true
     unfolding lacks is
     absent k e = rw (eqb-true (num rows k 1) id e, q)
 
@@ -94,6 +97,6 @@ module _ (rows : List ℤ) where
     windows_none =
         resource_windows id ∙ collect_ext (window_naming 15 id) (λ k. []) (row_count rows) unnamed ∙ collect_nothing (λ k. []) (λ k. refl) (row_count rows)
 
-  -- there is room for all the windows of a row from place 0 on
-  pub all_fit : (o x : ℕ) → row_count rows ≤ 800 → 0 + count_below (owned_by rows o x) (row_count rows) ≤ 800
-  all_fit o x l = omega (arith, count_le (owned_by rows o x) (row_count rows))
+  -- there is room for all the windows of a row in an empty list
+  pub all_fit : (o x : ℕ) (l : List TimeWindow) → l ≡ [] → row_count rows ≤ 800 → length l + count_below (owned_by rows o x) (row_count rows) ≤ 800
+  all_fit o x l e m = rw e (omega (arith, count_le (owned_by rows o x) (row_count rows)))

@@ -1,9 +1,9 @@
 -- Work that is started in a sheet ends, if it does, within the numbers of 64 bits. Assumes nothing.
 use Rattle.std.specs.Prelude.{Result, Ok, Err}
-use Prim.Native.Nat.{ℕ, zero, suc, ◌+◌, ◌^◌, ◌<◌, ◌≤◌, max, min}
-use mathlib.Core.Path.{◌≡◌, refl, sym, ap, subst, ◌∙◌}
+use Prim.Native.Nat.{ℕ, zero, suc, ◌+◌, ◌^◌, ◌<◌, ◌≤◌, max}
+use mathlib.Core.Path.{◌≡◌, refl, sym, ap, ◌∙◌}
 use mathlib.Core.Bool.{Bool, true, false, cond, ◌&&◌, ◌||◌, true≢false}
-use mathlib.Core.List.{List, [], ◌∷◌, ◌++◌}
+use mathlib.Core.List.{List, [], ◌∷◌, ◌++◌, map}
 use mathlib.Core.Logic.{inr}
 use Rattle.std.specs.Prelude.{None}
 use native.Mathlib.Omega.{arith}
@@ -16,15 +16,17 @@ use lib.Signed.{le_z}
 use Rattle.loops.specs.Numbers.{to_nat}
 use Rattle.loops.specs.Range.{collect}
 use lib.ListN.{length}
-use Rattle.loops.specs.Lists.{given, each}
+use Rattle.loops.specs.Lists.{given}
 use Rattle.loops.proofs.BoolLaws.{and_left, and_right}
 use Rattle.loops.proofs.NumberLaws.{gap}
 use Rattle.calendar.specs.Clock.{clock}
 use Rattle.calendar.specs.Calendar.{Calendar, joint_working}
 use Rattle.calendar.specs.Amount.{since}
 use Rattle.calendar.specs.WorkEnd.{Ending, ends_at, pauses, never, map_ending, after, end_in, reach, reaches, end_after, end_from, joint_work_end}
+use Rattle.calendar.specs.declared.TimeWindow.{TimeWindow}
 use Rattle.calendar.specs.Layout as layout
-use Rattle.rows.specs.Class.{id_c, t_c, g_c}
+use Rattle.calendar.proofs.Windows.{one_calendar}
+use Rattle.rows.specs.declared.Class.TheVariants.{Id, Instant, SignedTime}
 use Rattle.rows.specs.Ranges.{between, is_none, in_range, in_class}
 use Rattle.rows.specs.Cells.{row_count, num, is}
 use Rattle.refusals.specs.Refusals.{verdict_of, at}
@@ -44,7 +46,9 @@ use Rattle.model.specs.Sheet.{sheet}
 use Rattle.model.specs.Resource.{windows}
 use Rattle.model.proofs.Accepting.{accepted, at_most}
 use Rattle.model.proofs.Finds.{found_self}
-use Rattle.window_rows.specs.inner.Laid.{Holder, calendar_numbers, Laid}
+use Rattle.window_rows.specs.declared.window_list.WindowList.{WindowList}
+use Rattle.window_rows.specs.Listed.{listed, calendar_in}
+use Rattle.window_rows.specs.inner.Laid.{Holder}
 use Rattle.window_rows.proofs.WindowRows.{window_row, window_naming, resource_windows, windows_none}
 use Rattle.calendar.specs.declared.WorkEnd as calendar
 use Rattle.calendar.specs.declared.WorkEnd.TheVariants as ending
@@ -84,7 +88,7 @@ module _ (rows : List ℤ) (ok : refusal_of rows ≡ None) (s : ℕ) where
 
   reach_calendar : (resource : ℤ) → reach clock (pos s) (inquired_calendar rows resource) ≤ most
   unfolding inquired_calendar reach
-  reach_calendar resource = go (in_class id_c resource)
+  reach_calendar resource = go (in_class Id resource)
     where
       go : (b : Bool) → reach clock (pos s) (cond b (windows (sheet rows) 15 (to_nat resource)) []) ≤ most
       go true = reach_windows (to_nat resource)
@@ -132,14 +136,14 @@ in_range_lem : (b c : Bool) → (b || (false && c)) ≡ true → b ≡ true
 in_range_lem true c e = refl
 in_range_lem false c e = e
 
-start_in : (x : ℤ) → in_class t_c x ≡ true → (pos (to_nat x) ≡ x) × (to_nat x ≤ most)
+start_in : (x : ℤ) → in_class Instant x ≡ true → (pos (to_nat x) ≡ x) × (to_nat x ≤ most)
 unfolding in_class in_range between
-start_in (pos n) e = (refl, leb-true n most (and_right (le_z (pos 0) (pos n)) (le_z (pos n) (pos most)) (in_range_lem (in_range t_c (pos n)) (is_none (pos n)) e)))
+start_in (pos n) e = (refl, leb-true n most (and_right (le_z (pos 0) (pos n)) (le_z (pos n) (pos most)) (in_range_lem (in_range Instant (pos n)) (is_none (pos n)) e)))
 start_in (negsuc n) e = absurd (true≢false (sym e))
 
-work_in : (x : ℤ) → in_class g_c x ≡ true → to_nat x ≤ most
+work_in : (x : ℤ) → in_class SignedTime x ≡ true → to_nat x ≤ most
 unfolding in_class in_range between
-work_in (pos n) e = leb-true n most (and_right (le_z (negsuc 3999999999999) (pos n)) (le_z (pos n) (pos most)) (in_range_lem (in_range g_c (pos n)) (is_none (pos n)) e))
+work_in (pos n) e = leb-true n most (and_right (le_z (negsuc 3999999999999) (pos n)) (le_z (pos n) (pos most)) (in_range_lem (in_range SignedTime (pos n)) (is_none (pos n)) e))
 work_in (negsuc n) e = omega arith
 
 -- ---- what the functions work out: a signed number reaches a called function as the machine reads it back
@@ -147,50 +151,32 @@ work_in (negsuc n) e = omega arith
 abbrev read : ℤ → ℤ
 read x = to_z w64 (of_z w64 x)
 
-module _ (start work : ℤ) {a : Bool} (e : a ≡ in_class t_c (read start)) (p : SFits w64 start) where
-  pub order_more : {b : Bool} → a ≡ true → b ≡ in_class g_c (read work) → SFits w64 work → b ≡ in_order start work
-  unfolding in_order
-  order_more f g q = rw (to_z-of_z q) at g ∙ ap (λ c. c && in_class g_c work) (sym f ∙ rw (to_z-of_z p) at e)
-
-  pub order_no : a ≡ false → false ≡ in_order start work
-  unfolding in_order
-  order_no f = ap (λ c. c && in_class g_c work) (sym f ∙ rw (to_z-of_z p) at e)
-
 pub said_end : {a : calendar.WorkEnd} {e : ℕ} → a ≡ ending.End e → Ok (ending_of.End e) ≡ said a
 said_end h = sym (ap said h)
 
--- no places, no windows
-calendar_none : (w : List ℕ) → layout.calendar_of w 0 0 ≡ []
-unfolding layout.calendar_of layout.windows_of collect
-calendar_none w = let z : min 0 (layout.windows_in w) ≡ 0 = omega arith in rw z
-
-laid_none : (w : List ℕ) {c : Calendar ℤ} → length w ≡ 2400 → [] ≡ c → Laid w w 0 0 c
-laid_none w l e =
-    subst (Laid w w 0 0) e
-    (record {
-      whole = unfold calendar_numbers each in refl;
-      places = refl;
-      size = l;
-      calendar = calendar_none w;
-      kept = λ from j h. refl;
-    })
+-- no windows
+none_listed : (l : WindowList) → listed l ≡ [] → calendar_in l ≡ []
+unfolding calendar_in
+none_listed l e = ap (map layout.window_of) e
 
 module _ (rows : List ℤ) where
-  module _ (resource : ℤ) {a : Bool} (e : a ≡ in_class id_c (read resource)) (p : SFits w64 resource) where
-    pub laid_known : {w w' : List ℕ} {r n : ℕ} → Laid w w' 0 r (windows (sheet rows) 15 n) → n ≡ to_nat (read resource) → a ≡ true → Laid w w' 0 r (inquired_calendar rows resource)
+  module _ (resource : ℤ) {a : Bool} (e : a ≡ in_class Id (read resource)) (p : SFits w64 resource) where
+    pub laid_known : (l : WindowList) {n : ℕ} → calendar_in l ≡ windows (sheet rows) 15 n → n ≡ to_nat (read resource) → a ≡ true → calendar_in l ≡ inquired_calendar rows resource
     unfolding inquired_calendar
-    laid_known h g f = let c : in_class id_c resource ≡ true = sym (rw (to_z-of_z p) at e) ∙ f in rw (c, sym (rw (to_z-of_z p) at g)) h
+    laid_known l h g f = let c : in_class Id resource ≡ true = sym (rw (to_z-of_z p) at e) ∙ f in rw (c, sym (rw (to_z-of_z p) at g)) h
 
-    pub laid_unknown : {w : List ℕ} → a ≡ false → length w ≡ 2400 → Laid w w 0 0 (inquired_calendar rows resource)
+    pub laid_unknown : (l : WindowList) → listed l ≡ [] → a ≡ false → calendar_in l ≡ inquired_calendar rows resource
     unfolding inquired_calendar
-    laid_unknown {w} f l = let c : in_class id_c resource ≡ false = sym (rw (to_z-of_z p) at e) ∙ f in laid_none w l (rw c)
+    laid_unknown l h f = let c : in_class Id resource ≡ false = sym (rw (to_z-of_z p) at e) ∙ f in rw c (none_listed l h)
 
   module _ (id : ℕ) {f : Found} (e : found_of f ≡ place_of rows 11 id) where
-    pub laid_absent : {w : List ℕ} → f ≡ Nothing → refusal_of rows ≡ None → length w ≡ 2400 → Laid w w 0 0 (windows (sheet rows) 15 id)
-    laid_absent {w} g ok l = laid_none w l (sym (windows_none rows (accepted rows ok) id (found_none g e)))
+    pub laid_absent : (l : WindowList) → listed l ≡ [] → f ≡ Nothing → refusal_of rows ≡ None → calendar_in l ≡ windows (sheet rows) 15 id
+    laid_absent l h g ok = none_listed l h ∙ sym (windows_none rows (accepted rows ok) id (found_none g e))
 
-    pub laid_found : {o r : ℕ} {w w' : List ℕ} → f ≡ At o → Laid w w' 0 r (windows (sheet rows) 15 (num rows o 1)) → Laid w w' 0 r (windows (sheet rows) 15 id)
-    laid_found {o} {r} {w} {w'} g h = subst (λ x. Laid w w' 0 r (windows (sheet rows) 15 x)) (placed rows 11 id o (found_some g e)).id_is h
+    pub laid_found : (l l' : WindowList) {o : ℕ} → listed l ≡ [] → f ≡ At o → calendar_in l' ≡ calendar_in l ++ windows (sheet rows) 15 (num rows o 1) → calendar_in l' ≡ windows (sheet rows) 15 id
+    laid_found l l' {o} h g k =
+        k ∙ ap (λ c. c ++ windows (sheet rows) 15 (num rows o 1)) (none_listed l h)
+        ∙ ap (λ x. windows (sheet rows) 15 x) (placed rows 11 id o (found_some g e)).id_is
 
     pub found_holder : (o : ℕ) → f ≡ At o → Holder rows o 15
     found_holder o g = inr (refl, found_self rows 11 id o (found_some g e))
@@ -202,30 +188,24 @@ module _ (rows : List ℤ) (resource start work : ℤ) (ok : refusal_of rows ≡
   unfolding in_order
   fits_inquiry =
       fits_end (inquired_calendar rows resource) (to_nat start) work (reach_calendar rows ok (to_nat start) resource)
-      (start_in start (and_left (in_class t_c start) (in_class g_c work) i)).1
-      (work_in work (and_right (in_class t_c start) (in_class g_c work) i))
+      (start_in start (and_left (in_class Instant start) (in_class SignedTime work) i)).1
+      (work_in work (and_right (in_class Instant start) (in_class SignedTime work) i))
 
   same_start : pos (to_nat start) ≡ start
   unfolding in_order
-  same_start = (start_in start (and_left (in_class t_c start) (in_class g_c work) i)).0
+  same_start = (start_in start (and_left (in_class Instant start) (in_class SignedTime work) i)).0
 
-  one_calendar : (w : List ℕ) (m : ℕ) → layout.calendars_of w (0 ∷ m ∷ []) ≡ layout.calendar_of w 0 m ∷ []
-  unfolding layout.calendars_of layout.lists_of layout.calendar_of collect
-  one_calendar w m = refl
-
-  ending_is : (w : List ℕ) (m : ℕ) → layout.calendar_of w 0 m ≡ inquired_calendar rows resource
-      → outcome_of (said (layout.saying (joint_work_end clock (layout.calendars_of w (0 ∷ m ∷ [])) (pos (to_nat start)) work)))
-      ≡ ends (joint_work_end clock (inquired_calendar rows resource ∷ []) start work)
-  ending_is w m q =
-      ap (λ l. outcome_of (said (layout.saying (joint_work_end clock l (pos (to_nat start)) work)))) (one_calendar w m ∙ ap (λ l. l ∷ []) q)
+  -- the windows w are those of the list l, m of them
+  pub ending_said : (l : WindowList) {r : Result inquiry_end.Ends Refusal} {a : calendar.WorkEnd} {s m : ℕ} {w : List TimeWindow} → calendar_in l ≡ inquired_calendar rows (read resource)
+      → m ≡ length (listed l) → w ≡ listed l → s ≡ to_nat (read start)
+      → a ≡ layout.saying (joint_work_end clock (layout.calendars_of w (record { from = 0; to = m } ∷ [])) (pos s) (read work)) → r ≡ said a → SFits w64 resource → SFits w64 start → SFits w64 work
+      → outcome_of r ≡ ends (joint_work_end clock (inquired_calendar rows resource ∷ []) start work)
+  unfolding calendar_in
+  ending_said l {m = m} {w = w} c z y h e f o p q =
+      ap outcome_of (f ∙ ap said (rw (to_z-of_z q, h, to_z-of_z p, y, z) at e))
+      ∙ ap (λ c. outcome_of (said (layout.saying (joint_work_end clock c (pos (to_nat start)) work)))) (one_calendar (listed l) ∙ ap (λ x. x ∷ []) (c ∙ ap (inquired_calendar rows) (to_z-of_z o)))
       ∙ said_as_is (joint_work_end clock (inquired_calendar rows resource ∷ []) (pos (to_nat start)) work) fits_inquiry
       ∙ ap (λ x. ends (joint_work_end clock (inquired_calendar rows resource ∷ []) x work)) same_start
-
-  pub ending_said : {r : Result inquiry_end.Ends Refusal} {a : calendar.WorkEnd} {s m : ℕ} {w₀ w : List ℕ} → Laid w₀ w 0 m (inquired_calendar rows (read resource)) → s ≡ to_nat (read start)
-      → a ≡ layout.saying (joint_work_end clock (layout.calendars_of w (0 ∷ m ∷ [])) (pos s) (read work)) → r ≡ said a → SFits w64 resource → SFits w64 start → SFits w64 work
-      → outcome_of r ≡ ends (joint_work_end clock (inquired_calendar rows resource ∷ []) start work)
-  ending_said {m = m} {w = w} l h e f o p q =
-      ap outcome_of (f ∙ ap said (rw (to_z-of_z q, h, to_z-of_z p) at e)) ∙ ending_is w m (l.calendar ∙ ap (inquired_calendar rows) (to_z-of_z o))
 
 module _ (rows : List ℤ) {v : Result Unit Refusal} where
   pub no_refusal : verdict_of v ≡ refusal_of rows → v ≡ Ok tt → refusal_of rows ≡ None

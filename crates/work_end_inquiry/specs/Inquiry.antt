@@ -7,7 +7,7 @@ use Rattle.loops.specs.Search.{or_else}
 use Rattle.calendar.specs.Clock.{clock}
 use Rattle.calendar.specs.Calendar.{Calendar}
 use Rattle.calendar.specs.WorkEnd.{Ending, ends_at, pauses, never, joint_work_end}
-use Rattle.rows.specs.Class.{id_c, t_c, g_c}
+use Rattle.rows.specs.declared.Class.TheVariants.{Id, Instant, SignedTime}
 use Rattle.rows.specs.Ranges.{in_class}
 use Rattle.refusals.specs.Refusals.{refuse}
 use Rattle.refusals.specs.declared.Reason.TheVariants.{OutOfRange}
@@ -30,9 +30,9 @@ outcome_of (Ok Pause) = ends pauses
 outcome_of (Ok Never) = ends never
 outcome_of (Err e) = refused e
 
--- a start of class t and work of class g
+-- the start is an instant, and the work a signed time
 unfoldable pub in_order : ℤ → ℤ → Bool
-in_order start work = in_class t_c start && in_class g_c work
+in_order start work = in_class Instant start && in_class SignedTime work
 
 -- by 1 to 5 on the rows, then by 3 with place 0 for its own start and work
 unfoldable pub inquiry_refusal : List ℤ → ℤ → ℤ → Option Refusal
@@ -40,7 +40,7 @@ inquiry_refusal rows start work = or_else (refusal_of rows) (refuse (not (in_ord
 
 -- the calendar of a resource: none where it is not in the sheet, and so where its number is no id
 unfoldable pub inquired_calendar : List ℤ → ℤ → Calendar ℤ
-inquired_calendar rows resource = cond (in_class id_c resource) (resource_calendar (sheet rows) (to_nat resource)) []
+inquired_calendar rows resource = cond (in_class Id resource) (resource_calendar (sheet rows) (to_nat resource)) []
 
 unfoldable pub inquiry : List ℤ → ℤ → ℤ → ℤ → InquiryOutcome
 inquiry rows resource start work =

@@ -1,7 +1,7 @@
 // The work-end inquiry on a sheet: when work ends that is started on a resource and runs only in its working time.
 #![tactic(auto)]
 
-ghost use Rattle.std.specs.Prelude.{◌≡◌, true, [], ◌∷◌, length};
+ghost use Rattle.std.specs.Prelude.{◌≡◌, true, [], ◌∷◌};
 ghost use Rattle.std.specs.Prelude.{None};
 ghost use Rattle.calendar.specs.Clock.{clock};
 ghost use Rattle.calendar.specs.WorkEnd.{joint_work_end};
@@ -10,19 +10,15 @@ ghost use Rattle.sheet.specs.Refusals.{refusal_of};
 ghost use Rattle.owners.specs.inner.Owners.{Owned};
 ghost use Rattle.model.specs.Sheet.{sheet};
 ghost use Rattle.model.specs.Resource.{windows};
-ghost use Rattle.window_rows.specs.inner.Laid.{Laid};
+ghost use Rattle.window_rows.specs.Listed.{calendar_in};
 ghost use Rattle.work_end_inquiry.specs.Inquiry.{ends, outcome_of, in_order, inquired_calendar, inquiry};
 ghost use Rattle.work_end_inquiry.specs.inner.Said.{said};
 
+use calendar::{Calendars, Places};
 use refusals::{Reason, Refusal};
+use rows::Class;
 use sheet::Found;
-
-// The classes of an id, of an instant and of an amount that may be negative.
-const ID: u8 = 2;
-
-const T: u8 = 5;
-
-const G: u8 = 7;
+use window_rows::WindowList;
 
 // The work ends at an instant; or the start is no working time; or too little working time follows.
 #[derive(Clone, Copy, PartialEq, Eq)]
@@ -34,50 +30,40 @@ pub enum Ends {
 
 pub type InquiryAnswer = Result<Ends, Refusal>;
 
+#[tactic(auto, unfolding(crate::specs::Inquiry::in_order))]
 fn in_order(start: i64, work: i64) -> bool
     ensures { result ≡ in_order start work }
 {
-    let ranges = rows::range_table();
-    if rows::in_class(&ranges, T, start) {
-        return rows::in_class(&ranges, G, work);
-    }
-    false
+    Class::Instant.allows(start) && Class::SignedTime.allows(work)
 }
 
-// The calendar of the resource of that id, from place 0 of w on, and the place past its last window: none where the sheet has no such resource.
-fn resource_windows(
-    rows: &[i64],
-    kinds: &[u16; 3680],
-    owned: &[u16; 8810],
-    id: u64,
-    w: &mut [u64; 2400],
-) -> usize
-    requires { (refusal_of rows.now ≡ None) × Kinds rows.now kinds.now × Owned rows.now owned.now × (length w.old ≡ 2400) }
-    ensures { Laid w.old w.new 0 result (windows (sheet rows.now) 15 id) }
+// The windows of the resource of that id: none where the sheet has no such resource.
+fn resource_windows(rows: &[i64], kinds: &[u16; 3680], owned: &[u16; 8810], id: u64) -> WindowList
+    requires { (refusal_of rows.now ≡ None) × Kinds rows.now kinds.now × Owned rows.now owned.now }
+    ensures { calendar_in result ≡ windows (sheet rows.now) 15 id }
 {
-    let f = sheet::find_resource(rows, kinds, id);
-    let Found::At(o) = f else {
-        return 0;
+    let mut list = WindowList::new();
+    let Found::At(o) = sheet::find_resource(rows, kinds, id) else {
+        return list;
     };
-    window_rows::gather_windows(rows, owned, o, 15, w, 0)
+    window_rows::gather_windows(rows, owned, o, 15, &mut list);
+    list
 }
 
-// The calendar of the resource that a number names, in the same way: none where it is no id.
+// The windows of the resource that a number names: none where it is no id.
 fn resource_calendar(
     rows: &[i64],
     kinds: &[u16; 3680],
     owned: &[u16; 8810],
     resource: i64,
-    w: &mut [u64; 2400],
-) -> usize
-    requires { (refusal_of rows.now ≡ None) × Kinds rows.now kinds.now × Owned rows.now owned.now × (length w.old ≡ 2400) }
-    ensures { Laid w.old w.new 0 result (inquired_calendar rows.now resource) }
+) -> WindowList
+    requires { (refusal_of rows.now ≡ None) × Kinds rows.now kinds.now × Owned rows.now owned.now }
+    ensures { calendar_in result ≡ inquired_calendar rows.now resource }
 {
-    let ranges = rows::range_table();
-    if rows::in_class(&ranges, ID, resource) {
-        return resource_windows(rows, kinds, owned, rows::nat(resource), w);
+    if Class::Id.allows(resource) {
+        return resource_windows(rows, kinds, owned, rows::nat(resource));
     }
-    0
+    WindowList::new()
 }
 
 // In a sheet no end lies beyond the numbers of 64 bits.
@@ -103,10 +89,16 @@ fn ending(
     requires { (refusal_of rows.now ≡ None) × Kinds rows.now kinds.now × Owned rows.now owned.now × (in_order start work ≡ true) }
     ensures { outcome_of result ≡ ends (joint_work_end clock (inquired_calendar rows.now resource ∷ []) start work) }
 {
-    let mut w = [0u64; 2400];
-    let m = resource_calendar(rows, kinds, owned, resource, &mut w);
-    let cs = [0usize, m];
-    answer_of(calendar::joint_work_end(&cs, &w, rows::nat(start), work))
+    let list = resource_calendar(rows, kinds, owned, resource);
+    let all = [Places {
+        from: 0,
+        to: list.len(),
+    }];
+    let calendar = Calendars {
+        windows: list.as_slice(),
+        places: &all,
+    };
+    answer_of(calendar.joint_work_end(rows::nat(start), work))
 }
 
 pub fn work_end(rows: &[i64], resource: i64, start: i64, work: i64) -> InquiryAnswer

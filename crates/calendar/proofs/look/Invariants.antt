@@ -1,13 +1,18 @@
--- `calendar::look` meets its contract: `s` is what the windows passed leave. Assumes nothing.
-use Prim.Native.Nat.{◌-◌, ◌≤◌, max}
+-- What the windows passed say of t, and the next stop that they leave.
 use mathlib.Core.Path.{◌≡◌}
-use mathlib.Core.List.{foldl}
-use Rattle.calendar.specs.inner.Scan.{with_window}
-use Rattle.calendar.proofs.Places.{below}
+use mathlib.Core.List.{map}
+use lib.IntN.{pos}
+use lib.ListN.{take}
+use Rattle.calendar.specs.Clock.{clock}
+use Rattle.calendar.specs.Calendar.{contains}
+use Rattle.calendar.specs.Fit.{standing_of}
+use Rattle.calendar.specs.Layout.{window_of}
+use Rattle.calendar.specs.inner.Scan.{next_stop, last_instant, EndsBy}
 use Rattle.calendar.proofs.look.Given as goal
 
-abbrev pub invariant-loop-i : goal.invariant-loop-i
-invariant-loop-i l = (l.from ≤ l.i) × (l.i ≤ max l.n l.from) × (l.s ≡ foldl (with_window l.t) (record { most = 0; stop = l.b }) (below l.w l.from l.i))
-
-abbrev pub decreases-loop-i : goal.decreases-loop-i
-decreases-loop-i l = l.n - l.i
+abbrev pub invariant-loop-x : goal.invariant-loop-x
+invariant-loop-x l = record {
+  standing : l.standing ≡ standing_of (contains clock (pos l.t)) (contains clock (pos l.t)) (map window_of (take l.x-index l.windows));
+  stop : l.stop ≡ next_stop (take l.x-index l.windows) l.t l.b;
+  ends : EndsBy last_instant (take l.x-index l.windows);
+}

@@ -36,7 +36,7 @@ module _ {S : Type 0 → Type 0} (s : Moves S) where
 -- ---- of calendars and work ends
 
 abbrev pub map_window : {A B : Type 0} → (A → B) → Window A → Window B
-map_window f x = record { closed = x.closed; start = f x.start; end = f x.end }
+map_window f x = record { kind = x.kind; start = f x.start; end = f x.end }
 
 abbrev pub window : Moves Window
 window = record { map = map_window; same = λ x. refl }

@@ -1,6 +1,7 @@
 use Rattle.owners.proofs.Links.{spans}
 use Rattle.check2_time_only.proofs.Spans.{unknown, linked_self, known_here, known_not, known_held}
 use borrow.Author.Rules.{rules}
+use Rattle.check2_time_only.proofs.known.Goals.{else-is_free-via-then-is_free+else-is_at, else-is_free-via-else-is_free}
 use Rattle.check2_time_only.proofs.known.Goals as goal
 
 pub activity_of-requires : goal.activity_of-requires
@@ -15,8 +16,8 @@ is_free-requires c = (search rules, search (rules, linked_self))
 pub returns-then-is_at : goal.returns-then-is_at
 returns-then-is_at c = search (rules, known_here)
 
-pub returns-then-is_free : goal.returns-then-is_free
-returns-then-is_free c = search (rules, known_not)
-
 pub returns : goal.returns
-returns c = search (rules, known_held)
+returns c = elim c.else-is_free.branch [
+  | else-is_free-via-then-is_free+else-is_at w ↦ known_not _ _ c.requires.3 c.in-At.is c.activity_of.ensures c.is_free.ensures w.if-is_free.true c.num_at-task.ensures w.is_at.ensures w.if-is_at.false
+  | else-is_free-via-else-is_free w ↦ known_held _ _ c.requires.3 c.in-At.is c.activity_of.ensures c.is_free.ensures w.if-is_free.false
+]

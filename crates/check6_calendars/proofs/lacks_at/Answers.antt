@@ -26,5 +26,5 @@ lacks_time-requires c = (search rules, search rules, search rules, search (rules
 pub returns-then-is_at : goal.returns-then-is_at
 returns-then-is_at c = search (rules, lacks_found, untold_yes)
 
-pub returns : goal.returns
-returns c = search (rules, lacks_plain, untold_yes)
+pub returns-else-is_at : goal.returns-else-is_at
+returns-else-is_at c = search (rules, lacks_plain, untold_yes)

@@ -2,11 +2,11 @@ use borrow.Author.Rules.{rules}
 use Rattle.check6_joint_calendars.proofs.Gathering.{holder, added_taken, added_passed}
 use Rattle.check6_joint_calendars.proofs.add_resource.Goals as goal
 
-pub add_calendar-requires : goal.add_calendar-requires
-add_calendar-requires c = search (rules, holder)
+pub add-requires : goal.add-requires
+add-requires c = search (rules, holder)
 
 pub returns-then-marks-r-eq1 : goal.returns-then-marks-r-eq1
 returns-then-marks-r-eq1 c = search (rules, added_taken)
 
-pub returns : goal.returns
-returns c = search (rules, added_passed)
+pub returns-else-marks-r-eq1 : goal.returns-else-marks-r-eq1
+returns-else-marks-r-eq1 c = search (rules, added_passed)

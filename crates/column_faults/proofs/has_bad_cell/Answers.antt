@@ -1,16 +1,9 @@
-use Rattle.loops.proofs.BranchLaws.{told}
-use borrow.Author.Rules.{rules}
-use Rattle.loops.proofs.SearchLaws.{any_zero, any_miss, any_hit, any_done}
+use Rattle.std.proofs.Common.{◌∙◌, refl, rules, tests}
+use Rattle.std.proofs.lemmas.Iterator.{YieldsList-from_range}
+use Rattle.std.proofs.lemmas.Iterator.Search.{any_from_yields_List}
+use Rattle.sheet.specs.Refusals.{bad_cell}
+use Rattle.column_faults.proofs.Ranges.{any_listed}
 use Rattle.column_faults.proofs.has_bad_cell.Goals as goal
 
-pub loop-c-init : goal.loop-c-init
-loop-c-init c = (search rules, any_zero _)
-
-pub returns-then-is_bad_cell : goal.returns-then-is_bad_cell
-returns-then-is_bad_cell c = search (rules, told, any_hit)
-
-pub loop-c-preserved : goal.loop-c-preserved
-loop-c-preserved c = (search rules, search (rules, told, any_miss))
-
 pub returns : goal.returns
-returns c = search (rules, any_done)
+returns c = any_from_yields_List (bad_cell c.args.rows.now c.args.k) _ _ _ c.any.ensures.ran (YieldsList-from_range 0 10 10 refl refl) (λ x b q k. search (rules, tests)) ∙ any_listed (bad_cell c.args.rows.now c.args.k) 10

@@ -1,14 +1,11 @@
-use Rattle.letters.proofs.EveryLaws.{every}
+use Rattle.std.proofs.Common.{rules, ◌∙◌}
+use Rattle.std.proofs.lemmas.Iterator.{YieldsList-from_slice}
+use Rattle.std.proofs.lemmas.Iterator.Search.{all_from_yields_List}
+use Rattle.text_fields.specs.Spelling.{is_digit}
+use Rattle.text_fields.proofs.AllLaws.{all_listed}
 use Rattle.dates.proofs.is_digits.Goals as goal
 
-pub loop-i-init : goal.loop-i-init
-loop-i-init c = search every
-
-pub returns-then-not-is_digit : goal.returns-then-not-is_digit
-returns-then-not-is_digit c = search every
-
-pub loop-i-preserved : goal.loop-i-preserved
-loop-i-preserved c = search every
-
 pub returns : goal.returns
-returns c = search every
+returns c =
+    all_from_yields_List is_digit _ _ _ c.all.ensures.ran (YieldsList-from_slice c.args.s.now c.iter.ensures.rest) (λ x b q k. search rules)
+    ∙ all_listed is_digit c.args.s.now

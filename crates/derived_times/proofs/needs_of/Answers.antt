@@ -4,10 +4,10 @@ use Rattle.loops.proofs.StoreLaws.{filled_start}
 use Rattle.derived_times.proofs.needs_of.Goals as goal
 
 pub loop-k-init : goal.loop-k-init
-loop-k-init c = (search rules, filled_start _)
+loop-k-init c = filled_start _
 
 pub loop-k-preserved : goal.loop-k-preserved
-loop-k-preserved c = (search rules, search (rules, times_next))
+loop-k-preserved c = search (rules, times_next)
 
 pub returns : goal.returns
 returns c = search (rules, times_end)

@@ -4,7 +4,7 @@ use Rattle.derived_times.proofs.Refusing.{refused_at, fault_some, fault_none, no
 use Rattle.derived_times.proofs.refused.Goals as goal
 
 pub loop-k-init : goal.loop-k-init
-loop-k-init c = (search rules, first_zero _)
+loop-k-init c = first_zero _
 
 pub returns-then-is_too_large : goal.returns-then-is_too_large
 returns-then-is_too_large c = search (rules, refused_at, fault_some)

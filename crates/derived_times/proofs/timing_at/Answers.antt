@@ -6,5 +6,5 @@ use Rattle.derived_times.proofs.timing_at.Goals as goal
 pub returns-then-is_at : goal.returns-then-is_at
 returns-then-is_at c = search (rules, timing_speed, told)
 
-pub returns : goal.returns
-returns c = search (rules, timing_fixed, told)
+pub returns-else-is_at : goal.returns-else-is_at
+returns-else-is_at c = search (rules, timing_fixed, told)

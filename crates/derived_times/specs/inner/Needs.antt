@@ -1,11 +1,9 @@
 -- The derived times of the bookings, by row, as the code holds them. Assumes nothing.
 use Rattle.std.specs.Prelude.{ℕ, ◌+◌, ◌^◌, ◌<◌, ◌≤◌, ◌≡◌, List, [], ◌∷◌, ℤ, get_or}
-use Rattle.std.specs.Prelude.{Some}
+use Rattle.std.specs.Prelude.{Some, Ok, Err}
 use Rattle.loops.specs.Lists.{head, option}
 use Rattle.rows.specs.Cells.{row_count}
-use Rattle.resource_timing.specs.declared.Derived.{Derived}
-use Rattle.resource_timing.specs.declared.Derived.TheVariants.{Within, TooLarge}
-use Rattle.resource_timing.specs.inner.Limits.{within}
+use Rattle.resource_timing.specs.inner.Limits.{Derived, within}
 use Rattle.model.specs.Sheet.{sheet}
 use Rattle.model.specs.Activity.{Activity, find_activity, needed_ms}
 use Rattle.model.specs.Schedule.{Assignment, assignment_at}
@@ -14,8 +12,8 @@ use Rattle.derived_times.specs.Times.{derived}
 
 -- processing and teardown; 2^53 where the time is refused
 abbrev pub rest_ms : Derived → ℕ
-rest_ms (Within d) = d.process_ms + d.teardown_ms
-rest_ms TooLarge = 9007199254740992
+rest_ms (Ok d) = d.process_ms + d.teardown_ms
+rest_ms (Err e) = 9007199254740992
 
 -- of row k, where it is a booking of a known activity
 unfoldable pub rest_at : List ℤ → ℕ → ℕ

@@ -5,7 +5,7 @@ use Rattle.std.specs.Float.{binary64}
 use Rattle.std.specs.Float.Ieee.{of_bits}
 use Rattle.loops.specs.Lists.{option}
 use Rattle.loops.specs.Search.{first_place}
-use Rattle.rows.specs.Cells.{row_count, cell, num, is}
+use Rattle.rows.specs.Cells.{row_count, num, is}
 use Rattle.sheet.specs.inner.Kept.{Kept}
 use Rattle.resource_timing.specs.declared.ActivityDuration.{ActivityDuration}
 use Rattle.resource_timing.specs.declared.ResourceTiming.{ResourceTiming}

@@ -1,28 +1,26 @@
 -- What reading some periods comes to, where others went before them: the public promises do not speak of it. Assumes nothing.
 use Rattle.std.specs.Prelude.{Ok}
-use Rattle.std.specs.Prelude.{ℕ, ◌≤◌, List, ◌≡◌, ℤ, pos}
+use Rattle.std.specs.Prelude.{ℕ, ◌≤◌, List, ◌≡◌, ℤ}
 use Rattle.std.specs.Prelude.{Option, None, Some}
 use Rattle.loops.specs.Lists.{each}
 use Rattle.loops.specs.Search.{or_else}
 use Rattle.line_buffer.specs.inner.Sink.{Sink, sink, put_lines}
 use Rattle.refusals.specs.Refusals.{verdict_of}
 use Rattle.refusals.specs.declared.Refusal.{Refusal}
-use Rattle.freebusy_periods.specs.declared.Window.{Window}
-use Rattle.freebusy_periods.specs.declared.Window.TheVariants.{Span, Wrong}
 use Rattle.freebusy_lines.specs.Lines.{lines}
 use Rattle.freebusy_components.specs.Components.{Busy, wrong_from}
 use Rattle.freebusy_components.specs.inner.Room.{space_after}
 use Rattle.freebusy.specs.declared.Reading.{Reading}
 use Rattle.freebusy.specs.Call.{Closure, periods_in, closure_row, closures_of, line_refusal, periods_refusal}
 
--- closures as rows of the resource of that id, one after the other
-abbrev pub put_closures : ℕ → Sink → List Closure → Sink
-put_closures id = put_lines 10 (closure_row (pos id))
+-- closures as rows of the resource, one after the other
+abbrev pub put_closures : ℤ → Sink → List Closure → Sink
+put_closures resource = put_lines 10 (closure_row resource)
 
 -- the periods bs were read, with `room` rows lent: the refusal of the first that is refused, the rows of all as far as they go
-pub record ReadOn (room id : ℕ) (rows : List ℤ) (from : Reading) (bs : List Busy) (rows' : List ℤ) (to : Reading) : Type 0 where
+pub record ReadOn (room : ℕ) (resource : ℤ) (rows : List ℤ) (from : Reading) (bs : List Busy) (rows' : List ℤ) (to : Reading) : Type 0 where
   pub refusal : verdict_of to.refused ≡ or_else (verdict_of from.refused) (periods_refusal room from.count bs)
-  pub numbers : sink rows' to.count ≡ put_closures id (sink rows from.count) (each closures_of bs)
+  pub numbers : sink rows' to.count ≡ put_closures resource (sink rows from.count) (each closures_of bs)
 
 -- no period was read yet
 abbrev pub unread : Reading
@@ -32,11 +30,6 @@ unread = record { count = 0; refused = Ok tt }
 abbrev pub space_read : Option Refusal → List ℕ → List ℕ → List ℕ
 space_read None text space = space_after text (space_after text space)
 space_read (Some r) text space = space_after text space
-
--- a window's ends are instants of a sheet
-abbrev pub Early : Window → Type 0
-Early (Span a e) = (a ≤ 4_000_000_000_000) × (e ≤ 4_000_000_000_000)
-Early (Wrong k) = Unit
 
 -- what a text is refused by that is not overlong, for a resource that may be: 11 by line, then by period
 abbrev pub text_refusal : List ℕ → ℕ → Option Refusal

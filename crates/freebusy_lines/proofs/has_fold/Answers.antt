@@ -1,9 +1,6 @@
 use Rattle.freebusy_lines.proofs.FoldLaws.{plain}
 use Rattle.freebusy_lines.proofs.has_fold.Goals as goal
 
-pub loop-i-init : goal.loop-i-init
-loop-i-init c = search plain
-
 pub returns-then-is_fold : goal.returns-then-is_fold
 returns-then-is_fold c = search plain
 

@@ -1,23 +1,15 @@
-use Rattle.freebusy_lines.proofs.FoldLaws.{copies}
+use Rattle.std.proofs.Common.{◌∙◌, sym, arith}
+use Rattle.freebusy_lines.proofs.FoldLaws.{copied_fold, copied_byte, copied_count, copied_all}
 use Rattle.freebusy_lines.proofs.unfold_into.Goals as goal
 
-pub loop-i-init : goal.loop-i-init
-loop-i-init c = search copies
+pub loop-rest-preserved-then-is_fold : goal.loop-rest-preserved-then-is_fold
+loop-rest-preserved-then-is_fold c = copied_fold c.loop-rest.invariant (sym c.is_fold.ensures ∙ c.if-is_fold.true)
 
-pub overflow_add-i : goal.overflow_add-i
-overflow_add-i c = search copies
+pub loop-rest-preserved : goal.loop-rest-preserved
+loop-rest-preserved c = copied_byte c.loop-rest.invariant (omega arith) (omega arith) (sym c.is_fold.ensures ∙ c.if-is_fold.false)
 
-pub loop-i-smaller-then-is_fold : goal.loop-i-smaller-then-is_fold
-loop-i-smaller-then-is_fold c = search copies
+pub returns-clause-value : goal.returns-clause-value
+returns-clause-value c = copied_count c.loop-rest.invariant (omega arith) (omega arith)
 
-pub loop-i-preserved-then-is_fold : goal.loop-i-preserved-then-is_fold
-loop-i-preserved-then-is_fold c = search copies
-
-pub loop-i-preserved : goal.loop-i-preserved
-loop-i-preserved c = search copies
-
-pub shape_of-to : goal.shape_of-to
-shape_of-to c = search copies
-
-pub returns : goal.returns
-returns c = search copies
+pub returns-clause-to_after : goal.returns-clause-to_after
+returns-clause-to_after c = copied_all c.loop-rest.invariant (omega arith) (omega arith)

@@ -1,5 +1,5 @@
--- What the readers of a text's lines give on their way: folds and ends of lines at a place, and the first line as it is sent. Assumes nothing.
-use Rattle.std.specs.Prelude.{ℕ, Bool, false, cond, ◌&&◌, ◌||◌, not, List, [], ◌∷◌, drop}
+-- What the readers of a text's lines give on their way: folds and ends of lines, and the first line as it is sent. Assumes nothing.
+use Rattle.std.specs.Prelude.{ℕ, Bool, false, cond, ◌&&◌, ◌||◌, not, List, [], ◌∷◌}
 use Rattle.freebusy_lines.specs.Lines.{is_blank, is_crlf, starts_blank}
 
 -- a fold comes first
@@ -14,13 +14,6 @@ abbrev pub end_first : List ℕ → Bool
 end_first [] = false
 end_first (x ∷ []) = false
 end_first (x ∷ y ∷ xs) = is_crlf x y && not (starts_blank xs)
-
--- at place i of a text
-unfoldable pub fold_at : List ℕ → ℕ → Bool
-fold_at s i = fold_first (drop i s)
-
-unfoldable pub end_at : List ℕ → ℕ → Bool
-end_at s i = end_first (drop i s)
 
 -- a fold stands somewhere
 unfoldable pub is_folded : List ℕ → Bool

@@ -1,8 +1,6 @@
-use Rattle.freebusy_periods.proofs.AmountLaws.{adds}
+use Rattle.std.proofs.Common.{◌∙◌}
+use Rattle.freebusy_periods.proofs.CapLaws.{cut_sum}
 use Rattle.freebusy_periods.proofs.add.Goals as goal
 
-pub returns-in-Is : goal.returns-in-Is
-returns-in-Is c = search adds
-
-pub returns-in-Not : goal.returns-in-Not
-returns-in-Not c = search adds
+pub returns : goal.returns
+returns c = c.cut-3.ensures.0 ∙ cut_sum _ _ _ _ c.cut.ensures.0 c.cut-2.ensures.0

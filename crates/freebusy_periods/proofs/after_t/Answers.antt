@@ -1,17 +1,18 @@
+use Rattle.std.proofs.Common.{◌≡◌, Some}
 use Rattle.freebusy_periods.proofs.DurationLaws.{times}
 use Rattle.freebusy_periods.proofs.after_t.Goals as goal
 
-pub returns-then-not-k : goal.returns-then-not-k
-returns-then-not-k c = search times
+pub returns-in_err-k : goal.returns-in_err-k
+returns-in_err-k c = search times
 
-pub returns-then-k-eq72 : goal.returns-then-k-eq72
-returns-then-k-eq72 c = search times
+pub returns-in-72 : goal.returns-in-72
+returns-in-72 c = search times
 
-pub returns-then-k-eq77 : goal.returns-then-k-eq77
-returns-then-k-eq77 c = search times
+pub returns-in-77 : goal.returns-in-77
+returns-in-77 c = search times
 
-pub returns-then-k-eq83 : goal.returns-then-k-eq83
-returns-then-k-eq83 c = search times
+pub returns-in-83 : goal.returns-in-83
+returns-in-83 c = search times
 
-pub returns : goal.returns
-returns c = search times
+pub returns-in_default : goal.returns-in_default
+returns-in_default c = let w : c.read_amount.result ≡ Some c.in_ok-k.k = c.in_ok-k.was in search times

@@ -1,8 +1,6 @@
-use Rattle.freebusy_periods.proofs.CapLaws.{caps}
+use Rattle.std.proofs.Common.{arith, ◌∙◌}
+use Rattle.freebusy_periods.proofs.CapLaws.{cut_is}
 use Rattle.freebusy_periods.proofs.cut.Goals as goal
 
-pub returns-then-n-gt-MOST : goal.returns-then-n-gt-MOST
-returns-then-n-gt-MOST c = search caps
-
 pub returns : goal.returns
-returns c = search caps
+returns c = (c.min.ensures ∙ cut_is _, omega (arith, c.min.ensures))

@@ -1,11 +1,12 @@
+use Rattle.std.proofs.Common.{◌≡◌, Some}
 use Rattle.freebusy_periods.proofs.DurationLaws.{seconds}
 use Rattle.freebusy_periods.proofs.dur_second.Goals as goal
 
-pub returns-then-not-k : goal.returns-then-not-k
-returns-then-not-k c = search seconds
+pub returns-in_err-k : goal.returns-in_err-k
+returns-in_err-k c = search seconds
 
 pub returns-then-k-ne83 : goal.returns-then-k-ne83
-returns-then-k-ne83 c = search seconds
+returns-then-k-ne83 c = let w : c.read_amount.result ≡ Some c.in_ok-k.k = c.in_ok-k.was in search seconds
 
 pub returns : goal.returns
 returns c = search seconds

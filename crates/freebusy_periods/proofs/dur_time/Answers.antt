@@ -1,8 +1,8 @@
 use Rattle.freebusy_periods.proofs.DurationLaws.{lettered}
 use Rattle.freebusy_periods.proofs.dur_time.Goals as goal
 
-pub returns-then-s-eq0 : goal.returns-then-s-eq0
-returns-then-s-eq0 c = search lettered
+pub returns-in_default : goal.returns-in_default
+returns-in_default c = search lettered
 
 pub returns-then-not-is_letter : goal.returns-then-not-is_letter
 returns-then-not-is_letter c = search lettered

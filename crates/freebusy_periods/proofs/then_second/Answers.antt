@@ -1,8 +1,13 @@
+use Rattle.std.proofs.Common.{sym, ◌∙◌}
+use borrow.Author.Tests.{eqb-true, eqb-false}
 use Rattle.freebusy_periods.proofs.AmountLaws.{thens}
 use Rattle.freebusy_periods.proofs.then_second.Goals as goal
 
-pub returns-then-s-eq0 : goal.returns-then-s-eq0
-returns-then-s-eq0 c = search thens
+pub returns-then-is_empty : goal.returns-then-is_empty
+returns-then-is_empty c = let z = eqb-true _ _ (sym c.is_empty.ensures ∙ c.if-is_empty.true) in search thens
+
+pub returns-in_err-dur_second : goal.returns-in_err-dur_second
+returns-in_err-dur_second c = let z = eqb-false _ _ (sym c.is_empty.ensures ∙ c.if-is_empty.false) in search thens
 
 pub returns : goal.returns
-returns c = search thens
+returns c = let z = eqb-false _ _ (sym c.is_empty.ensures ∙ c.if-is_empty.false) in search thens

@@ -7,11 +7,14 @@ returns-in_default c = search windows
 pub returns-then-s-n : goal.returns-then-s-n
 returns-then-s-n c = search windows
 
-pub end_from-end-requires : goal.end_from-end-requires
-end_from-end-requires c = search windows
+pub end_from-requires : goal.end_from-requires
+end_from-requires c = search windows
 
-pub returns-in_default-end : goal.returns-in_default-end
-returns-in_default-end c = search windows
+pub returns-in_default-end_from : goal.returns-in_default-end_from
+returns-in_default-end_from c = search windows
 
-pub returns : goal.returns
-returns c = search windows
+pub returns-then-start-end : goal.returns-then-start-end
+returns-then-start-end c = search windows
+
+pub returns-else-start-end : goal.returns-else-start-end
+returns-else-start-end c = search windows

@@ -1,37 +1,28 @@
 -- Seconds as the code counts them: no more than 4,000,000,001, which lead out of the range of instants from each of them. Assumes nothing.
-use Rattle.std.specs.Prelude.{ℕ, ◌+◌, Bool, cond, ◌||◌, List, [], ◌∷◌, ltb, drop}
+use Rattle.std.specs.Prelude.{ℕ, ◌+◌, Bool, cond, ◌||◌, List, [], ◌∷◌, ltb}
 use Rattle.std.specs.Prelude.{Option, None, Some}
 use Rattle.loops.specs.Lists.{option, is_some}
 use Rattle.loops.specs.Search.{or_else}
 use Rattle.letters.specs.Letters.{is_letter}
 use Rattle.dates.specs.DateTime.{date_time}
 use Rattle.freebusy_periods.specs.Duration.{Counted, counts, dur_second, dur_minute, dur_hour, dur_time, dur_date, dur_week, dur_value}
-use Rattle.refusals.specs.declared.Reason.TheVariants.{Malformed}
 use Rattle.freebusy_periods.specs.declared.Amount.{Amount}
-use Rattle.freebusy_periods.specs.declared.Seconds.{Seconds}
-use Rattle.freebusy_periods.specs.declared.Seconds.TheVariants.{Is, Not}
-use Rattle.freebusy_periods.specs.declared.Window.{Window}
-use Rattle.freebusy_periods.specs.declared.Window.TheVariants.{Span, Wrong}
 
 unfoldable pub at_most : ℕ → ℕ
 at_most n = cond (ltb 4_000_000_001 n) 4_000_000_001 n
 
--- a number with its unit, so capped; and as the code has it, of a text s
+-- a number with its unit, so capped; and as the code has it
 abbrev pub capped_count : Option Counted → Option Counted
 capped_count None = None
 capped_count (Some k) = Some (counts (at_most k.count) k.unit k.rest)
 
-unfoldable pub count_of : Amount → List ℕ → Option Counted
-count_of a s = cond a.found (Some (counts a.count a.unit (drop a.at s))) None
+abbrev pub counted_by : Amount → Counted
+counted_by a = counts a.count a.unit a.rest.now
 
--- seconds, so capped; and as the code has them
+-- seconds, so capped
 unfoldable pub capped : Option ℕ → Option ℕ
 capped None = None
 capped (Some n) = Some (at_most n)
-
-abbrev pub seconds_of : Seconds → Option ℕ
-seconds_of (Is n) = Some n
-seconds_of Not = None
 
 -- n seconds more
 unfoldable pub added : ℕ → Option ℕ → Option ℕ
@@ -53,7 +44,3 @@ after_p s = or_else (dur_date s) (or_else (dur_time s) (dur_week s))
 -- what may follow the slash of a period
 unfoldable pub ends_period : List ℕ → Bool
 ends_period e = date_time e || is_some (dur_value e)
-
--- from a to b, where b is after a
-unfoldable pub spanned : ℕ → ℕ → Window
-spanned a b = cond (ltb a b) (Span a b) (Wrong Malformed)

@@ -3,4 +3,4 @@ use borrow.Author.Rules.{rules}
 use Rattle.link_faults.proofs.has_earlier.Goals as goal
 
 pub returns : goal.returns
-returns c = search (rules, first_below)
+returns c = rw (← c.number.ensures) (search (rules, first_below))

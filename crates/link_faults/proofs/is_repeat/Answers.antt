@@ -1,23 +1,25 @@
-use mathlib.Core.Path.{◌∙◌}
-use Rattle.link_faults.proofs.Repeats.{may_repeat, by_id, by_pair, by_first, by_second}
-use Rattle.sheet.proofs.Groups.{group_small}
-use borrow.Author.Rules.{rules}
+use Rattle.link_faults.proofs.Repeats.{by_id, by_pair, by_first, by_second, may_repeat, of_no_kind}
 use Rattle.link_faults.proofs.is_repeat.Goals as goal
 
-pub returns-then-group-eq0 : goal.returns-then-group-eq0
-returns-then-group-eq0 c = search may_repeat
+pub returns-in_default : goal.returns-in_default
+returns-in_default c = of_no_kind c.args.rows.now c.args.k c.in_default.ensures
 
-pub returns-then-group-eq14 : goal.returns-then-group-eq14
-returns-then-group-eq14 c = search by_pair
+pub returns-in-Task : goal.returns-in-Task
+returns-in-Task c = by_id c.args.rows.now c.args.k c.in-Some.ensures c.num_at-id.ensures c.has_earlier.ensures c.in-Task.is
 
 pub returns-then-has_earlier_pair : goal.returns-then-has_earlier_pair
-returns-then-has_earlier_pair c = search by_first
+returns-then-has_earlier_pair c =
+    by_first c.args.rows.now c.args.k c.in-Some.ensures c.num_at-id.ensures c.num_at-other.ensures c.has_earlier_pair.ensures c.if-has_earlier_pair.true c.in-Speed.is
 
-pub returns-then-group-eq9 : goal.returns-then-group-eq9
-returns-then-group-eq9 c = c.has_earlier_pair-then-group-eq9-2.ensures ∙ search by_second
+pub returns-else-has_earlier_pair : goal.returns-else-has_earlier_pair
+returns-else-has_earlier_pair c =
+    by_second c.args.rows.now c.args.k c.in-Some.ensures c.num_at-id.ensures c.num_at-other.ensures c.has_earlier_pair.ensures c.if-has_earlier_pair.false c.has_earlier_pair-else-has_earlier_pair.ensures c.in-Speed.is
 
-pub has_earlier-requires : goal.has_earlier-requires
-has_earlier-requires c = search (rules, group_small)
+pub returns-in-Transport : goal.returns-in-Transport
+returns-in-Transport c =
+    by_pair c.args.rows.now c.args.k c.in-Some.ensures c.num_at-id.ensures c.num_at-other.ensures c.has_earlier_pair-in-Transport.ensures c.in-Transport.is
 
-pub returns : goal.returns
-returns c = search by_id
+pub returns-in_default-kind : goal.returns-in_default-kind
+returns-in_default-kind c =
+    let d = c.in_default-kind in
+    may_repeat c.args.rows.now c.args.k c.in-Some.ensures d.not-Task d.not-Activity d.not-Overlap d.not-Split d.not-Speed d.not-FixedTiming d.not-Resource d.not-Transport

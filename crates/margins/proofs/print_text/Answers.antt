@@ -26,8 +26,8 @@ returns-in-Ok c =
 pub returns-in-Err : goal.returns-in-Err
 returns-in-Err c =
     record {
-      upper_bound = refused_within c.put_refused.ensures c.requires (omega arith) (search rules) (search rules);
+      upper_bound = refused_within _ c.put_refused.ensures c.requires (omega arith) (search rules);
       out_after =
           text_refused c.args.text.now c.no_rows-rows.result c.no_rows-rows.ensures.value c.read_text-read.ensures.value printed_margins c.put_refused.ensures c.requires (omega arith) c.in-Err.is
-          (search rules) (search rules);
+          (search rules);
     }

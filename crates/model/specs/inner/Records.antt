@@ -5,7 +5,7 @@ use Rattle.std.specs.Prelude.{Option}
 use Rattle.loops.specs.Search.{count_below}
 use Rattle.rows.specs.Cells.{cell, num}
 use Rattle.sheet.specs.Places.{named}
-use Rattle.rows.specs.Class.{t?_c}
+use Rattle.rows.specs.declared.Class.TheVariants.{OptionalInstant}
 use Rattle.model.specs.Sheet.{Sheet, sheet, read, as_int, as_num, as_instant}
 use Rattle.model.specs.Task.{Task}
 use Rattle.model.specs.Activity.{Activity, ResourceRequirement}
@@ -23,9 +23,9 @@ module _ {T : Type 0} (s : Sheet T) where
   abbrev pub time_at : ℕ → ℕ → Option T
   time_at k c = as_instant (s.cell k c)
 
--- an instant that may be none: a column t? of a row
+-- an instant that may be none: a column of class OptionalInstant
 abbrev pub maybe_at : List ℤ → ℕ → ℕ → Option ℤ
-maybe_at rows k c = as_instant (read t?_c (cell rows k c))
+maybe_at rows k c = as_instant (read OptionalInstant (cell rows k c))
 
 module _ (rows : List ℤ) (k : ℕ) where
   abbrev pub task_of : Task ℤ

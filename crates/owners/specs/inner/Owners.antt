@@ -1,29 +1,50 @@
 -- The row that each row belongs to, and the rows that belong to a row, with the tables that hold them. These are filled once, and the checks walk
 -- along them in place of all rows. Assumes nothing.
-use Rattle.std.specs.Prelude.{ℕ, ◌+◌, ◌*◌, ◌%◌, ◌<◌, ◌≤◌, ◌≡◌, Bool, cond, ◌&&◌, List, [], ◌∷◌, ℤ, get_or, eqb}
-use Rattle.std.specs.Prelude.{Option, None}
+use Rattle.std.specs.Prelude.{ℕ, ◌+◌, ◌*◌, ◌%◌, ◌<◌, ◌≤◌, ◌≡◌, Bool, cond, ◌&&◌, List, ℤ, get_or, eqb}
+use Rattle.std.specs.Prelude.{Option, None, Some}
 use Rattle.loops.specs.inner.Chain.{Links}
+use Rattle.rows.specs.declared.Kind.{Kind}
+use Rattle.rows.specs.declared.Kind.TheVariants.{Activity, Overlap, Split, Requirement, Candidate, WantedSkill, Predecessor, Speed, FixedTiming, Skill, Companion, Transport, ResourceWindow, ActivityWindow, Member, Booking, TimeOnlySpan}
+use Rattle.rows.specs.Kinds.{kind_of}
 use Rattle.rows.specs.Cells.{row_count, num, is}
 use Rattle.sheet.specs.Places.{task_place, activity_place, resource_place, requirement_place, constraint_place}
 use Rattle.sheet.specs.inner.Index.{or_end}
+use Rattle.owners.specs.declared.Owner.{Owner}
+use Rattle.owners.specs.declared.Owner.TheVariants.{TaskRow, ActivityRow, RequirementRow, ResourceRow, ConstraintRow}
 
--- The kind of the row that a row of kind 0, 1, 2 .. belongs to: 1 a task, 2 an activity, 5 a requirement of an activity, 11 a resource,
--- 17 a constraint (of kind 17 to 21), 0 none. It is what the last * column of the kind names; bookings and time-only spans belong to
--- their activity, if it is in the sheet.
-abbrev pub owner_kinds : List ℕ
-owner_kinds =
-    0 ∷ 0 ∷ 1 ∷ 2 ∷ 2 ∷ 2 ∷ 5 ∷ 5 ∷ 2 ∷ 2 ∷ 2 ∷ 0 ∷ 11 ∷ 11 ∷ 11 ∷ 11 ∷ 2 ∷ 0 ∷ 0 ∷ 0 ∷ 0 ∷ 0 ∷ 17 ∷ 2 ∷ 2 ∷ []
+-- What a row of a kind belongs to: what the last * column of the kind names. Bookings and time-only spans belong to their activity, if it is in the sheet.
+abbrev pub owner_of_kind : Option Kind → Option Owner
+owner_of_kind (Some Activity) = Some TaskRow
+owner_of_kind (Some Overlap) = Some ActivityRow
+owner_of_kind (Some Split) = Some ActivityRow
+owner_of_kind (Some Requirement) = Some ActivityRow
+owner_of_kind (Some Candidate) = Some RequirementRow
+owner_of_kind (Some WantedSkill) = Some RequirementRow
+owner_of_kind (Some Predecessor) = Some ActivityRow
+owner_of_kind (Some Speed) = Some ActivityRow
+owner_of_kind (Some FixedTiming) = Some ActivityRow
+owner_of_kind (Some Skill) = Some ResourceRow
+owner_of_kind (Some Companion) = Some ResourceRow
+owner_of_kind (Some Transport) = Some ResourceRow
+owner_of_kind (Some ResourceWindow) = Some ResourceRow
+owner_of_kind (Some ActivityWindow) = Some ActivityRow
+owner_of_kind (Some Member) = Some ConstraintRow
+owner_of_kind (Some Booking) = Some ActivityRow
+owner_of_kind (Some TimeOnlySpan) = Some ActivityRow
+owner_of_kind _ = None
 
-unfoldable pub owner_kind : ℕ → ℕ
-owner_kind kind = get_or owner_kinds kind 0
+-- the same, by the number of the kind
+unfoldable pub owner_kind : ℕ → Option Owner
+owner_kind number = owner_of_kind (kind_of number)
 
--- the row of kind x that the columns of row k name
-unfoldable pub owner_of : List ℤ → ℕ → ℕ → Option ℕ
-owner_of rows x k =
-    cond (eqb x 1) (task_place rows (num rows k 2))
-    (cond (eqb x 2) (activity_place rows (num rows k 1))
-    (cond (eqb x 5) (requirement_place rows (num rows k 1) (num rows k 2))
-    (cond (eqb x 11) (resource_place rows (num rows k 1)) (cond (eqb x 17) (constraint_place rows (num rows k 1)) None))))
+-- the row that the columns of row k name as such an owner
+unfoldable pub owner_of : List ℤ → Option Owner → ℕ → Option ℕ
+owner_of rows (Some TaskRow) k = task_place rows (num rows k 2)
+owner_of rows (Some ActivityRow) k = activity_place rows (num rows k 1)
+owner_of rows (Some RequirementRow) k = requirement_place rows (num rows k 1) (num rows k 2)
+owner_of rows (Some ResourceRow) k = resource_place rows (num rows k 1)
+owner_of rows (Some ConstraintRow) k = constraint_place rows (num rows k 1)
+owner_of rows None k = None
 
 -- the row that row k belongs to
 unfoldable pub owner_place : List ℤ → ℕ → Option ℕ

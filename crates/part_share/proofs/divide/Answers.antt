@@ -8,8 +8,8 @@ returns-then-whole-eq0 c = search (rules, share_none)
 pub overflow_mul-high : goal.overflow_mul-high
 overflow_mul-high c = search (rules, high_fits)
 
-pub returns-then-high_digit-ge4294967296 : goal.returns-then-high_digit-ge4294967296
-returns-then-high_digit-ge4294967296 c = search (rules, share_beyond)
+pub returns-then-high_digit-ge-FIRST_TOO_LARGE : goal.returns-then-high_digit-ge-FIRST_TOO_LARGE
+returns-then-high_digit-ge-FIRST_TOO_LARGE c = search (rules, share_beyond)
 
 pub overflow_mul-low : goal.overflow_mul-low
 overflow_mul-low c = search (rules, rest_fits)

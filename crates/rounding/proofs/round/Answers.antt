@@ -4,6 +4,7 @@ use Rattle.rounding.proofs.Laws.{twice_above, twice_under, twice_fits, nearest_i
 use Rattle.std.proofs.Common.{arith}
 use denote.Floats.{passes}
 use Rattle.rounding.proofs.round.Goals as goal
+use Rattle.rounding.proofs.round.Goals.{else-x-via-then-x+else-x-2, else-x-via-else-x}
 
 pub truncating_f64_to_u64-requires : goal.truncating_f64_to_u64-requires
 unfolding of_bits
@@ -21,10 +22,10 @@ pub returns-then-x-2 : goal.returns-then-x-2
 unfolding of_bits
 returns-then-x-2 c = search (nearest_is, passes)
 
-pub returns-else-x-2 : goal.returns-else-x-2
-unfolding of_bits
-returns-else-x-2 c = above_limit _ c.if-x-2.false
-
 pub returns-else-x : goal.returns-else-x
 unfolding of_bits
-returns-else-x c = below_zero _ c.if-x.false
+returns-else-x c =
+    elim c.else-x.branch [
+      | else-x-via-then-x+else-x-2 w ↦ above_limit _ w.if-x-2.false
+      | else-x-via-else-x w ↦ below_zero _ w.if-x.false
+    ]

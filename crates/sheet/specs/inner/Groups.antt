@@ -1,4 +1,4 @@
--- Refusal 5 as the code looks for it: by a table of kinds. That it comes to the same is a law: proofs/Groups.antt. Assumes nothing.
+-- Refusal 5 as the code looks for it: by the kind of a row. That it comes to the same is a law: proofs/Groups.antt. Assumes nothing.
 use Rattle.std.specs.Prelude.{ℕ, Bool, false, cond, ◌&&◌, ◌||◌, List, [], ◌∷◌, ℤ, get_or, eqb}
 use Rattle.loops.specs.Search.{any_below}
 use Rattle.rows.specs.Cells.{num, is}

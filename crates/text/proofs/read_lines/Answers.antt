@@ -11,7 +11,7 @@ pub returns-then-rest-n : goal.returns-then-rest-n
 returns-then-rest-n c = search (rules, open_answer, open_rows)
 
 pub read_line-requires : goal.read_line-requires
-read_line-requires c = (omega arith, search rules)
+read_line-requires c = omega arith
 
 pub returns-in-Err : goal.returns-in-Err
 returns-in-Err c = search (rules, wrong_answer, wrong_rows)

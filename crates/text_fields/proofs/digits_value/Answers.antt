@@ -1,25 +1,21 @@
-use mathlib.Core.Path.{refl, ◌∙◌}
-use borrow.Author.Rules.{rules}
-use Rattle.text_fields.proofs.DigitLaws.{at_end, digit_low, digit_high, digit_in, soon_too_large, too_large_lem}
+use Rattle.std.proofs.Common.{◌∙◌, arith}
+use Rattle.text_fields.proofs.DigitLaws.{digits, too_large}
 use Rattle.text_fields.proofs.digits_value.Goals as goal
 
-pub loop-i-init : goal.loop-i-init
-loop-i-init c = (search rules, refl, search rules)
+pub returns-then-not-is_ascii_digit : goal.returns-then-not-is_ascii_digit
+returns-then-not-is_ascii_digit c = search digits
 
-pub returns-then-d-lt48 : goal.returns-then-d-lt48
-returns-then-d-lt48 c = search (rules, digit_low)
+pub returns-in_err-checked_mul : goal.returns-in_err-checked_mul
+returns-in_err-checked_mul c = c.from_residual.ensures ∙ too_large c.args.s.now c.loop-x.x-index c.loop-x.n c.loop-x.invariant (omega arith) (omega (arith, c.in_err-checked_mul.ensures))
 
-pub returns-then-d-gt57 : goal.returns-then-d-gt57
-returns-then-d-gt57 c = search (rules, digit_high)
+pub returns-in_err-n : goal.returns-in_err-n
+returns-in_err-n c = c.from_residual-in_err-n.ensures ∙ too_large c.args.s.now c.loop-x.x-index c.loop-x.n c.loop-x.invariant (omega arith) (omega (arith, c.in_err-n.ensures, c.from.ensures))
 
-pub returns-then-n-gt922337203685477580 : goal.returns-then-n-gt922337203685477580
-returns-then-n-gt922337203685477580 c = search (rules, ◌∙◌, soon_too_large)
+pub loop-x-preserved : goal.loop-x-preserved
+loop-x-preserved c = search digits
 
-pub loop-i-preserved : goal.loop-i-preserved
-loop-i-preserved c = (search rules, search (rules, digit_in), search rules)
+pub returns-then-n : goal.returns-then-n
+returns-then-n c = search digits
 
-pub returns-then-n-lt9223372036854775808 : goal.returns-then-n-lt9223372036854775808
-returns-then-n-lt9223372036854775808 c = search (rules, ◌∙◌, at_end)
-
-pub returns-else-n-lt9223372036854775808 : goal.returns-else-n-lt9223372036854775808
-returns-else-n-lt9223372036854775808 c = search (rules, ◌∙◌, too_large_lem)
+pub returns-else-n : goal.returns-else-n
+returns-else-n c = search digits

@@ -1,21 +1,11 @@
-use mathlib.Core.Path.{refl, sym, ◌∙◌}
-use lib.Seq.{length-take-le}
-use native.Mathlib.Omega.{arith}
-use borrow.Author.Rules.{rules}
-use Rattle.text_fields.proofs.PartLaws.{up_found, up_more, up_end}
+use Rattle.std.proofs.Common.{rules, eqb}
+use Rattle.std.proofs.lemmas.Iterator.{YieldsList-from_slice}
+use Rattle.std.proofs.lemmas.Iterator.Search.{position_from_yields_List}
+use Rattle.text_fields.proofs.PartLaws.{until_position}
 use Rattle.text_fields.proofs.first_part.Goals as goal
 
-pub loop-i-init : goal.loop-i-init
-loop-i-init c = (search rules, refl)
-
-pub slice_bounds-result-end : goal.slice_bounds-result-end
-slice_bounds-result-end c = sym (length-take-le _ _ (omega arith))
-
-pub returns-then-s-i : goal.returns-then-s-i
-returns-then-s-i c = search (rules, ◌∙◌, up_found)
-
-pub loop-i-preserved : goal.loop-i-preserved
-loop-i-preserved c = search (rules, up_more)
-
 pub returns : goal.returns
-returns c = search (rules, ◌∙◌, up_end)
+returns c =
+    until_position c.args.stop c.args.s.now
+    (position_from_yields_List (λ x. eqb x c.args.stop) _ _ _ c.position.ensures.ran (YieldsList-from_slice c.args.s.now c.iter.ensures.rest) (λ x b q k. search rules))
+    c.unwrap_or-end.ensures

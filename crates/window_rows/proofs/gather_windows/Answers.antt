@@ -1,8 +1,8 @@
 use borrow.Author.Rules.{rules}
-use Rattle.window_rows.proofs.Laying.{laying_first, laying_next, room, one_fits, below, laid, counted}
+use Rattle.window_rows.proofs.Laying.{laying_first, laying_next, room, below, laid, counted}
 use Rattle.window_rows.proofs.gather_windows.Goals as goal
 
-ruleset walk = (rules, laying_first, laying_next, room, one_fits, below, laid, counted)
+ruleset walk = (rules, laying_first, laying_next, room, below, laid, counted)
 
 pub first_owned-k-requires : goal.first_owned-k-requires
 first_owned-k-requires c = search walk
@@ -10,17 +10,14 @@ first_owned-k-requires c = search walk
 pub loop-k-init : goal.loop-k-init
 loop-k-init c = search walk
 
-pub add_window-requires : goal.add_window-requires
-add_window-requires c = search walk
-
-pub overflow_add-to : goal.overflow_add-to
-overflow_add-to c = search walk
+pub push-requires : goal.push-requires
+push-requires c = search walk
 
 pub next_owned-k-requires : goal.next_owned-k-requires
 next_owned-k-requires c = (search walk, search walk, search walk)
 
 pub loop-k-preserved : goal.loop-k-preserved
-loop-k-preserved c = (search walk, search laying_next)
+loop-k-preserved c = (search walk, search walk)
 
 pub returns : goal.returns
 returns c =

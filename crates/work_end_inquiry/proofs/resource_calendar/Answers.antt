@@ -2,8 +2,8 @@ use Rattle.work_end_inquiry.proofs.Ends.{laid_known, laid_unknown}
 use borrow.Author.Rules.{rules}
 use Rattle.work_end_inquiry.proofs.resource_calendar.Goals as goal
 
-pub returns-then-in_class : goal.returns-then-in_class
-returns-then-in_class c = search (rules, laid_known)
+pub returns-then-allows : goal.returns-then-allows
+returns-then-allows c = search (rules, laid_known)
 
 pub returns : goal.returns
 returns c = search (rules, laid_unknown)

@@ -1,0 +1,62 @@
+// Calendars laid out one behind the other.
+
+ghost use Rattle.std.specs.Prelude.{◌≡◌, ◌≤◌, ◌<◌, ◌+◌, [], ◌∷◌, ◌++◌, length};
+
+use calendar::{Calendars, Places};
+use window_rows::WindowList;
+
+// Their windows, and the places of each among these. As many calendars as a sheet has rows have room: the library has no heap.
+#[derive(Drop)]
+pub struct LaidCalendars {
+    windows: WindowList,
+    places: [Places; 800],
+    count: usize,
+    ghost room: { length places ≡ 800 },
+    ghost within: { count ≤ 800 },
+}
+
+impl LaidCalendars {
+    ghost use Rattle.loops.specs.Search.{count_below};
+    ghost use Rattle.rows.specs.Cells.{row_count, num};
+    ghost use Rattle.calendar.specs.Layout.{calendars_of};
+    ghost use Rattle.owners.specs.inner.Owners.{Owned, owned_by};
+    ghost use Rattle.model.specs.Sheet.{sheet};
+    ghost use Rattle.model.specs.Resource.{windows};
+    ghost use Rattle.window_rows.specs.Listed.{listed};
+    ghost use Rattle.window_rows.specs.inner.Laid.{Holder};
+    ghost use Rattle.check6_joint_calendars.specs.Laid.{placed, LaidOut};
+    ghost use Rattle.check6_joint_calendars.specs.inner.Laying.{Added};
+
+    // Without calendars.
+    pub fn new() -> LaidCalendars
+        ensures { LaidOut [] result }
+    {
+        LaidCalendars {
+            windows: WindowList::new(),
+            places: [Places { from: 0, to: 0 }; 800],
+            count: 0,
+        }
+    }
+
+    // The windows of kind x of row o, as one calendar more.
+    pub fn add(&mut self, rows: &[i64], owned: &[u16; 8810], o: usize, x: usize)
+        requires { Owned rows.now owned.now × (o ≤ row_count rows.now) × Holder rows.now o x × (length (listed self.old.windows) + count_below (owned_by rows.now o x) (row_count rows.now) ≤ 800) × (length (placed self.old) < 800) }
+        ensures { Added (windows (sheet rows.now) x (num rows.now o 1)) (count_below (owned_by rows.now o x) (row_count rows.now)) self.old self.new }
+    {
+        let from = self.windows.len();
+        window_rows::gather_windows(rows, owned, o, x, &mut self.windows);
+        let to = self.windows.len();
+        self.places[self.count] = Places { from, to };
+        self.count += 1;
+    }
+
+    // As they are lent to the calendar functions.
+    pub fn as_calendars(&self) -> Calendars
+        ensures { calendars_of result.windows.now result.places.now ≡ calendars_of (listed self.now.windows) (placed self.now) }
+    {
+        Calendars {
+            windows: self.windows.as_slice(),
+            places: &self.places[..self.count],
+        }
+    }
+}

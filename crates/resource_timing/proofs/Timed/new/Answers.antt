@@ -1,8 +1,0 @@
--- `timing::Timed::new` meets its contract. Assumes nothing.
-use mathlib.Core.Path.{refl}
-use lib.Ieee.{of_bits}
-use Rattle.resource_timing.proofs.Timed.new.Goals as goal
-
-pub returns : goal.returns
-unfolding of_bits
-returns c = refl

@@ -1,0 +1,23 @@
+-- Cells past the rows. Assumes nothing.
+use Prim.Native.Nat.{ℕ, ◌+◌, ◌*◌, ◌≤◌}
+use mathlib.Core.Path.{◌≡◌, refl, sym}
+use mathlib.Core.Bool.{Bool, true, false, cond}
+use mathlib.Core.List.{List}
+use lib.Dec.{ltb}
+use lib.ListN.{length, get_or, get_or-eq_default}
+use lib.IntN.{ℤ, pos}
+use borrow.Author.Tests.{le-ltb}
+use Rattle.rows.specs.Cells.{cell}
+
+-- past the end a cell is 0
+pub cell_past : (rows : List ℤ) (k c : ℕ) → length rows ≤ k * 10 + c → pos 0 ≡ cell rows k c
+unfolding cell
+cell_past rows k c h = go (ltb c 10)
+  where
+    go : (b : Bool) → pos 0 ≡ cond b (get_or rows (k * 10 + c) (pos 0)) (pos 0)
+    go true = sym (get_or-eq_default rows (pos 0) h)
+    go false = refl
+
+pub cell_wide : (rows : List ℤ) (k c : ℕ) → 10 ≤ c → pos 0 ≡ cell rows k c
+unfolding cell
+cell_wide rows k c h = rw (le-ltb c 10 h)
