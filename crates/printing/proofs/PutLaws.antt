@@ -8,12 +8,11 @@ use Rattle.printing.specs.NumberLines.{field, number_lines}
 use native.Mathlib.Omega.{arith}
 use Prim.Native.Nat.{ℕ, ◌+◌, ◌/◌, ◌%◌, ◌≤◌, ◌<◌, min}
 use mathlib.Core.List.{List, [], ◌∷◌, ◌++◌}
-use mathlib.Core.Path.{◌≡◌, sym, ap, subst, ◌∙◌}
+use mathlib.Core.Path.{◌≡◌, sym, ap, ◌∙◌}
 use native.Mathlib.Numerals.{add-one}
 use lib.IntN.{ℤ, pos}
 use borrow.Author.Tests.{lt-ltb, le-ltb}
-use lib.ListN.{length, get_or, take}
-use lib.Seq.{take-suc, take_all}
+use lib.ListN.{length, get_or}
 use Rattle.loops.proofs.StoreLaws.{wrote_as, wrote_then}
 use Rattle.loops.specs.Range.{collect}
 use mir.Syntax.{w64}
@@ -22,13 +21,6 @@ use mir.Facts.{to_z-of_z}
 use Rattle.printing.specs.Decimal.{decimal, spelling}
 use Rattle.printing.proofs.DecimalLaws.{decimal_last, decimal_more}
 use Rattle.loops.specs.inner.Wrote.{Wrote}
-
--- one byte more of a text
-pub wrote_next : {l m o : List ℕ} {i j k : ℕ} (s : List ℕ) (n : ℕ) → n < length s → Wrote l i m j (take n s) → Wrote m j o k (get_or s n 0 ∷ []) → Wrote l i o k (take (n + 1) s)
-wrote_next s n h v w = rw (add-one n, take-suc s n 0) (wrote_then (take n s) (get_or s n 0 ∷ []) v w)
-
-pub wrote_all : {l m : List ℕ} {i j : ℕ} (s : List ℕ) (n : ℕ) → length s ≤ n → Wrote l i m j (take n s) → Wrote l i m j s
-wrote_all {l = l} {m = m} {i = i} {j = j} s n h v = subst (λ (b : List ℕ). Wrote l i m j b) (take_all n s h) v
 
 -- one line more
 pub wrote_line : {l m o : List ℕ} {i j k : ℕ} (f : ℕ → List ℕ) (n : ℕ) → Wrote l i m j (collect f n) → Wrote m j o k (f n) → Wrote l i o k (collect f (n + 1))

@@ -6,7 +6,7 @@ use native.Mathlib.Omega.{arith}
 use native.Mathlib.Nat.{suc-mul}
 use native.Mathlib.Numerals.{add-one}
 use lib.IntN.{ℤ}
-use lib.ListN.{length, take, drop, length-drop, length-take}
+use lib.ListN.{length, take, drop, length-drop}
 use lib.Seq.{drop-drop, take_all}
 use Rattle.loops.specs.Range.{collect}
 use Rattle.printing.specs.NumberLines.{number_line, line_at, number_lines}
@@ -41,7 +41,3 @@ module _ {out₀ : List ℕ} {from : ℕ} {numbers : List ℤ} {w : ℕ} {out : 
             take_all (length rest - length line) (drop (length line) rest) (omega (arith, length-drop (length line) rest)) ∙ ap (λ l. drop (length l) rest) e ∙ drop_line w rest
             ∙ ap (drop w) p.left ∙ drop-drop w (k * w) numbers ∙ ap (λ n. drop n numbers) m;
       }
-
--- a line is no longer than what is left
-pub line_within : (w : ℕ) (line rest : List ℤ) → line ≡ take w rest → length line ≤ length rest
-line_within w line rest e = rw e (simp length-take (omega arith))

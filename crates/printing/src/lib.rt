@@ -12,35 +12,11 @@ ghost use Rattle.printing.specs.Printed.{printed_refused, printed_accepted, prin
 
 use refusals::{Answer, Refusal};
 
-fn put(out: &mut [u8], at: usize, x: u8) -> usize
-    requires { at ≤ length out.old }
-    ensures { Wrote out.old at out.new result (x ∷ []) }
-{
-    if at < out.len() {
-        out[at] = x;
-        return at + 1;
-    }
-    at
-}
-
-pub fn put_bytes(out: &mut [u8], from: usize, s: &[u8]) -> usize
-    requires { from ≤ length out.old }
-    ensures { Wrote out.old from out.new result s.now }
-{
-    let mut at = from;
-    let mut i = 0;
-    while i < s.len() {
-        at = put(out, at, s[i]);
-        i += 1;
-    }
-    at
-}
-
 fn digit(d: u64) -> u8
     requires { d < 10 }
     ensures { result ≡ 48 + d }
 {
-    48 + d as u8
+    b'0' + d as u8
 }
 
 // A number in decimal digits.
@@ -49,20 +25,10 @@ fn put_decimal(out: &mut [u8], at: usize, n: u64) -> usize
     ensures { Wrote out.old at out.new result (decimal n) }
 {
     if n < 10 {
-        return put(out, at, digit(n));
+        return lent_room::put(out, at, digit(n));
     }
     let next = put_decimal(out, at, n / 10);
-    put(out, next, digit(n % 10))
-}
-
-// A number without its sign. One below zero is negated; the lowest has no negative, so it is the number after it that is, and one is added to that.
-fn magnitude(z: i64) -> u64
-    ensures { result ≡ nat_abs z }
-{
-    if z < 0 {
-        return -(z + 1) as u64 + 1;
-    }
-    z as u64
+    lent_room::put(out, next, digit(n % 10))
 }
 
 // A number with a minus where it is negative.
@@ -71,10 +37,10 @@ fn put_signed(out: &mut [u8], at: usize, z: i64) -> usize
     ensures { Wrote out.old at out.new result (spelling z) }
 {
     if z < 0 {
-        let next = put(out, at, b'-');
-        return put_decimal(out, next, magnitude(z));
+        let next = lent_room::put(out, at, b'-');
+        return put_decimal(out, next, z.unsigned_abs());
     }
-    put_decimal(out, at, magnitude(z))
+    put_decimal(out, at, z.unsigned_abs())
 }
 
 // Number c of a line, and the byte that ends it.
@@ -84,9 +50,9 @@ fn put_field(out: &mut [u8], at: usize, line: &[i64], c: usize) -> usize
 {
     let next = put_signed(out, at, line[c]);
     if c + 1 < line.len() {
-        return put(out, next, b',');
+        return lent_room::put(out, next, b',');
     }
-    put(out, next, b'\n')
+    lent_room::put(out, next, b'\n')
 }
 
 // A line of numbers.
@@ -95,10 +61,8 @@ pub fn put_line(out: &mut [u8], from: usize, line: &[i64]) -> usize
     ensures { Wrote out.old from out.new result (number_line line.now) }
 {
     let mut at = from;
-    let mut c = 0;
-    while c < line.len() {
+    for c in 0..line.len() {
         at = put_field(out, at, line, c);
-        c += 1;
     }
     at
 }
@@ -107,10 +71,7 @@ pub fn put_line(out: &mut [u8], from: usize, line: &[i64]) -> usize
 fn first_line(numbers: &[i64], w: usize) -> &[i64]
     ensures { result.now ≡ take w numbers.now }
 {
-    if w < numbers.len() {
-        return &numbers[..w];
-    }
-    numbers
+    &numbers[..w.min(numbers.len())]
 }
 
 // The first n lines of w numbers each.
@@ -120,13 +81,10 @@ fn put_lines(out: &mut [u8], from: usize, numbers: &[i64], w: usize, n: usize) -
 {
     let mut at = from;
     let mut rest = numbers;
-    let mut k = 0;
-    while k < n {
+    for _k in 0..n {
         let line = first_line(rest, w);
         at = put_line(out, at, line);
-        let m = line.len();
-        rest = &rest[m..];
-        k += 1;
+        rest = &rest[line.len()..];
     }
     at
 }
@@ -135,19 +93,19 @@ fn put_lines(out: &mut [u8], from: usize, numbers: &[i64], w: usize, n: usize) -
 pub fn put_refused(out: &mut [u8], e: Refusal) -> usize
     ensures { Wrote out.old 0 out.new result (printed_refused (number_of e.reason) e.place) }
 {
-    let mut at = put_bytes(out, 0, b"refused,");
+    let mut at = lent_room::put_all(out, 0, b"refused,");
     at = put_decimal(out, at, e.reason.number());
-    at = put(out, at, b',');
+    at = lent_room::put(out, at, b',');
     at = put_decimal(out, at, e.place as u64);
-    put(out, at, b'\n')
+    lent_room::put(out, at, b'\n')
 }
 
 fn put_accepted(out: &mut [u8], found: &[i64], n: usize) -> usize
     ensures { Wrote out.old 0 out.new result (printed_accepted n found.now) }
 {
-    let mut at = put_bytes(out, 0, b"accepted,");
+    let mut at = lent_room::put_all(out, 0, b"accepted,");
     at = put_decimal(out, at, n as u64);
-    at = put(out, at, b'\n');
+    at = lent_room::put(out, at, b'\n');
     put_lines(out, at, found, 4, n)
 }
 

@@ -1,5 +1,5 @@
 use Rattle.std.proofs.Common.{arith}
-use Rattle.line_buffer.proofs.Storing.{put_stored}
+use Rattle.lent_room.proofs.Storing.{put_stored}
 use Rattle.line_buffer.proofs.store.Goals as goal
 
 pub returns : goal.returns

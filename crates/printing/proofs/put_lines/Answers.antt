@@ -2,7 +2,7 @@ use borrow.Author.Rules.{rules}
 use Rattle.printing.specs.NumberLines.{number_lines}
 use Rattle.loops.proofs.StoreLaws.{wrote_within, wrote_long}
 use Rattle.printing.proofs.PutLaws.{wrote_upto}
-use Rattle.printing.proofs.RestLaws.{printing_none, printing_next, line_within}
+use Rattle.printing.proofs.RestLaws.{printing_none, printing_next}
 use Rattle.printing.proofs.put_lines.Goals as goal
 
 pub loop-k-init : goal.loop-k-init
@@ -10,9 +10,6 @@ loop-k-init c = search (rules, printing_none)
 
 pub put_line-at-requires : goal.put_line-at-requires
 put_line-at-requires c = search (rules, wrote_within)
-
-pub slice_bounds-rest-count : goal.slice_bounds-rest-count
-slice_bounds-rest-count c = search (rules, line_within)
 
 pub loop-k-preserved : goal.loop-k-preserved
 loop-k-preserved c = search (rules, printing_next)

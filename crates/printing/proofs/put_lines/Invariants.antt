@@ -1,9 +1,5 @@
-use Prim.Native.Nat.{◌-◌, ◌≤◌}
 use Rattle.printing.proofs.RestLaws.{Printing}
 use Rattle.printing.proofs.put_lines.Given as goal
 
 abbrev pub invariant-loop-k : goal.invariant-loop-k
-invariant-loop-k l = Printing l.initial.out l.from l.numbers l.w l.out l.at l.rest l.k × (l.k ≤ l.n)
-
-abbrev pub decreases-loop-k : goal.decreases-loop-k
-decreases-loop-k l = l.n - l.k
+invariant-loop-k l = Printing l.initial.out l.from l.numbers l.w l.out l.at l.rest l._k

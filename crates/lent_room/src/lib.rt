@@ -1,0 +1,25 @@
+// Room that is lent: elements are put to it from a place on, as far as it goes, and the place after them is told, or the room's end.
+#![tactic(auto)]
+
+ghost use Rattle.std.specs.Prelude.{[], ◌∷◌, ◌≤◌, length};
+ghost use Rattle.loops.specs.inner.Wrote.{Wrote};
+
+pub fn put<T: Copy>(out: &mut [T], at: usize, x: T) -> usize
+    requires { at ≤ length out.old }
+    ensures { Wrote out.old at out.new result (x ∷ []) }
+{
+    if at == out.len() {
+        return at;
+    }
+    out[at] = x;
+    at + 1
+}
+
+pub fn put_all<T: Copy>(out: &mut [T], at: usize, xs: &[T]) -> usize
+    requires { at ≤ length out.old }
+    ensures { Wrote out.old at out.new result xs.now }
+{
+    let n = xs.len().min(out.len() - at);
+    out[at..at + n].copy_from_slice(&xs[..n]);
+    at + n
+}
