@@ -2,43 +2,36 @@
 -- here: a read that failed is no end of the input, and neither is one that was interrupted. Left to believe is that `read` and `write` of `system.rt` lend the
 -- bytes that they are handed, and that the standard library tells the answer as it came: the fields of `Answer` are private, so no other code makes one.
 -- Assumes nothing.
-use Rattle.std.specs.Prelude.{ℕ, ◌+◌, ◌-◌, Bool, false, cond, ◌≡◌, ◌↔◌, ◌⊎◌, IsTrue, leb, eqb, ℤ, pos, negsuc, Option, Some}
+use Rattle.std.specs.Prelude.{ℕ, ◌+◌, ◌-◌, cond, ◌≡◌, ◌↔◌, ◌⊎◌, leb, eqb, Option, None, Some, Result, Ok, Err}
 use Rattle.std.specs.IoError.{error_kind}
 use Rattle.std.specs.declared.io.Error.{Error}
 use Rattle.std.specs.declared.io.ErrorKind.TheVariants as kind
+use Rattle.std.specs.declared.ops.ControlFlow.{ControlFlow}
+use Rattle.std.specs.declared.ops.ControlFlow.TheVariants.{Continue, Break}
 use Rattle.program_io.specs.declared.system.Answer.{Answer}
-use Rattle.program_io.specs.declared.system.Transfer.{Transfer}
-use Rattle.program_io.specs.declared.system.Transfer.TheVariants.{Moved, Interrupted, Failed}
+use Rattle.program_io.specs.declared.system.Stop.{Stop}
+use Rattle.program_io.specs.declared.system.Stop.TheVariants as stop
 use Rattle.program_io.specs.declared.steps.Place.{Place}
-use Rattle.program_io.specs.declared.steps.ReadStep.{ReadStep}
-use Rattle.program_io.specs.declared.steps.ReadStep.TheVariants as read
-use Rattle.program_io.specs.declared.steps.WriteStep.{WriteStep}
-use Rattle.program_io.specs.declared.steps.WriteStep.TheVariants as write
-use Rattle.program_io.specs.declared.Input.TheVariants as input
-use Rattle.program_io.specs.declared.Output.TheVariants as output
+use Rattle.program_io.specs.declared.steps.End.{End}
+use Rattle.program_io.specs.declared.steps.End.TheVariants.{Whole, Short, Failed}
+use Rattle.program_io.specs.declared.Ended.{Ended}
 use Rattle.program_io.specs.declared.Reading.{Reading}
-use Rattle.program_io.specs.declared.Writing.{Writing}
 
--- the answer where the standard library tells of an error
-pub record IsFailure (e : Error) (answer : Answer) : Type 0 where
-  pub below : answer.got ≡ negsuc 0
-  pub interrupted : IsTrue answer.interrupted ↔ (error_kind e ≡ kind.Interrupted)
+-- what the standard library's error makes of a call: it was stopped, by an interruption where the error is one
+abbrev pub Stops : Error → Stop → Type 0
+Stops e why = (why ≡ stop.Interrupted) ↔ (error_kind e ≡ kind.Interrupted)
+
+-- the answer where it tells of an error
+abbrev pub IsFailure : Error → Answer → Type 0
+IsFailure e answer = (why : Stop) × (answer.got ≡ Err why) × Stops e why
 
 -- a call that counts leaves the reason of an earlier failure as it was; one that fails has its own
 abbrev pub TellsWhy : Option Error → Option Error → Answer → Type 0
-TellsWhy before after answer = ((n : ℕ) × (answer.got ≡ pos n) × (after ≡ before)) ⊎ ((e : Error) × IsFailure e answer × (after ≡ Some e))
-
--- an answer from 0 on counts the bytes that moved; any other is a failure, unless the system told of an interruption
-unfoldable pub said_by : ℤ → Bool → Transfer
-said_by (pos n) interrupted = Moved n
-said_by (negsuc n) interrupted = cond interrupted Interrupted Failed
-
-abbrev pub said : Answer → Transfer
-said answer = said_by answer.got answer.interrupted
+TellsWhy before after answer = ((n : ℕ) × (answer.got ≡ Ok n) × (after ≡ before)) ⊎ ((e : Error) × IsFailure e answer × (after ≡ Some e))
 
 -- nothing was lent, and the system was not asked
 abbrev pub unasked : Answer
-unasked = record { lent = 0; got = pos 0; interrupted = false }
+unasked = record { lent = 0; got = Ok 0 }
 
 -- at first, after n more bytes, and after an interruption: each read and each write is tried a hundred times
 abbrev pub begun : Place
@@ -50,37 +43,34 @@ further place n = record { done = place.done + n; left = 100 }
 abbrev pub again : Place → Place
 again place = record { done = place.done; left = place.left - 1 }
 
--- after a read of as many bytes as were lent the buffer is full; one of none is the end of the input
-unfoldable pub after_more : Place → ℕ → ℕ → ReadStep
-after_more place lent n = cond (leb lent n) (read.Ended (input.Read (place.done + lent))) (cond (eqb n 0) (read.Ended (input.Read place.done)) (read.On (further place n)))
+-- after a call that moved as many bytes as were lent all is done; after one that moved none, no more will come or be taken
+unfoldable pub after_moved : Place → ℕ → ℕ → ControlFlow End Place
+after_moved place lent n = cond (leb lent n) (Break Whole) (cond (eqb n 0) (Break Short) (Continue (further place n)))
 
 -- the last try has failed
-unfoldable pub read_again : Place → ReadStep
-read_again place = cond (leb place.left 1) (read.Ended input.Failed) (read.On (again place))
+unfoldable pub try_again : Place → ControlFlow End Place
+try_again place = cond (leb place.left 1) (Break Failed) (Continue (again place))
 
-abbrev pub after_read : Place → ℕ → Transfer → ReadStep
-after_read place lent (Moved n) = after_more place lent n
-after_read place lent Interrupted = read_again place
-after_read place lent Failed = read.Ended input.Failed
+abbrev pub after : Place → ℕ → Result ℕ Stop → ControlFlow End Place
+after place lent (Ok n) = after_moved place lent n
+after place lent (Err stop.Interrupted) = try_again place
+after place lent (Err stop.Failed) = Break Failed
 
--- a write that took all that was lent is the last; one that took nothing is cut off
-unfoldable pub after_taken : Place → ℕ → ℕ → WriteStep
-after_taken place lent n = cond (leb lent n) (write.Ended output.Written) (cond (eqb n 0) (write.Ended output.Cut) (write.On (further place n)))
+-- the last call was lent all the bytes from its place on, and reading or writing ended by its answer
+pub record ToEnd (ended : Ended) (size : ℕ) : Type 0 where
+  pub lent : ended.from.done + ended.last.lent ≡ size
+  pub by : after ended.from ended.last.lent ended.last.got ≡ Break ended.end
 
-unfoldable pub write_again : Place → WriteStep
-write_again place = cond (leb place.left 1) (write.Ended output.Failed) (write.On (again place))
+-- how many bytes were read, where reading ended so: the buffer is full, or the input has no more; a read that failed is no end of the input
+abbrev pub read_by : ℕ → ℕ → End → Option ℕ
+read_by done lent Whole = Some (done + lent)
+read_by done lent Short = Some done
+read_by done lent Failed = None
 
-abbrev pub after_write : Place → ℕ → Transfer → WriteStep
-after_write place lent (Moved n) = after_taken place lent n
-after_write place lent Interrupted = write_again place
-after_write place lent Failed = write.Ended output.Failed
+abbrev pub read_of : Ended → Option ℕ
+read_of ended = read_by ended.from.done ended.last.lent ended.end
 
--- the last read was lent all the room from its place on, and reading ended by its answer
+-- reading ended so, and its count is what this makes of it
 pub record ReadToEnd (reading : Reading) (room : ℕ) : Type 0 where
-  pub lent : reading.from.done + reading.last.lent ≡ room
-  pub ended : after_read reading.from reading.last.lent (said reading.last) ≡ read.Ended reading.input
-
--- the same of the last write
-pub record WrittenToEnd (writing : Writing) (size : ℕ) : Type 0 where
-  pub lent : writing.from.done + writing.last.lent ≡ size
-  pub ended : after_write writing.from writing.last.lent (said writing.last) ≡ write.Ended writing.output
+  pub ended : ToEnd reading.ended room
+  pub counted : reading.input ≡ read_of reading.ended

@@ -7,48 +7,46 @@ mod steps;
 mod system;
 mod words;
 
-ghost use Rattle.std.specs.Prelude.{◌≡◌, ◌+◌, ◌≤◌, eqb, length, take, drop};
-ghost use Rattle.program_io.specs.Ending.{ReadToEnd, WrittenToEnd};
+ghost use Rattle.std.specs.Prelude.{◌≡◌, ◌≢◌, ◌+◌, ◌^◌, ◌<◌, ◌≤◌, length, take, drop, MatchResult};
+ghost use Rattle.program_io.specs.Ending.{ToEnd, ReadToEnd, read_of};
 ghost use Rattle.program_io.specs.inner.Input.{Held};
 
 use std::env::FillError;
 use std::fs::{OpenFile, OpenOptions};
-use std::io::{ErrorKind, IsTerminal};
+use std::io::{ErrorKind, IsTerminal, Stdin, Stdout};
+use std::ops::ControlFlow;
 use std::os::fd::AsFd;
 use std::rt::Env;
 use std::{fs, io};
-use steps::{Place, ReadStep, WriteStep};
-use system::{Answer, Sink, Source};
+use steps::{End, Place};
+use system::{Answer, Channel};
 
-// What came of reading: so many bytes at the start of the buffer, after which the input ended or the buffer was full; or a read failed.
+// How reading or writing ended: from where the last call was made, its answer, and how it ended by these.
 #[derive(Clone, Copy)]
-pub enum Input {
-    Read(usize),
-    Failed,
+struct Ended {
+    from: Place,
+    last: Answer,
+    end: End,
 }
 
-// How reading ended: from where the last read was asked for, its answer, and the input by these.
+// How reading ended, and how many bytes at the start of the buffer were read, after which the input ended or the buffer was full; none where a read failed.
 #[derive(Clone, Copy)]
 pub struct Reading {
-    from: Place,
-    last: Answer,
-    pub input: Input,
+    ended: Ended,
+    pub input: Option<usize>,
 }
 
-// What came of writing: every byte was taken, or a write failed, or one took nothing.
-#[derive(Clone, Copy)]
-enum Output {
-    Written,
-    Failed,
-    Cut,
-}
-
-// How writing ended: from where the last write was asked for, its answer, and the output by these.
-#[derive(Clone, Copy)]
-struct Writing {
-    from: Place,
-    last: Answer,
-    output: Output,
+impl Ended {
+    fn read(self) -> Option<usize>
+        requires { self.from.done + self.last.lent < 2 ^ 64 }
+        ensures { result ≡ read_of self }
+    {
+        match self.end {
+            End::Whole => Some(self.from.done() + self.last.lent()),
+            End::Short => Some(self.from.done()),
+            End::Failed => None,
+        }
+    }
 }
 
 // A line on standard error. Where that fails, nobody is left to be told.
@@ -74,13 +72,6 @@ fn tell_reason(rt: &HostRuntime, what: &[u8], reason: Option<io::Error>) {
     }
 }
 
-// How many arguments the program was started with, and whether it takes so many.
-#[derive(Clone, Copy)]
-pub struct Started {
-    pub given: usize,
-    pub taken: bool,
-}
-
 // Whether the program was started with a word i, however long. Word 0 is its name, if it has one.
 fn has_word(rt: &HostRuntime, i: usize) -> bool {
     let mut start = [0u8; 1];
@@ -98,23 +89,20 @@ fn given_arguments(rt: &HostRuntime) -> usize {
     usize::MAX
 }
 
-// The arguments of a program that takes `count`. Where it was given more or fewer, a line says how it is used.
-pub fn arguments(rt: &HostRuntime, count: usize, usage: &[u8]) -> Started
-    ensures { result.taken ≡ eqb result.given count }
+// How many arguments a program that takes `count` was given; an error where these are more or fewer, and then a line says how it is used.
+pub fn arguments(rt: &HostRuntime, count: usize, usage: &[u8]) -> Result<usize, usize>
+    ensures { MatchResult result (λ given. given ≡ count) (λ given. given ≢ count) }
 {
     let given = given_arguments(rt);
-    let taken = given == count;
-    if !taken {
-        tell(rt, usage);
+    if given == count {
+        return Ok(given);
     }
-    Started {
-        given: given,
-        taken: taken,
-    }
+    tell(rt, usage);
+    Err(given)
 }
 
 // The system's answer to a read to the buffer's bytes from the place on; those before it stay. Where there are none, it is not asked.
-fn read_at(source: &mut Source, buffer: &mut [u8], place: Place) -> Answer
+fn read_at(source: &mut Channel<Stdin>, buffer: &mut [u8], place: Place) -> Answer
     requires { place.done ≤ length buffer.old }
     ensures lent_value { place.done + result.lent ≡ length buffer.new }
     ensures buffer_unchanged { take place.done buffer.new ≡ take place.done buffer.old }
@@ -127,23 +115,22 @@ fn read_at(source: &mut Source, buffer: &mut [u8], place: Place) -> Answer
 }
 
 // Reads until the input ends or the buffer is full. No read follows the end: at a terminal it would wait for more.
-fn read_to_end(source: &mut Source, buffer: &mut [u8]) -> Reading
-    ensures read_to_end { ReadToEnd result (length buffer.new) }
-    ensures held { Held result.input buffer.new }
+// Writing has a loop of its own: one for both would take a trait whose contracts repeat what becomes of the lent buffer, longer than this loop.
+fn read_to_end(source: &mut Channel<Stdin>, buffer: &mut [u8]) -> Ended
+    ensures { ToEnd result (length buffer.new) }
 {
     let mut place = Place::begin();
     loop {
         let last = read_at(source, buffer, place);
-        let step = steps::after_read(place, last);
-        match step {
-            ReadStep::On(next) => {
+        match steps::after(place, last) {
+            ControlFlow::Continue(next) => {
                 place = next;
             }
-            ReadStep::Ended(input) => {
-                return Reading {
+            ControlFlow::Break(end) => {
+                return Ended {
                     from: place,
-                    last: last,
-                    input: input,
+                    last,
+                    end,
                 };
             }
         }
@@ -160,13 +147,13 @@ pub fn read_input(rt: &HostRuntime, input: &[u8], awaited: &[u8], buffer: &mut [
     if stdin.is_terminal() {
         tell(rt, awaited);
     }
-    let mut source = Source::new(stdin);
-    let reading = read_to_end(&mut source, buffer);
-    let read = reading.input;
-    if let Input::Failed = read {
+    let mut source = Channel::new(stdin);
+    let ended = read_to_end(&mut source, buffer);
+    let read = ended.read();
+    if read.is_none() {
         tell_reason(rt, input, source.reason());
     }
-    reading
+    Reading { ended, input: read }
 }
 
 // What is left to write after the first `done` bytes.
@@ -178,7 +165,7 @@ fn rest_of(bytes: &[u8], done: usize) -> &[u8]
 }
 
 // The system's answer to a write of them. Where there are none, it is not asked.
-fn write_at(sink: &mut Sink, bytes: &[u8], place: Place) -> Answer
+fn write_at(sink: &mut Channel<Stdout>, bytes: &[u8], place: Place) -> Answer
     requires { place.done ≤ length bytes.now }
     ensures { place.done + result.lent ≡ length bytes.now }
 {
@@ -190,22 +177,21 @@ fn write_at(sink: &mut Sink, bytes: &[u8], place: Place) -> Answer
 }
 
 // Writes until every byte is taken, or a write fails or takes nothing.
-fn write_to_end(sink: &mut Sink, bytes: &[u8]) -> Writing
-    ensures { WrittenToEnd result (length bytes.now) }
+fn write_to_end(sink: &mut Channel<Stdout>, bytes: &[u8]) -> Ended
+    ensures { ToEnd result (length bytes.now) }
 {
     let mut place = Place::begin();
     loop {
         let last = write_at(sink, bytes, place);
-        let step = steps::after_write(place, last);
-        match step {
-            WriteStep::On(next) => {
+        match steps::after(place, last) {
+            ControlFlow::Continue(next) => {
                 place = next;
             }
-            WriteStep::Ended(output) => {
-                return Writing {
+            ControlFlow::Break(end) => {
+                return Ended {
                     from: place,
-                    last: last,
-                    output: output,
+                    last,
+                    end,
                 };
             }
         }
@@ -215,19 +201,17 @@ fn write_to_end(sink: &mut Sink, bytes: &[u8]) -> Writing
 // Writes all that the program has to say to standard output, and has it kept there, since a file on another machine may fail only then. Where that fails, a
 // line names the output and gives the system's words; what went out stays.
 pub fn write_output(rt: &HostRuntime, output: &[u8], bytes: &[u8]) {
-    let mut sink = Sink::new(rt.stdout());
-    let writing = write_to_end(&mut sink, bytes);
-    let written = writing.output;
-    match written {
-        Output::Written => keep_output(rt, output),
-        Output::Failed => tell_reason(rt, output, sink.reason()),
-        Output::Cut => tell_cut(rt, output),
+    let mut sink = Channel::new(rt.stdout());
+    match write_to_end(&mut sink, bytes).end {
+        End::Whole => keep_output(rt, output),
+        End::Short => tell_cut(rt, output),
+        End::Failed => tell_reason(rt, output, sink.reason()),
     }
 }
 
 // The same of an answer that may be no line at all. A line on standard error then says so: silence on both outputs would be no answer.
 pub fn write_lines(rt: &HostRuntime, output: &[u8], lines: &[u8]) {
-    if lines.len() == 0 {
+    if lines.is_empty() {
         tell(rt, b"0 lines");
     }
     write_output(rt, output, lines);

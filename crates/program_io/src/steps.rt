@@ -1,9 +1,9 @@
 // Where reading and writing stand after each answer of the system. A place's fields are private: another page has only those that the steps lead to.
 ghost use Rattle.std.specs.Prelude.{◌≡◌, ◌+◌, ◌<◌, ◌^◌};
-ghost use Rattle.program_io.specs.Ending.{begun, further, after_more, read_again, after_read, after_taken, write_again, after_write, said};
+ghost use Rattle.program_io.specs.Ending.{begun, further, after_moved, try_again, after};
 
-use crate::system::{Answer, Transfer};
-use crate::{Input, Output};
+use crate::system::{Answer, Stop};
+use std::ops::ControlFlow;
 
 // How often a read or a write is tried that signals interrupt; then it has failed.
 const TRIES: usize = 100;
@@ -15,18 +15,12 @@ pub struct Place {
     left: usize,
 }
 
-// Reading goes on from a place, or it has ended.
-#[derive(Clone, Copy)]
-pub enum ReadStep {
-    On(Place),
-    Ended(Input),
-}
-
-// Writing goes on from a place, or it has ended.
-#[derive(Clone, Copy)]
-pub enum WriteStep {
-    On(Place),
-    Ended(Output),
+// How reading or writing ends: every byte that was lent moved; or a call moved none, so the input has ended, or no more is taken; or a call failed.
+#[derive(Clone, Copy, PartialEq, Eq)]
+pub enum End {
+    Whole,
+    Short,
+    Failed,
 }
 
 impl Place {
@@ -56,80 +50,43 @@ impl Place {
     }
 }
 
-// A read moved `n` of the bytes that were lent.
-fn after_more(place: Place, lent: usize, n: usize) -> ReadStep
+// A call moved `n` of the bytes that were lent.
+#[tactic(auto, using(std::proofs::lemmas::Bool::Decides::nat_tests), unfolding(crate::specs::Ending::after_moved))]
+fn moved(place: Place, lent: usize, n: usize) -> ControlFlow<End, Place>
     requires { place.done + lent < 2 ^ 64 }
-    ensures { result ≡ after_more place lent n }
+    ensures { result ≡ after_moved place lent n }
 {
     if lent <= n {
-        return ReadStep::Ended(Input::Read(place.done + lent));
+        ControlFlow::Break(End::Whole)
+    } else if n == 0 {
+        ControlFlow::Break(End::Short)
+    } else {
+        ControlFlow::Continue(place.further(n))
     }
-    if n == 0 {
-        return ReadStep::Ended(Input::Read(place.done));
-    }
-    ReadStep::On(place.further(n))
 }
 
-// A read was interrupted.
-fn read_again(place: Place) -> ReadStep
-    ensures { result ≡ read_again place }
+// A call was interrupted.
+#[tactic(auto, using(std::proofs::lemmas::Bool::Decides::nat_tests), unfolding(crate::specs::Ending::try_again))]
+fn try_again(place: Place) -> ControlFlow<End, Place>
+    ensures { result ≡ try_again place }
 {
     if place.left <= 1 {
-        return ReadStep::Ended(Input::Failed);
+        return ControlFlow::Break(End::Failed);
     }
-    ReadStep::On(Place {
+    ControlFlow::Continue(Place {
         done: place.done,
         left: place.left - 1,
     })
 }
 
-pub fn after_read(place: Place, answer: Answer) -> ReadStep
+// Reading or writing goes on from a place, or has ended.
+pub fn after(place: Place, answer: Answer) -> ControlFlow<End, Place>
     requires { place.done + answer.lent < 2 ^ 64 }
-    ensures { result ≡ after_read place answer.lent (said answer) }
+    ensures { result ≡ after place answer.lent answer.got }
 {
-    let said = answer.said();
-    match said {
-        Transfer::Moved(n) => after_more(place, answer.lent(), n),
-        Transfer::Interrupted => read_again(place),
-        Transfer::Failed => ReadStep::Ended(Input::Failed),
-    }
-}
-
-// A write took `n` of the bytes that were lent.
-fn after_taken(place: Place, lent: usize, n: usize) -> WriteStep
-    requires { place.done + lent < 2 ^ 64 }
-    ensures { result ≡ after_taken place lent n }
-{
-    if lent <= n {
-        return WriteStep::Ended(Output::Written);
-    }
-    if n == 0 {
-        return WriteStep::Ended(Output::Cut);
-    }
-    WriteStep::On(place.further(n))
-}
-
-// A write was interrupted.
-fn write_again(place: Place) -> WriteStep
-    ensures { result ≡ write_again place }
-{
-    if place.left <= 1 {
-        return WriteStep::Ended(Output::Failed);
-    }
-    WriteStep::On(Place {
-        done: place.done,
-        left: place.left - 1,
-    })
-}
-
-pub fn after_write(place: Place, answer: Answer) -> WriteStep
-    requires { place.done + answer.lent < 2 ^ 64 }
-    ensures { result ≡ after_write place answer.lent (said answer) }
-{
-    let said = answer.said();
-    match said {
-        Transfer::Moved(n) => after_taken(place, answer.lent(), n),
-        Transfer::Interrupted => write_again(place),
-        Transfer::Failed => WriteStep::Ended(Output::Failed),
+    match answer.got() {
+        Ok(n) => moved(place, answer.lent(), n),
+        Err(Stop::Interrupted) => try_again(place),
+        Err(Stop::Failed) => ControlFlow::Break(End::Failed),
     }
 }

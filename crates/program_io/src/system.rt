@@ -1,139 +1,94 @@
 // What the system answers to a read or a write. An answer's fields are private, so that no other page can make one up: all that the crate decides, it decides
 // of what `read` and `write` below were answered. That these lend the bytes that they are handed has to be believed, and that the standard library tells the
 // answer as it came: no contract can say what the outside gives and takes.
-ghost use Rattle.std.specs.Prelude.{◌≡◌, ◌<◌, ◌^◌, length, pos, false, None};
-ghost use Rattle.program_io.specs.Ending.{said, said_by, unasked, IsFailure, TellsWhy};
+ghost use Rattle.std.specs.Prelude.{◌≡◌, length, None};
+ghost use Rattle.program_io.specs.Ending.{unasked, Stops, TellsWhy};
 
 use std::io;
 use std::io::{ErrorKind, Read, Stdin, Stdout, Write};
 
-// So many bytes were lent to the system, it answered so, from 0 on a count of bytes, and told then of an interruption or not.
-#[derive(Clone, Copy)]
-pub struct Answer {
-    lent: usize,
-    got: isize,
-    interrupted: bool,
-}
-
-// What an answer says: so many bytes moved, a signal interrupted the call before it moved any, or it failed, as the system's error tells.
-#[derive(Clone, Copy)]
-pub enum Transfer {
-    Moved(usize),
+// Why a call moved no bytes: a signal interrupted it before it moved any, or it failed, as the system's error tells.
+#[derive(Clone, Copy, PartialEq, Eq)]
+pub enum Stop {
     Interrupted,
     Failed,
 }
 
-// Standard input, and why its last read failed that did.
+// So many bytes were lent to the system, and it moved so many, or was stopped.
 #[derive(Clone, Copy)]
-pub struct Source {
-    stdin: Stdin,
+pub struct Answer {
+    lent: usize,
+    got: Result<usize, Stop>,
+}
+
+// Standard input or output, and why its last call failed that did.
+#[derive(Clone, Copy)]
+pub struct Channel<S> {
+    stream: S,
     reason: Option<io::Error>,
 }
 
-// Standard output, and why its last write failed that did.
-#[derive(Clone, Copy)]
-pub struct Sink {
-    stdout: Stdout,
-    reason: Option<io::Error>,
+fn stop_of(reason: io::Error) -> Stop
+    ensures { Stops reason result }
+{
+    if reason.kind() == ErrorKind::Interrupted {
+        Stop::Interrupted
+    } else {
+        Stop::Failed
+    }
 }
 
-impl Source {
-    pub fn new(stdin: Stdin) -> Source
-        ensures { result ≡ record { stdin = stdin; reason = None } }
+impl<S> Channel<S> {
+    pub fn new(stream: S) -> Channel<S>
+        ensures { result ≡ record { stream = stream; reason = None } }
     {
-        Source {
-            stdin: stdin,
+        Channel {
+            stream,
             reason: None,
         }
     }
 
-    pub fn reason(self) -> Option<io::Error>
-        ensures { result ≡ self.reason }
+    pub fn reason(&self) -> Option<io::Error>
+        ensures { result ≡ self.now.reason }
     {
         self.reason
     }
-}
 
-impl Sink {
-    pub fn new(stdout: Stdout) -> Sink
-        ensures { result ≡ record { stdout = stdout; reason = None } }
+    // The answer as the standard library tells it, and why it failed if it did.
+    fn answer(&mut self, lent: usize, told: io::Result<usize>) -> Answer
+        ensures lent { result.lent ≡ lent }
+        ensures stays { self.new.stream ≡ self.old.stream }
+        ensures reason { TellsWhy self.old.reason self.new.reason result }
     {
-        Sink {
-            stdout: stdout,
-            reason: None,
+        match told {
+            Ok(n) => Answer { lent, got: Ok(n) },
+            Err(reason) => {
+                self.reason = Some(reason);
+                Answer {
+                    lent,
+                    got: Err(stop_of(reason)),
+                }
+            }
         }
     }
-
-    pub fn reason(self) -> Option<io::Error>
-        ensures { result ≡ self.reason }
-    {
-        self.reason
-    }
 }
 
-// The answer where the standard library tells of a count.
-fn counted(lent: usize, n: usize) -> Answer
-    requires { n < 2 ^ 63 }
-    ensures { result ≡ record { lent = lent; got = pos n; interrupted = false } }
-{
-    Answer {
-        lent: lent,
-        got: n as isize,
-        interrupted: false,
-    }
-}
-
-// The answer where it tells of an error.
-fn failed(lent: usize, reason: io::Error) -> Answer
-    ensures lent { result.lent ≡ lent }
-    ensures failure { IsFailure reason result }
-{
-    Answer {
-        lent: lent,
-        got: -1,
-        interrupted: reason.kind() == ErrorKind::Interrupted,
-    }
-}
-
-pub fn read(source: &mut Source, buffer: &mut [u8]) -> Answer
+pub fn read(source: &mut Channel<Stdin>, buffer: &mut [u8]) -> Answer
     ensures lent { result.lent ≡ length buffer.new }
-    ensures stays { source.new.stdin ≡ source.old.stdin }
+    ensures stays { source.new.stream ≡ source.old.stream }
     ensures reason { TellsWhy source.old.reason source.new.reason result }
 {
-    match source.stdin.read(buffer) {
-        Ok(n) => counted(buffer.len(), n),
-        Err(reason) => {
-            source.reason = Some(reason);
-            failed(buffer.len(), reason)
-        }
-    }
+    let told = source.stream.read(buffer);
+    source.answer(buffer.len(), told)
 }
 
-pub fn write(sink: &mut Sink, bytes: &[u8]) -> Answer
+pub fn write(sink: &mut Channel<Stdout>, bytes: &[u8]) -> Answer
     ensures lent { result.lent ≡ length bytes.now }
-    ensures stays { sink.new.stdout ≡ sink.old.stdout }
+    ensures stays { sink.new.stream ≡ sink.old.stream }
     ensures reason { TellsWhy sink.old.reason sink.new.reason result }
 {
-    match sink.stdout.write(bytes) {
-        Ok(n) => counted(bytes.len(), n),
-        Err(reason) => {
-            sink.reason = Some(reason);
-            failed(bytes.len(), reason)
-        }
-    }
-}
-
-// An answer from 0 on counts bytes.
-fn said_by(got: isize, interrupted: bool) -> Transfer
-    ensures { result ≡ said_by got interrupted }
-{
-    if got >= 0 {
-        return Transfer::Moved(got as usize);
-    }
-    if interrupted {
-        return Transfer::Interrupted;
-    }
-    Transfer::Failed
+    let told = sink.stream.write(bytes);
+    sink.answer(bytes.len(), told)
 }
 
 impl Answer {
@@ -143,8 +98,7 @@ impl Answer {
     {
         Answer {
             lent: 0,
-            got: 0,
-            interrupted: false,
+            got: Ok(0),
         }
     }
 
@@ -154,9 +108,9 @@ impl Answer {
         self.lent
     }
 
-    pub fn said(self) -> Transfer
-        ensures { result ≡ said self }
+    pub fn got(self) -> Result<usize, Stop>
+        ensures { result ≡ self.got }
     {
-        said_by(self.got, self.interrupted)
+        self.got
     }
 }

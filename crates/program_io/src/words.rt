@@ -2,7 +2,7 @@
 use std::io;
 use std::io::{Cursor, Write};
 
-// What the standard library writes of a failure: the system's words, and after them its number in brackets.
+// What the standard library writes of a failure: the system's words, and after them its number in brackets. Programs have no heap, so they stand in an array.
 #[derive(Drop)]
 pub struct Words {
     bytes: [u8; 256],
@@ -15,23 +15,18 @@ pub fn words_of(reason: io::Error) -> Words {
     let length = cursor.position();
     Words {
         bytes: cursor.into_inner(),
-        length: length,
+        length,
     }
 }
 
 impl Words {
     // The words alone.
     pub fn alone(&self) -> &str {
-        let length = self.length;
-        if length > 256 {
-            return "";
-        }
-        let Ok(text) = std::str::from_utf8(&self.bytes[..length as usize]) else {
+        let Some(bytes) = self.bytes.get(..self.length as usize) else {
             return "";
         };
-        match text.split_once(" (os error ") {
-            Some((words, _)) => words,
-            None => text,
-        }
+        let text = std::str::from_utf8(bytes).unwrap_or("");
+        text.split_once(" (os error ")
+            .map_or(text, |(words, _)| words)
     }
 }

@@ -1,5 +1,4 @@
-use Rattle.std.proofs.Common.{rules}
-use Rattle.program_io.proofs.Onward.{held, reading}
+use Rattle.program_io.proofs.Onward.{reading}
 use Rattle.program_io.proofs.read_to_end.Goals as goal
 
 pub loop-next-smaller : goal.loop-next-smaller
@@ -7,6 +6,3 @@ loop-next-smaller c = search reading
 
 pub loop-next-preserved : goal.loop-next-preserved
 loop-next-preserved c = search reading
-
-pub returns-in-Ended-clause-held : goal.returns-in-Ended-clause-held
-returns-in-Ended-clause-held c = search (rules, held)
