@@ -5,14 +5,13 @@ ghost use Rattle.std.specs.Prelude.{◌≡◌, take};
 ghost use Rattle.number_arguments.specs.Argument.{argument_number};
 
 use std::rt::Env;
-use text_fields::Number;
 
 // What an argument spells.
-fn number_of(argument: &[u8]) -> Number
+fn number_of(argument: &[u8]) -> Option<i64>
     ensures { result ≡ argument_number argument.now }
 {
     if argument.len() == 0 {
-        return Number::Misspelt;
+        return None;
     }
     text_fields::read_number(argument)
 }
@@ -22,7 +21,7 @@ fn number_of(argument: &[u8]) -> Number
 pub struct Argument {
     pub bytes: [u8; 21],
     pub length: usize,
-    pub number: Number,
+    pub number: Option<i64>,
 }
 
 // Argument i, counted from 1. No number has more than 20 bytes: of a longer argument nothing is handed over, as of a missing one.
@@ -33,8 +32,8 @@ pub fn number_argument(rt: &HostRuntime, i: usize) -> Argument
     let length = rt.arg(i, &mut bytes).unwrap_or(0);
     let number = number_of(&bytes[..length]);
     Argument {
-        bytes: bytes,
-        length: length,
-        number: number,
+        bytes,
+        length,
+        number,
     }
 }

@@ -14,18 +14,8 @@ use mir.Val.{SFits, to_z, of_z}
 use mir.Facts.{to_z-of_z}
 use Rattle.loops.specs.Numbers.{to_nat}
 use Rattle.text_fields.specs.Parts.{until_byte}
-use Rattle.text_fields.specs.Spelling.{number_of}
-use Rattle.text_fields.specs.declared.Number.{Number}
-use Rattle.text_fields.specs.declared.Number.TheVariants.{Value, Misspelt}
-use Rattle.text_line.specs.Line.{fields_of, value_of, spelled, is_number}
+use Rattle.text_line.specs.Line.{fields_of, value_of, spelled}
 use Rattle.stored_lines.specs.inner.Line.{letter, body, count, piece, is_judging, has_count}
-
--- what a field tells
-pub told_number : {v : Number} {z : ℤ} (s : List ℕ) → v ≡ number_of s → v ≡ Value z → is_number (number_of s) ≡ true
-told_number s e t = ap is_number (sym e ∙ t)
-
-pub told_none : {v : Number} (s : List ℕ) → v ≡ number_of s → v ≡ Misspelt → is_number (number_of s) ≡ false
-told_none s e t = ap is_number (sym e ∙ t)
 
 -- the test of a byte, x, that was read
 pub is_byte : {x : ℕ} (y k : ℕ) → x ≡ y → x ≡ k → eqb y k ≡ true

@@ -1,100 +1,69 @@
 -- Laws of a list's lines and their fields, which are looked at from the first on. Assumes nothing.
-use Prim.Native.Nat.{ℕ, suc, ◌+◌, ◌-◌, ◌≤◌, ◌<◌, min}
-use mathlib.Core.Bool.{Bool, true, false}
-use mathlib.Core.List.{List, ◌∷◌}
-use mathlib.Core.Path.{◌≡◌, sym, ap, ◌∙◌}
+use Prim.Native.Nat.{ℕ, suc, ◌+◌, ◌-◌, ◌≤◌, ◌<◌, ◌^◌, min}
+use mathlib.Core.Bool.{Bool, true, false, cond}
+use mathlib.Core.List.{List, [], ◌∷◌}
+use mathlib.Core.Path.{◌≡◌, refl, ap, ◌∙◌}
 use native.Mathlib.Omega.{arith}
-use native.Mathlib.Decide.{dec_lt}
-use borrow.Author.Tests.{lt-ltb, le-ltb}
-use lib.Dec.{ltb}
+use lib.Dec.{eqb}
+use mir.Syntax.{w64}
+use mir.Val.{Fits}
 use lib.ListN.{length, take, drop, length-drop}
-use lib.Seq.{drop-drop}
-use Rattle.loops.specs.Lists.{all_of}
 use Rattle.loops.proofs.ListLaws.{rest_is}
-use Rattle.text_fields.specs.Parts.{until_byte, parts}
-use Rattle.text_fields.proofs.PartLaws.{up_within, parts_only, parts_more, parts_first}
+use Rattle.text_fields.specs.Parts.{until_byte, parts, on_first}
+use Rattle.text_fields.proofs.PartLaws.{up_within}
 use Rattle.stored_lines.specs.inner.Line.{is_judging}
 use Rattle.stored_lines.specs.inner.Case.{gathering_length, judging_at, CaseAt}
 
--- the parts of what is left, where its first part is f and more follows: those of what follows it, as a slice goes to the end
-module _ (b : ℕ) (rest f : List ℕ) (e : f ≡ until_byte b rest) where
-  pub first_more : length f < length rest → parts b rest ≡ f ∷ parts b (take (length rest - (length f + 1)) (drop (length f + 1) rest))
-  first_more h = rw (rest_is (length f + 1) rest, e) (parts_more b rest (rw e at h))
+-- how many bytes the parts have, with the bytes that part them, and one more
+unfoldable pub spread : List (List ℕ) → ℕ
+spread [] = 0
+spread (p ∷ ps) = length p + 1 + spread ps
 
-  -- a test of each of them, t: true of the first, false of it, true of the last
-  module _ (p : List ℕ → Bool) {t : Bool} (now : all_of p (parts b rest) ≡ t) where
-    pub all_more : p f ≡ true → length f < length rest → all_of p (parts b (take (length rest - (length f + 1)) (drop (length f + 1) rest))) ≡ t
-    unfolding all_of
-    all_more y h = rw (first_more h, y) at now
-
-    pub all_last : p f ≡ true → length rest ≤ length f → true ≡ t
-    unfolding all_of
-    all_last y h = rw (parts_only b rest f e h, y) at now
-
-    pub all_not : p f ≡ false → false ≡ t
-    unfolding all_of
-    all_not n = let q = parts_first b rest in rw (q.1, ← e, n) at now
-
-  -- whether they are fewer than so many, t: one less of what follows, where more follows; the last is fewer than two
-  module _ (n : ℕ) {t : Bool} (now : ltb (length (parts b rest)) (n + 1) ≡ t) (k : 0 < n) where
-    pub short_more : length f < length rest → ltb (length (parts b (take (length rest - (length f + 1)) (drop (length f + 1) rest)))) (n - 1 + 1) ≡ t
-    short_more h = go (dec_lt (length left) n) ∙ now
-      where
-        left : List (List ℕ)
-        left = parts b (take (length rest - (length f + 1)) (drop (length f + 1) rest))
-
-        one : length (parts b rest) ≡ suc (length left)
-        one = ap length (first_more h)
-
-        go : Dec (length left < n) → ltb (length left) (n - 1 + 1) ≡ ltb (length (parts b rest)) (n + 1)
-        go (yes l) = rw (lt-ltb (length (parts b rest)) (n + 1) (omega (arith, one)), lt-ltb (length left) (n - 1 + 1) (omega arith))
-        go (no l) = rw (le-ltb (length (parts b rest)) (n + 1) (omega (arith, one)), le-ltb (length left) (n - 1 + 1) (omega arith))
-
-    pub short_last : length rest ≤ length f → true ≡ t
-    short_last h =
-        let one : length (parts b rest) ≡ 1 = ap length (parts_only b rest f e h) in
-        sym (lt-ltb (length (parts b rest)) (n + 1) (omega (arith, one))) ∙ now
-
--- there is one at least
-pub short_none : (b : ℕ) (rest : List ℕ) (n : ℕ) {t : Bool} → ltb (length (parts b rest)) (n + 1) ≡ t → n ≤ 0 → false ≡ t
-short_none b rest n now h =
-    let q = parts_first b rest in
-    let some : length (parts b rest) ≡ suc (length q.0) = ap length q.1 in
-    sym (le-ltb (length (parts b rest)) (n + 1) (omega (arith, some))) ∙ now
+pub parts_spread : (b : ℕ) (xs : List ℕ) → spread (parts b xs) ≡ length xs + 1
+unfolding spread parts
+parts_spread b [] = refl
+parts_spread b (x ∷ xs) = go (eqb x b) (parts b xs) (parts_spread b xs)
+  where
+    go : (t : Bool) (ps : List (List ℕ)) → spread ps ≡ length xs + 1 → spread (cond t ([] ∷ ps) (on_first x ps)) ≡ suc (length xs) + 1
+    go true ps h = omega arith
+    go false [] h = omega arith
+    go false (p ∷ ps) h = omega arith
 
 -- a line that was read of a part that goes to the end
 line_at : (list : List ℕ) (at : ℕ) (f : List ℕ) → f ≡ until_byte 10 (take (length list - at) (drop at list)) → f ≡ until_byte 10 (drop at list)
 line_at list at f e = e ∙ ap (until_byte 10) (rest_is at list)
 
--- where the first line judges, t, looked for from a place on: it does so; it does not, and is the last, or others follow; past the end
-module _ (list : List ℕ) (at : ℕ) {t : ℕ} (now : judging_at list at ≡ t) (f : List ℕ) (e : f ≡ until_byte 10 (take (length list - at) (drop at list))) where
-  pub judges_here : at < length list → is_judging f ≡ true → at ≡ t
-  unfolding gathering_length
-  judges_here h y =
-      let q = parts_first 10 (drop at list) in
-      let z : gathering_length (parts 10 (drop at list)) ≡ 0 = ap gathering_length q.1 ∙ rw (sym (line_at list at f e), y) in
-      omega (arith, z)
+-- where the first line judges, looked for from a place on: past the end; on a line, which does, or doesn't; where no line is left
+pub judges_past : (list : List ℕ) (from : ℕ) → length list < from → length list ≡ judging_at list from
+judges_past list from h = omega arith
 
-  pub judges_nowhere : is_judging f ≡ false → length list - at ≤ length f → length list ≡ t
-  unfolding gathering_length
-  judges_nowhere n h =
-      let k : length (drop at list) ≤ length f = simp length-drop (omega arith) in
-      let z : gathering_length (parts 10 (drop at list)) ≡ length f + 1 + 0 = ap gathering_length (parts_only 10 (drop at list) f (line_at list at f e) k) ∙ rw n in
-      omega (arith, z)
+pub judges_start : (list : List ℕ) (from : ℕ) {ps : List (List ℕ)} → from ≤ length list → ps ≡ parts 10 (take (length list - from) (drop from list))
+    → (min (from + gathering_length ps) (length list) ≡ judging_at list from) × (from + spread ps ≡ length list + 1)
+judges_start list from {ps} h e =
+    let p : ps ≡ parts 10 (drop from list) = e ∙ ap (parts 10) (rest_is from list) in
+    let k : length (drop from list) ≡ length list - from = simp length-drop in
+    (ap (λ (qs : List (List ℕ)). min (from + gathering_length qs) (length list)) p, ap (λ (qs : List (List ℕ)). from + spread qs) p ∙ omega (arith, parts_spread 10 (drop from list), k))
 
-  pub judges_later : is_judging f ≡ false → length f < length list - at → judging_at list (at + (length f + 1)) ≡ t
-  unfolding gathering_length
-  judges_later n h =
-      let k : length (drop at list) ≡ length list - at = simp length-drop in
-      let m : length (until_byte 10 (drop at list)) < length (drop at list) = omega (arith, ap length (line_at list at f e), k) in
-      let p = parts_more 10 (drop at list) m in
-      let d : drop (length f + 1) (drop at list) ≡ drop (at + (length f + 1)) list = drop-drop (length f + 1) at list in
-      let z : gathering_length (parts 10 (drop at list)) ≡ length f + 1 + gathering_length (parts 10 (drop (at + (length f + 1)) list)) =
-      ap gathering_length p ∙ rw (sym (line_at list at f e), n, d) in
-      omega (arith, z)
+module _ (list : List ℕ) (at : ℕ) {t : ℕ} (ps : List (List ℕ)) (now : (min (at + gathering_length ps) (length list) ≡ t) × (at + spread ps ≡ length list + 1)) where
+  module _ {f : List ℕ} {qs : List (List ℕ)} (p : ps ≡ f ∷ qs) where
+    reach : at + (length f + 1 + spread qs) ≡ length list + 1
+    unfolding spread
+    reach = rw p at now.1
 
-pub judges_past : (list : List ℕ) (at : ℕ) {t : ℕ} → judging_at list at ≡ t → length list ≤ at → length list ≡ t
-judges_past list at now h = omega arith
+    pub judges_here : is_judging f ≡ true → at ≡ t
+    unfolding gathering_length
+    judges_here y = let z : gathering_length ps ≡ 0 = rw (p, y) in omega (arith, now.0, z, reach)
+
+    pub judges_later : is_judging f ≡ false → (min (at + (length f + 1) + gathering_length qs) (length list) ≡ t) × (at + (length f + 1) + spread qs ≡ length list + 1)
+    unfolding gathering_length
+    judges_later n = let z : gathering_length ps ≡ length f + 1 + gathering_length qs = rw (p, n) in (omega (arith, now.0, z), omega (arith, reach))
+
+    pub later_fits : length list < 2 ^ 63 → Fits w64 (at + (length f + 1))
+    later_fits l = record { fits = omega (arith, reach) }
+
+  pub judges_nowhere : ps ≡ [] → length list ≡ t
+  unfolding gathering_length spread
+  judges_nowhere e = let z : gathering_length ps ≡ 0 = rw e in let y : spread ps ≡ 0 = rw e in omega (arith, now.0, now.1, z, y)
 
 -- the case from a place on, where f is the line that judges it
 module _ (list : List ℕ) (at line : ℕ) (f : List ℕ) (p : line ≡ judging_at list at) (e : f ≡ until_byte 10 (take (length list - line) (drop line list))) where

@@ -9,7 +9,7 @@ ghost use Rattle.text_line.specs.Line.{fields_of, value_of, spelled};
 ghost use Rattle.stored_lines.specs.inner.Line.{letter, body, count, piece, is_judging, has_count, has_numbers, has_row, is_formed};
 ghost use Rattle.stored_lines.specs.inner.Case.{judging_at, CaseAt};
 
-use text_fields::Number;
+use text_fields::Parts;
 
 // ---- the fields of a line
 
@@ -17,27 +17,21 @@ use text_fields::Number;
 pub fn number_of(s: &[u8]) -> i64
     ensures { result ≡ value_of s.now }
 {
-    match text_fields::read_number(s) {
-        Number::Value(z) => z,
-        Number::Misspelt => 0,
-    }
+    text_fields::read_number(s).unwrap_or(0)
 }
 
 // What follows the first n bytes and the one after them.
 fn after(s: &[u8], n: usize) -> &[u8]
     ensures { result.now ≡ drop (n + 1) s.now }
 {
-    if n < s.len() {
-        return &s[n + 1..];
-    }
-    &s[..0]
+    if n < s.len() { &s[n + 1..] } else { &[] }
 }
 
 // The letter that a line starts with, 0 where it is empty.
 pub fn letter_of(line: &[u8]) -> u8
     ensures { result ≡ letter line.now }
 {
-    if 0 < line.len() { line[0] } else { 0 }
+    line.first().copied().unwrap_or(0)
 }
 
 // What follows the letter.
@@ -76,42 +70,21 @@ pub fn between(list: &[u8], from: usize, to: usize) -> &[u8]
 fn is_spelled(line: &[u8]) -> bool
     ensures { result ≡ spelled (fields_of line.now) }
 {
-    let mut rest = line;
-    loop {
-        let f = text_fields::first_part(rest, b',');
-        let Number::Value(_) = text_fields::read_number(f) else {
-            return false;
-        };
-        let n = f.len();
-        if rest.len() <= n {
-            return true;
-        }
-        rest = &rest[n + 1..];
-    }
+    Parts::new(line, b',').all(|f| text_fields::read_number(f).is_some())
 }
 
 // Whether a line has fewer than twelve fields.
 fn is_short(line: &[u8]) -> bool
     ensures { result ≡ ltb (length (fields_of line.now)) 12 }
 {
-    let mut rest = line;
-    let mut room: usize = 11;
-    while 0 < room {
-        let n = text_fields::first_part(rest, b',').len();
-        if rest.len() <= n {
-            return true;
-        }
-        rest = &rest[n + 1..];
-        room -= 1;
-    }
-    false
+    Parts::new(line, b',').take(12).count() < 12
 }
 
+#[tactic(auto, unfolding(crate::specs::inner::Line::is_judging))]
 fn is_judging(line: &[u8]) -> bool
     ensures { result ≡ is_judging line.now }
 {
-    let x = letter_of(line);
-    65 <= x && x <= 90
+    letter_of(line).is_ascii_uppercase()
 }
 
 fn has_count(line: &[u8]) -> bool
@@ -135,50 +108,27 @@ fn has_row(line: &[u8]) -> bool
     has_numbers(line) && is_short(body_of(line))
 }
 
+#[tactic(auto, unfolding(crate::specs::inner::Line::is_formed))]
 fn is_formed(line: &[u8]) -> bool
     ensures { result ≡ is_formed line.now }
 {
     if is_judging(line) {
         return is_spelled(body_of(line));
     }
-    if line.len() == 0 {
-        return true;
+    match line {
+        [] | [b'#', ..] => true,
+        [b't', ..] => has_count(line),
+        [b'r', ..] => has_row(line),
+        [b'n' | b'e', ..] => has_numbers(line),
+        _ => false,
     }
-    let x = letter_of(line);
-    if x == b'#' {
-        return true;
-    }
-    if x == b't' {
-        return has_count(line);
-    }
-    if x == b'r' {
-        return has_row(line);
-    }
-    if x == b'n' {
-        return has_numbers(line);
-    }
-    if x == b'e' {
-        return has_numbers(line);
-    }
-    false
 }
 
 // Whether all these lines are formed.
 pub fn all_formed(lines: &[u8]) -> bool
     ensures { result ≡ all_of is_formed (parts 10 lines.now) }
 {
-    let mut rest = lines;
-    loop {
-        let line = text_fields::first_part(rest, b'\n');
-        if !is_formed(line) {
-            return false;
-        }
-        let n = line.len();
-        if rest.len() <= n {
-            return true;
-        }
-        rest = &rest[n + 1..];
-    }
+    Parts::new(lines, b'\n').all(is_formed)
 }
 
 // ---- where a case ends
@@ -195,17 +145,15 @@ pub struct Case {
 fn judging_at(list: &[u8], from: usize) -> usize
     ensures { result ≡ judging_at list.now from }
 {
+    if list.len() < from {
+        return list.len();
+    }
     let mut at = from;
-    while at < list.len() {
-        let line = text_fields::first_part(&list[at..], b'\n');
+    for line in Parts::new(&list[from..], b'\n') {
         if is_judging(line) {
             return at;
         }
-        let n = line.len();
-        if list.len() - at <= n {
-            return list.len();
-        }
-        at += n + 1;
+        at += line.len() + 1;
     }
     list.len()
 }

@@ -1,10 +1,9 @@
 -- Laws of a field that was read, of a line's kind and of its row. Assumes nothing.
-use Rattle.std.specs.Prelude.{Result, Ok, Err}
+use Rattle.std.specs.Prelude.{Option, Result, Ok, Err}
 use Rattle.refusals.specs.declared.Reason.{Reason}
 use Rattle.refusals.specs.declared.Reason.TheVariants.{Misspelt, UnknownKind}
-use Rattle.text_fields.specs.declared.Number.TheVariants.{Value, Misspelt}
 use Prim.Native.Nat.{ℕ, suc, ◌+◌, ◌-◌, ◌≤◌, ◌<◌, ◌^◌}
-use mathlib.Core.Bool.{Bool, true, false, cond, not, and-false, false≢true, ◌&&◌, and-true}
+use mathlib.Core.Bool.{Bool, true, false, cond, not, and-false, false≢true}
 use mathlib.Core.List.{List, [], ◌∷◌, map}
 use mathlib.Core.Path.{◌≡◌, refl, sym, ap, ◌∙◌}
 use native.Mathlib.Omega.{arith}
@@ -20,10 +19,9 @@ use mir.Facts.{to_z-of_z}
 use borrow.Author.Tests.{lt-ltb, le-ltb}
 use Rattle.loops.specs.Numbers.{to_nat}
 use Rattle.rows.specs.Table.{width}
-use Rattle.text_line.specs.Line.{by_kind, by_fields, fields_of, spelled, held, value_of, line_of, row_of, is_number}
+use Rattle.text_line.specs.Line.{by_kind, by_fields, fields_of, spelled, held, value_of, line_of, row_of}
 use Rattle.text_fields.specs.Parts.{until_byte}
 use Rattle.text_fields.specs.Spelling.{number_of}
-use Rattle.text_fields.specs.declared.Number.{Number}
 use Rattle.text_fields.proofs.PartLaws.{parts_first, parts_count}
 
 -- a line that is misspelt, or whose kind is empty
@@ -42,7 +40,7 @@ fields_kind true (x ∷ kind) n e h = refl
 fields_kind false kind n e h = absurd (false≢true (sym e))
 
 -- else its kind decides, which the code reads as k
-module _ (good : Bool) (kind : List ℕ) (n : ℕ) {k : ℕ} {v : ℤ} {m : Number} (g : not good ≡ false) (h : length kind ≡ 0 → ⊥)
+module _ (good : Bool) (kind : List ℕ) (n : ℕ) {k : ℕ} {v : ℤ} {m : Option ℤ} (g : not good ≡ false) (h : length kind ≡ 0 → ⊥)
     (f : SFits w64 v) (e : k ≡ to_nat (to_z w64 (of_z w64 v))) (q : v ≡ held m) (r : m ≡ number_of kind) where
   by_kind_lem : by_kind k n ≡ by_fields good kind n
   by_kind_lem = ap (λ (k : ℕ). by_kind k n) ((rw (to_z-of_z f) at e) ∙ ap to_nat (q ∙ ap held r)) ∙ fields_kind good kind n g h
@@ -55,7 +53,7 @@ module _ (good : Bool) (kind : List ℕ) (n : ℕ) {k : ℕ} {v : ℤ} {m : Numb
 
 -- and so does w, whether the line has its columns; the rarest premise stands first, so that a search ends where it is not found
 module _ (good : Bool) (kind : List ℕ) (n : ℕ) {w : Bool} {k : ℕ} (u : w ≡ eqb n (suc (width k))) {v : ℤ} (e : k ≡ to_nat (to_z w64 (of_z w64 v)))
-    {m : Number} (q : v ≡ held m) (r : m ≡ number_of kind) (f : SFits w64 v) (g : not good ≡ false) (h : length kind ≡ 0 → ⊥) (a : 1 ≤ k) (b : k ≤ 24) where
+    {m : Option ℤ} (q : v ≡ held m) (r : m ≡ number_of kind) (f : SFits w64 v) (g : not good ≡ false) (h : length kind ≡ 0 → ⊥) (a : 1 ≤ k) (b : k ≤ 24) where
   counted : cond w (Ok tt) (Err Misspelt) ≡ by_fields good kind n
   counted = rw u (sym (rw (lt-ltb 0 k (omega arith), lt-ltb k 25 (omega arith))) ∙ by_kind_lem good kind n g h f e q r)
 
@@ -64,19 +62,6 @@ module _ (good : Bool) (kind : List ℕ) (n : ℕ) {w : Bool} {k : ℕ} (u : w �
 
   pub kind_count : w ≡ false → Err Misspelt ≡ by_fields good kind n
   kind_count t = rw t at counted
-
--- a field by what was read of it: what it holds, and whether it is spelled right as those before it are
-pub value_held : {n : Number} {z : ℤ} → n ≡ Value z → SFits w64 z → to_z w64 (of_z w64 z) ≡ held n
-value_held e f = to_z-of_z f ∙ sym (ap held e)
-
-pub none_held : {n : Number} → n ≡ Misspelt → pos 0 ≡ held n
-none_held e = sym (ap held e)
-
-pub value_also : {n : Number} {z : ℤ} (good : Bool) → n ≡ Value z → good ≡ (good && is_number n)
-value_also good e = sym (ap (λ (m : Number). good && is_number m) e ∙ and-true good)
-
-pub none_also : {n : Number} (good : Bool) → n ≡ Misspelt → false ≡ (good && is_number n)
-none_also good e = sym (ap (λ (m : Number). good && is_number m) e ∙ and-false good)
 
 -- zeros, stored one after the other
 module _ {all : List ℤ} (rows : List ℤ) (i to : ℕ) (now : sets rows i (replicate (to - i) (pos 0)) ≡ all) where

@@ -1,6 +1,6 @@
 -- A line: the kind and its columns in order, parted by commas. It is a row, or it is refused by 9 (spelling, empty kind), 2 (no such kind) or
 -- 9 (field count), in this order. Assumes nothing.
-use Rattle.std.specs.Prelude.{ℕ, suc, ◌-◌, Bool, true, false, cond, ◌&&◌, not, List, [], ◌++◌, map, eqb, ltb, length, get_or, replicate, ℤ, pos}
+use Rattle.std.specs.Prelude.{ℕ, suc, ◌-◌, Bool, cond, ◌&&◌, not, List, [], ◌++◌, map, eqb, ltb, length, get_or, replicate, ℤ, pos}
 use Rattle.loops.specs.Lists.{all_of, is_empty}
 use Rattle.loops.specs.Numbers.{to_nat}
 use Rattle.refusals.specs.declared.Reason.{Reason}
@@ -8,26 +8,23 @@ use Rattle.refusals.specs.declared.Reason.TheVariants.{UnknownKind, Misspelt}
 use Rattle.rows.specs.Table.{width}
 use Rattle.text_fields.specs.Parts.{parts}
 use Rattle.text_fields.specs.Spelling.{number_of}
-use Rattle.text_fields.specs.declared.Number.{Number}
-use Rattle.text_fields.specs.declared.Number.TheVariants as number
-use Rattle.std.specs.Prelude.{Result, Ok, Err}
+use Rattle.std.specs.Prelude.{Option, Result, Ok, Err}
+use Rattle.std.specs.Option.{is_some, unwrap_or}
 
 abbrev pub fields_of : List ℕ → List (List ℕ)
 fields_of l = parts 44 l
 
--- whether a field is a number or none, and what it holds
-abbrev pub is_number : Number → Bool
-is_number (number.Value z) = true
-is_number number.Misspelt = false
+-- whether a field is spelled right, and what it holds
+abbrev pub is_number : Option ℤ → Bool
+is_number n = is_some n
 
-abbrev pub held : Number → ℤ
-held (number.Value z) = z
-held number.Misspelt = pos 0
+abbrev pub held : Option ℤ → ℤ
+held n = unwrap_or n (pos 0)
 
 abbrev pub value_of : List ℕ → ℤ
 value_of f = held (number_of f)
 
--- every field is a number or none
+-- every field is spelled right: a number, or none at all
 unfoldable pub spelled : List (List ℕ) → Bool
 spelled fs = all_of (λ f. is_number (number_of f)) fs
 

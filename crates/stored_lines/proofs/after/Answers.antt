@@ -6,5 +6,5 @@ use Rattle.stored_lines.proofs.after.Goals as goal
 pub returns-then-n-s : goal.returns-then-n-s
 returns-then-n-s c = search (rules, rest_is)
 
-pub returns : goal.returns
-returns c = search (rules, none_after)
+pub returns-else-n-s : goal.returns-else-n-s
+returns-else-n-s c = search (rules, none_after)

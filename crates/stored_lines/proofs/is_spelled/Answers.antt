@@ -1,26 +1,15 @@
-use Rattle.stored_lines.proofs.FormLaws.{told_number, told_none}
-use borrow.Author.Rules.{rules}
-use Rattle.stored_lines.proofs.LineLaws.{all_more, all_last, all_not}
-use Rattle.text_line.specs.Line.{spelled}
-use native.Mathlib.Omega.{arith}
-use lib.ListN.{length-take, length-drop}
-use mathlib.Core.Path.{refl}
+use Rattle.std.proofs.Common.{rules, ◌∙◌}
+use Rattle.std.proofs.lemmas.Iterator.Consumers.{YieldsList-from_first}
+use Rattle.std.proofs.lemmas.Iterator.Search.{all_from_yields_List}
+use Rattle.text_fields.specs.Parts.{parts_left}
+use Rattle.text_fields.proofs.AllLaws.{all_listed}
+use Rattle.text_fields.specs.Spelling.{number_of}
+use Rattle.text_line.specs.Line.{is_number, spelled, fields_of}
 use Rattle.stored_lines.proofs.is_spelled.Goals as goal
 
-pub loop-n-init : goal.loop-n-init
-loop-n-init c = refl
-
-pub returns-in_default : goal.returns-in_default
+pub returns : goal.returns
 unfolding spelled
-returns-in_default c = search (rules, all_not, told_none)
-
-pub returns-then-rest-n : goal.returns-then-rest-n
-unfolding spelled
-returns-then-rest-n c = search (rules, all_last, told_number)
-
-pub loop-n-smaller : goal.loop-n-smaller
-loop-n-smaller c = simp (length-take, length-drop) (omega arith)
-
-pub loop-n-preserved : goal.loop-n-preserved
-unfolding spelled
-loop-n-preserved c = search (rules, all_more, told_number)
+returns c =
+    all_from_yields_List (λ f. is_number (number_of f)) _ _ _ c.all.ensures.ran
+    (YieldsList-from_first (λ x. x.now) parts_left (fields_of c.args.line.now) c.new.ensures) (λ x b q k. search rules)
+    ∙ all_listed (λ f. is_number (number_of f)) (fields_of c.args.line.now)

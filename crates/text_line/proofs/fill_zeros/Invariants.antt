@@ -7,6 +7,3 @@ use Rattle.text_line.proofs.fill_zeros.Given as goal
 
 abbrev pub invariant-loop-i : goal.invariant-loop-i
 invariant-loop-i l = (sets l.rows l.i (replicate (l.to - l.i) (pos 0)) ≡ sets l.initial.rows l.from (replicate (l.to - l.from) (pos 0))) × (length l.rows ≡ length l.initial.rows)
-
-abbrev pub decreases-loop-i : goal.decreases-loop-i
-decreases-loop-i l = l.to - l.i

@@ -1,25 +1,24 @@
-use mathlib.Core.Path.{◌∙◌}
-use lib.ListN.{length-take, length-drop}
-use native.Mathlib.Omega.{arith}
-use borrow.Author.Rules.{rules}
-use Rattle.text_line.proofs.FieldLaws.{fields_none, fields_more, last_spelled, last_count, last_stored}
+use Rattle.std.proofs.Common.{rules}
+use Rattle.text_line.proofs.FieldLaws.{field_fits, count_fits, fields_more, all_spelled, all_counted}
 use Rattle.text_line.proofs.read_fields.Goals as goal
+use Rattle.text_line.proofs.read_fields.Goals.{then-good, else-good}
 
-pub loop-rest-init : goal.loop-rest-init
-loop-rest-init c = fields_none _ _ _
+pub overflow_add-base : goal.overflow_add-base
+overflow_add-base c = search (rules, field_fits)
 
-pub shape_of-rows-then-rest-n : goal.shape_of-rows-then-rest-n
-shape_of-rows-then-rest-n c = search (rules, ◌∙◌)
+pub overflow_add-count : goal.overflow_add-count
+overflow_add-count c = search (rules, count_fits)
 
-pub returns-then-rest-n : goal.returns-then-rest-n
-returns-then-rest-n c =
-    record {
-      good_value = (search (rules, last_spelled), search (rules, last_count));
-      rows_after = search (rules, last_stored);
-    }
+pub loop-field-preserved : goal.loop-field-preserved
+loop-field-preserved c =
+    fields_more _ _ _ _ _ _ _ c.loop-field.invariant c.in-Some.ensures.steps
+    (elim c.if-good.branch [
+      | then-good w ↦ search rules
+      | else-good w ↦ search rules
+    ])
+    (search rules)
 
-pub loop-rest-smaller : goal.loop-rest-smaller
-loop-rest-smaller c = simp (length-take, length-drop) (omega arith)
-
-pub loop-rest-preserved : goal.loop-rest-preserved
-loop-rest-preserved c = search (rules, fields_more)
+pub returns-clause-good_value : goal.returns-clause-good_value
+returns-clause-good_value c =
+    let e = c.in-None.ensures.steps in
+    (all_spelled _ _ _ _ _ _ _ c.loop-field.invariant e.0, all_counted _ _ _ _ _ _ _ c.loop-field.invariant e.0)
