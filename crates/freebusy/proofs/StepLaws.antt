@@ -22,9 +22,7 @@ use Rattle.refusals.specs.Refusals.{refuse, verdict_of}
 use Rattle.refusals.specs.declared.Reason.{Reason}
 use Rattle.refusals.specs.declared.Reason.TheVariants.{Overfull}
 use Rattle.refusals.specs.declared.Refusal.{Refusal}
-use Rattle.text_fields.specs.Parts.{until_byte, parts}
-use Rattle.loops.proofs.ListLaws.{rest_is}
-use Rattle.text_fields.proofs.PartLaws.{parts_only, parts_more}
+use Rattle.text_fields.specs.Parts.{parts}
 use Rattle.freebusy_lines.specs.Lines.{unfolded, lines}
 use Rattle.freebusy_lines.specs.inner.Reading.{first_sent}
 use Rattle.freebusy_lines.proofs.LineLaws.{lines_on}
@@ -36,7 +34,7 @@ use Rattle.freebusy_components.proofs.LineLaws.{lines_none as no_lines, past_par
 use Rattle.freebusy.specs.declared.Reading.{Reading}
 use Rattle.freebusy.specs.Call.{closure, closure_row, window_closures, closures_of, window_refusal, period_refusal, periods_in}
 use Rattle.freebusy.specs.inner.Reading.{put_closures, ReadOn, unread}
-use Rattle.freebusy.proofs.ReadLaws.{Going, read_none, read_one, going_start, going_on, going_last, going_end}
+use Rattle.freebusy.proofs.ReadLaws.{Going, read_none, read_one, going_start, going_on, going_end}
 use Rattle.freebusy.proofs.ShortLaws.{short_periods}
 
 -- ---- a period

@@ -59,19 +59,9 @@ impl Lent {
         ensures { sink rows.new result ≡ put_closures self.resource (sink rows.old n) (cond free [] (window_closures w)) }
     {
         match w {
-            Window::Span(start, end) if !free => {
-                let line = [
-                    15,
-                    self.resource,
-                    1,
-                    start as i64,
-                    end as i64,
-                    0,
-                    0,
-                    0,
-                    0,
-                    0,
-                ];
+            Ok(v) if !free => {
+                let (start, end) = (v.start as i64, v.end as i64);
+                let line = [15, self.resource, 1, start, end, 0, 0, 0, 0, 0];
                 line_buffer::put(rows, n, &line)
             }
             _ => n,
