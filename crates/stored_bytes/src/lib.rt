@@ -9,25 +9,20 @@ ghost use Rattle.text_fields.specs.Parts.{parts};
 ghost use Rattle.stored_numbers.specs.inner.Numbers.{times, gathered};
 ghost use Rattle.stored_bytes.specs.inner.Bytes.{meant, bytes_of};
 
-use stored_numbers::Gathered;
+use text_fields::Parts;
 
 // What a byte of a line stands for.
+#[tactic(auto, unfolding(crate::specs::inner::Bytes::meant))]
 fn meant_by(x: u8) -> u8
     ensures { result ≡ meant x }
 {
-    if x == b'|' {
-        return 10;
+    match x {
+        b'|' => 10,
+        b'$' => 13,
+        b'^' => 0,
+        b'~' => 255,
+        _ => x,
     }
-    if x == b'$' {
-        return 13;
-    }
-    if x == b'^' {
-        return 0;
-    }
-    if x == b'~' {
-        return 255;
-    }
-    x
 }
 
 fn put_byte(out: &mut [u8], at: usize, x: u8) -> usize
@@ -46,10 +41,8 @@ fn put_bytes(out: &mut [u8], from: usize, s: &[u8]) -> usize
     ensures { Wrote out.old from out.new result (map meant s.now) }
 {
     let mut at = from;
-    let mut i = 0;
-    while i < s.len() {
-        at = put_byte(out, at, meant_by(s[i]));
-        i += 1;
+    for x in s {
+        at = put_byte(out, at, meant_by(*x));
     }
     at
 }
@@ -59,10 +52,8 @@ fn put_copies(out: &mut [u8], from: usize, n: u64, s: &[u8]) -> usize
     ensures { Wrote out.old from out.new result (times n (map meant s.now)) }
 {
     let mut at = from;
-    let mut left = n;
-    while 0 < left {
+    for _i in 0..n {
         at = put_bytes(out, at, s);
-        left -= 1;
     }
     at
 }
@@ -85,21 +76,15 @@ fn put_text(out: &mut [u8], at: usize, line: &[u8]) -> usize
 fn put_texts(out: &mut [u8], lines: &[u8]) -> usize
     ensures { Wrote out.old 0 out.new result (each bytes_of (parts 10 lines.now)) }
 {
-    let mut rest = lines;
     let mut at = 0;
-    loop {
-        let line = text_fields::first_part(rest, b'\n');
+    for line in Parts::new(lines, b'\n') {
         at = put_text(out, at, line);
-        let n = line.len();
-        if rest.len() <= n {
-            return at;
-        }
-        rest = &rest[n + 1..];
     }
+    at
 }
 
 // The bytes that lines gather.
-pub fn gather_bytes(lines: &[u8], out: &mut [u8]) -> Gathered
+pub fn gather_bytes(lines: &[u8], out: &mut [u8]) -> Option<usize>
     ensures value { result ≡ gathered (length (each bytes_of (parts 10 lines.now))) (length out.old) }
     ensures out_after { out.new ≡ sets out.old 0 (each bytes_of (parts 10 lines.now)) }
 {

@@ -1,42 +1,38 @@
 -- Laws of what a case's lines give, and the fields of a line, from the first on. Assumes nothing.
-use Rattle.stored_numbers.proofs.PutLaws.{yet_less, yet_last, yet_as}
+use Rattle.stored_numbers.proofs.PutLaws.{yet_less, yet_none, yet_as}
 use Rattle.stored_numbers.specs.inner.Yet.{Yet}
 use Rattle.loops.specs.inner.Wrote.{Wrote}
 use lib.IntN.{ℤ}
-use Prim.Native.Nat.{ℕ, ◌+◌, ◌-◌, ◌≤◌, ◌<◌}
+use Prim.Native.Nat.{ℕ}
 use mathlib.Core.Bool.{Bool, true, false, cond}
-use mathlib.Core.List.{List, [], ◌∷◌, map, append-nil}
-use mathlib.Core.Path.{◌≡◌, refl, sym, ap, ◌∙◌}
+use mathlib.Core.List.{List, [], ◌∷◌, map}
+use mathlib.Core.Path.{◌≡◌, refl, sym, ap}
 use borrow.Author.Tests.{eq-eqb, ne_eqb}
 use lib.Dec.{eqb}
-use lib.ListN.{length, take, drop}
 use Rattle.loops.specs.Lists.{each}
 use Rattle.loops.proofs.ListLaws.{each_ext}
-use Rattle.text_fields.specs.Parts.{until_byte, parts}
-use Rattle.text_fields.proofs.PartLaws.{parts_only}
 use Rattle.text_line.specs.Line.{row_of}
 use Rattle.stored_lines.specs.inner.Line.{letter, count, piece, body}
-use Rattle.stored_lines.proofs.LineLaws.{first_more}
 use Rattle.stored_numbers.specs.inner.Numbers.{times, numbers_in, numbers_of, expected_of}
 use Rattle.stored_numbers.specs.inner.Gives.{piece_as, line_gives}
 
--- what is yet to be written is given by the parts of what is left; the first of them is f, whose own is written: more follows, or it is the last
-module _ {B : Type 0} {l m o : List B} {i j k : ℕ} {all : List B} (b : ℕ) (rest f : List ℕ) (e : f ≡ until_byte b rest) where
-  module _ (g : List ℕ → B) (y : Yet l i all m j (map g (parts b rest))) (w : Wrote m j o k (g f ∷ [])) where
-    pub map_more : length f < length rest → Yet l i all o k (map g (parts b (take (length rest - (length f + 1)) (drop (length f + 1) rest))))
-    map_more h = yet_less (g f ∷ []) _ (yet_as (ap (map g) (first_more b rest f e h)) y) w
+-- what is yet to be written is given by the parts that are left: the first of them, f, is written; none is left
+module _ {B : Type 0} {l m : List B} {i j : ℕ} {all : List B} {ps : List (List ℕ)} where
+  module _ {o : List B} {k : ℕ} {f : List ℕ} {qs : List (List ℕ)} (p : ps ≡ f ∷ qs) where
+    pub map_more : (g : List ℕ → B) → Yet l i all m j (map g ps) → Wrote m j o k (g f ∷ []) → Yet l i all o k (map g qs)
+    map_more g y w = yet_less (g f ∷ []) _ (yet_as (ap (map g) p) y) w
 
-    pub map_last : length rest ≤ length f → Wrote l i o k all
-    map_last h = yet_last (g f ∷ []) (yet_as (ap (map g) (parts_only b rest f e h)) y) w
-
-  module _ (g : List ℕ → List B) (y : Yet l i all m j (each g (parts b rest))) (w : Wrote m j o k (g f)) where
-    pub each_more : length f < length rest → Yet l i all o k (each g (parts b (take (length rest - (length f + 1)) (drop (length f + 1) rest))))
+    pub each_more : (g : List ℕ → List B) → Yet l i all m j (each g ps) → Wrote m j o k (g f) → Yet l i all o k (each g qs)
     unfolding each
-    each_more h = yet_less (g f) _ (yet_as (ap (each g) (first_more b rest f e h)) y) w
+    each_more g y w = yet_less (g f) _ (yet_as (ap (each g) p) y) w
 
-    pub each_last : length rest ≤ length f → Wrote l i o k all
+  module _ (e : ps ≡ []) where
+    pub map_none : (g : List ℕ → B) → Yet l i all m j (map g ps) → Wrote l i m j all
+    map_none g y = yet_none (yet_as (ap (map g) e) y)
+
+    pub each_none : (g : List ℕ → List B) → Yet l i all m j (each g ps) → Wrote l i m j all
     unfolding each
-    each_last h = yet_last (g f) (yet_as (ap (each g) (parts_only b rest f e h) ∙ append-nil (g f)) y) w
+    each_none g y = yet_none (yet_as (ap (each g) e) y)
 
 -- a piece as a row, or as plain numbers
 module _ {l m : List ℤ} {i j : ℕ} (row : Bool) (s : List ℕ) where

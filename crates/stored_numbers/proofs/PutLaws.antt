@@ -1,6 +1,6 @@
 -- What is written to a buffer, one after the other. Assumes nothing.
-use Prim.Native.Nat.{ℕ, zero, suc, ◌+◌, ◌-◌, ◌≤◌, ◌<◌, min}
-use mathlib.Core.List.{List, [], ◌∷◌, ◌++◌, append-nil}
+use Prim.Native.Nat.{ℕ, suc, ◌+◌, ◌-◌, ◌≤◌, ◌<◌, min}
+use mathlib.Core.List.{List, [], ◌∷◌, ◌++◌}
 use mathlib.Core.Path.{◌≡◌, refl, sym, ap, subst, ◌∙◌}
 use native.Mathlib.Omega.{arith}
 use native.Mathlib.Decide.{dec_lt}
@@ -14,7 +14,7 @@ use lib.Seq.{sets, length-sets}
 use Rattle.loops.proofs.StoreLaws.{sets_append, sets_min, sets_out, wrote_long, wrote_within, wrote_as, wrote_then}
 use Rattle.text_line.specs.Line.{fields_of, value_of, row_of}
 use Rattle.stored_numbers.specs.inner.Numbers.{times, numbers_in, gathered}
-use Rattle.stored_numbers.specs.declared.Gathered.{Gathered}
+use Rattle.std.specs.Prelude.{Option}
 use Rattle.loops.specs.inner.Wrote.{Wrote}
 use Rattle.stored_numbers.specs.inner.Yet.{Yet}
 
@@ -28,7 +28,7 @@ module _ {A : Type 0} where
       }
 
   -- what is told of all that was written from the start on; that may be written another way
-  told_of : {l m : List A} {n : ℕ} {r : Gathered} (xs : List A) → Wrote l 0 m n xs → r ≡ gathered n (length m) → r ≡ gathered (length xs) (length l)
+  told_of : {l m : List A} {n : ℕ} {r : Option ℕ} (xs : List A) → Wrote l 0 m n xs → r ≡ gathered n (length m) → r ≡ gathered (length xs) (length l)
   told_of {l = l} {m = m} {n = n} xs v t = t ∙ go (dec_lt (length xs) (length l))
     where
       go : Dec (length xs < length l) → gathered n (length m) ≡ gathered (length xs) (length l)
@@ -37,7 +37,7 @@ module _ {A : Type 0} where
           let e : length l ≤ n = omega (arith, v.place) in
           rw (wrote_long v, le-ltb n (length l) e, le-ltb (length xs) (length l) (omega arith))
 
-  pub told_all : {l m : List A} {n : ℕ} {r : Gathered} (xs ys : List A) → Wrote l 0 m n xs → xs ≡ ys → r ≡ gathered n (length m) → r ≡ gathered (length ys) (length l)
+  pub told_all : {l m : List A} {n : ℕ} {r : Option ℕ} (xs ys : List A) → Wrote l 0 m n xs → xs ≡ ys → r ≡ gathered n (length m) → r ≡ gathered (length ys) (length l)
   told_all xs ys v e t = told_of ys (wrote_as e v) t
 
   -- all is yet to be written; something of it is written; nothing is left
@@ -61,38 +61,33 @@ module _ {A : Type 0} where
   pub yet_as : {l m : List A} {i j : ℕ} {all a b : List A} → a ≡ b → Yet l i all m j a → Yet l i all m j b
   yet_as {l = l} {m = m} {i = i} {j = j} {all = all} e y = subst (λ (x : List A). Yet l i all m j x) e y
 
-  -- the last of it is written
-  pub yet_last : {l m o : List A} {i j k : ℕ} {all : List A} (a : List A) → Yet l i all m j a → Wrote m j o k a → Wrote l i o k all
-  yet_last a y w = yet_none (yet_less a [] (yet_as (sym (append-nil a)) y) w)
-
   -- so often, one time less
-  pub times_less : (n : ℕ) (xs : List A) → 0 < n → times n xs ≡ xs ++ times (n - 1) xs
+  pub times_next : (n i : ℕ) (xs : List A) → i < n → times (n - i) xs ≡ xs ++ times (n - (i + 1)) xs
   unfolding times
-  times_less zero xs h = absurd (omega arith)
-  times_less (suc n) xs h = let e : suc n - 1 ≡ n = omega arith in rw e
+  times_next n i xs h = let e : n - i ≡ suc (n - (i + 1)) = omega arith in rw e
 
-  pub times_none : (n : ℕ) (xs : List A) → n ≤ 0 → times n xs ≡ []
+  pub times_done : (n i : ℕ) (xs : List A) → n ≤ i → times (n - i) xs ≡ []
   unfolding times
-  times_none zero xs h = refl
-  times_none (suc n) xs h = absurd (omega arith)
+  times_done n i xs h = let e : n - i ≡ 0 = omega arith in rw e
 
-  pub replicate_less : (n : ℕ) (x : A) → 0 < n → replicate n x ≡ (x ∷ []) ++ replicate (n - 1) x
-  replicate_less zero x h = absurd (omega arith)
-  replicate_less (suc n) x h = let e : suc n - 1 ≡ n = omega arith in rw e
+  pub replicate_next : (n i : ℕ) (x : A) → i < n → replicate (n - i) x ≡ (x ∷ []) ++ replicate (n - (i + 1)) x
+  replicate_next n i x h = let e : n - i ≡ suc (n - (i + 1)) = omega arith in rw e
 
-  pub replicate_none : (n : ℕ) (x : A) → n ≤ 0 → replicate n x ≡ []
-  replicate_none zero x h = refl
-  replicate_none (suc n) x h = absurd (omega arith)
+  pub replicate_done : (n i : ℕ) (x : A) → n ≤ i → replicate (n - i) x ≡ []
+  replicate_done n i x h = let e : n - i ≡ 0 = omega arith in rw e
 
 -- a signed number that was read back from its bits
 pub wrote_back : {l m : List ℤ} {i j : ℕ} {v w : ℤ} → SFits w64 v → v ≡ w → Wrote l i m j (to_z w64 (of_z w64 v) ∷ []) → Wrote l i m j (w ∷ [])
 wrote_back f e x = wrote_as (ap (λ (z : ℤ). z ∷ []) (to_z-of_z f ∙ e)) x
 
 -- a row: its numbers, then zeros up to ten
-pub row_zeros : {l m o : List ℤ} {at end r : ℕ} (s : List ℕ) → at ≤ length l → Wrote l at m end (numbers_in s) → Wrote m end o r (replicate (10 - (end - at)) (pos 0)) → Wrote l at o r (row_of s)
+pub row_zeros : {l m o : List ℤ} {at end r z : ℕ} (s : List ℕ) → at ≤ length l → Wrote l at m end (numbers_in s) → z ≡ 10 - (end - at) → Wrote m end o r (replicate z (pos 0)) → Wrote l at o r (row_of s)
 unfolding row_of
-row_zeros {l = l} {m = m} {o = o} {at = at} {end = end} {r = r} s h v w = go (dec_lt (length l) (at + length (numbers_in s)))
+row_zeros {l = l} {m = m} {o = o} {at = at} {end = end} {r = r} s h v q u = go (dec_lt (length l) (at + length (numbers_in s)))
   where
+    w : Wrote m end o r (replicate (10 - (end - at)) (pos 0))
+    w = rw q at u
+
     n : length (numbers_in s) ≡ length (fields_of s)
     n = length-map (fields_of s) value_of
 
@@ -107,10 +102,3 @@ row_zeros {l = l} {m = m} {o = o} {at = at} {end = end} {r = r} s h v w = go (de
     go (no k) =
         let e : 10 - (end - at) ≡ 10 - length (fields_of s) = omega (arith, v.place, n) in
         wrote_then (numbers_in s) (replicate (10 - length (fields_of s)) (pos 0)) v (rw e at w)
-
-pub row_whole : {l m : List ℤ} {at end : ℕ} (s : List ℕ) → 10 ≤ end - at → Wrote l at m end (numbers_in s) → Wrote l at m end (row_of s)
-unfolding row_of
-row_whole {l = l} {at = at} {end = end} s h v =
-    let n : length (numbers_in s) ≡ length (fields_of s) = length-map (fields_of s) value_of in
-    let z : 10 - length (fields_of s) ≡ 0 = omega (arith, v.place, n) in
-    rw z (wrote_as (sym (append-nil (numbers_in s))) v)

@@ -12,22 +12,13 @@ ghost use Rattle.stored_lines.specs.inner.Line.{body};
 ghost use Rattle.stored_numbers.specs.inner.Numbers.{times, numbers_in, numbers_of, expected_of, gathered};
 ghost use Rattle.stored_numbers.specs.inner.Gives.{piece_as, line_gives};
 
-// How many there are of what was gathered, if there was room for more; else there may be more than was lent room for.
-#[derive(Clone, Copy)]
-pub enum Gathered {
-    All(usize),
-    TooMany,
-}
+use text_fields::Parts;
 
-// What is told of n numbers or bytes, where there was room for so many.
-pub fn told(n: usize, room: usize) -> Gathered
+// How many numbers or bytes were gathered, if there was room for more; else there may be more than was lent room for.
+pub fn told(n: usize, room: usize) -> Option<usize>
     ensures { result ≡ gathered n room }
 {
-    if n < room {
-        Gathered::All(n)
-    } else {
-        Gathered::TooMany
-    }
+    if n < room { Some(n) } else { None }
 }
 
 fn put_number(out: &mut [i64], at: usize, x: i64) -> usize
@@ -46,17 +37,11 @@ fn put_numbers(out: &mut [i64], from: usize, fields: &[u8]) -> usize
     requires { from ≤ length out.old }
     ensures { Wrote out.old from out.new result (numbers_in fields.now) }
 {
-    let mut rest = fields;
     let mut at = from;
-    loop {
-        let f = text_fields::first_part(rest, b',');
-        at = put_number(out, at, stored_lines::number_of(f));
-        let n = f.len();
-        if rest.len() <= n {
-            return at;
-        }
-        rest = &rest[n + 1..];
+    for field in Parts::new(fields, b',') {
+        at = put_number(out, at, stored_lines::number_of(field));
     }
+    at
 }
 
 fn put_zeros(out: &mut [i64], from: usize, n: usize) -> usize
@@ -64,10 +49,8 @@ fn put_zeros(out: &mut [i64], from: usize, n: usize) -> usize
     ensures { Wrote out.old from out.new result (replicate n (pos 0)) }
 {
     let mut at = from;
-    let mut left = n;
-    while 0 < left {
+    for _i in 0..n {
         at = put_number(out, at, 0);
-        left -= 1;
     }
     at
 }
@@ -78,11 +61,7 @@ fn put_row(out: &mut [i64], at: usize, fields: &[u8]) -> usize
     ensures { Wrote out.old at out.new result (row_of fields.now) }
 {
     let end = put_numbers(out, at, fields);
-    let n = end - at;
-    if n < 10 {
-        return put_zeros(out, end, 10 - n);
-    }
-    end
+    put_zeros(out, end, 10usize.saturating_sub(end - at))
 }
 
 fn put_piece(out: &mut [i64], at: usize, fields: &[u8], row: bool) -> usize
@@ -100,10 +79,8 @@ fn put_pieces(out: &mut [i64], from: usize, n: u64, fields: &[u8], row: bool) ->
     ensures { Wrote out.old from out.new result (times n (piece_as row fields.now)) }
 {
     let mut at = from;
-    let mut left = n;
-    while 0 < left {
+    for _i in 0..n {
         at = put_piece(out, at, fields, row);
-        left -= 1;
     }
     at
 }
@@ -138,21 +115,15 @@ fn put_line(out: &mut [i64], at: usize, line: &[u8], plain: u8, rows: u8) -> usi
 fn put_lines(out: &mut [i64], lines: &[u8], plain: u8, rows: u8) -> usize
     ensures { Wrote out.old 0 out.new result (each (line_gives plain rows) (parts 10 lines.now)) }
 {
-    let mut rest = lines;
     let mut at = 0;
-    loop {
-        let line = text_fields::first_part(rest, b'\n');
+    for line in Parts::new(lines, b'\n') {
         at = put_line(out, at, line, plain, rows);
-        let n = line.len();
-        if rest.len() <= n {
-            return at;
-        }
-        rest = &rest[n + 1..];
     }
+    at
 }
 
 // The numbers that lines gather, put to the room lent from its start on.
-pub fn gather_numbers(lines: &[u8], out: &mut [i64]) -> Gathered
+pub fn gather_numbers(lines: &[u8], out: &mut [i64]) -> Option<usize>
     ensures value { result ≡ gathered (length (each numbers_of (parts 10 lines.now))) (length out.old) }
     ensures out_after { out.new ≡ sets out.old 0 (each numbers_of (parts 10 lines.now)) }
 {
@@ -161,7 +132,7 @@ pub fn gather_numbers(lines: &[u8], out: &mut [i64]) -> Gathered
 }
 
 // The numbers expected that lines gather.
-pub fn gather_expected(lines: &[u8], out: &mut [i64]) -> Gathered
+pub fn gather_expected(lines: &[u8], out: &mut [i64]) -> Option<usize>
     ensures value { result ≡ gathered (length (each expected_of (parts 10 lines.now))) (length out.old) }
     ensures out_after { out.new ≡ sets out.old 0 (each expected_of (parts 10 lines.now)) }
 {
@@ -170,7 +141,7 @@ pub fn gather_expected(lines: &[u8], out: &mut [i64]) -> Gathered
 }
 
 // The numbers of a line that judges.
-pub fn judging_numbers(line: &[u8], out: &mut [i64]) -> Gathered
+pub fn judging_numbers(line: &[u8], out: &mut [i64]) -> Option<usize>
     ensures value { result ≡ gathered (length (numbers_in (body line.now))) (length out.old) }
     ensures out_after { out.new ≡ sets out.old 0 (numbers_in (body line.now)) }
 {

@@ -1,22 +1,16 @@
-use borrow.Author.Rules.{rules}
-use Rattle.stored_numbers.proofs.GivesLaws.{each_more, each_last}
-use Rattle.loops.proofs.StoreLaws.{wrote_long}
-use Rattle.stored_numbers.proofs.PutLaws.{yet_all}
-use native.Mathlib.Omega.{arith}
-use lib.ListN.{length-take, length-drop}
+use Rattle.std.proofs.Common.{arith, ap, sym, ◌∙◌}
+use Rattle.text_fields.specs.Parts.{parts_left}
+use Rattle.loops.specs.Lists.{each}
+use Rattle.stored_bytes.specs.inner.Bytes.{bytes_of}
+use Rattle.stored_numbers.proofs.GivesLaws.{each_more, each_none}
+use Rattle.stored_numbers.proofs.PutLaws.{yet_all, yet_as}
 use Rattle.stored_bytes.proofs.put_texts.Goals as goal
 
-pub loop-rest-init : goal.loop-rest-init
-loop-rest-init c = yet_all _ _ _ (omega arith)
+pub loop-line-init : goal.loop-line-init
+loop-line-init c = yet_as (ap (each bytes_of) (sym (ap parts_left c.into_iter-line-iterator.ensures.into_iter_gives ∙ c.new-line-items.ensures))) (yet_all _ _ _ (omega arith))
 
-pub shape_of-out-then-rest-n : goal.shape_of-out-then-rest-n
-shape_of-out-then-rest-n c = search (rules, wrote_long)
+pub loop-line-preserved : goal.loop-line-preserved
+loop-line-preserved c = each_more c.in-Some.ensures.steps bytes_of c.loop-line.invariant c.put_text-at.ensures
 
-pub returns-then-rest-n : goal.returns-then-rest-n
-returns-then-rest-n c = search (rules, each_last)
-
-pub loop-rest-smaller : goal.loop-rest-smaller
-loop-rest-smaller c = simp (length-take, length-drop) (omega arith)
-
-pub loop-rest-preserved : goal.loop-rest-preserved
-loop-rest-preserved c = search (rules, each_more)
+pub returns : goal.returns
+returns c = each_none c.in-None.ensures.steps.0 bytes_of c.loop-line.invariant

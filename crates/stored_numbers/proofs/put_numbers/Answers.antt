@@ -1,22 +1,15 @@
-use borrow.Author.Rules.{rules}
-use Rattle.stored_numbers.proofs.GivesLaws.{map_more, map_last}
-use Rattle.loops.proofs.StoreLaws.{wrote_long}
-use Rattle.stored_numbers.proofs.PutLaws.{wrote_back, yet_all}
-use native.Mathlib.Omega.{arith}
-use lib.ListN.{length-take, length-drop}
+use Rattle.std.proofs.Common.{rules, map, ap, sym, ◌∙◌}
+use Rattle.text_fields.specs.Parts.{parts_left}
+use Rattle.text_line.specs.Line.{value_of}
+use Rattle.stored_numbers.proofs.GivesLaws.{map_more, map_none}
+use Rattle.stored_numbers.proofs.PutLaws.{wrote_back, yet_all, yet_as}
 use Rattle.stored_numbers.proofs.put_numbers.Goals as goal
 
-pub loop-rest-init : goal.loop-rest-init
-loop-rest-init c = search (rules, yet_all)
+pub loop-field-init : goal.loop-field-init
+loop-field-init c = yet_as (ap (map value_of) (sym (ap parts_left c.into_iter-field-iterator.ensures.into_iter_gives ∙ c.new-field-items.ensures))) (yet_all _ _ _ c.requires)
 
-pub shape_of-out-then-rest-n : goal.shape_of-out-then-rest-n
-shape_of-out-then-rest-n c = search (rules, wrote_long)
+pub loop-field-preserved : goal.loop-field-preserved
+loop-field-preserved c = map_more c.in-Some.ensures.steps value_of c.loop-field.invariant (search (rules, wrote_back))
 
-pub returns-then-rest-n : goal.returns-then-rest-n
-returns-then-rest-n c = search (rules, map_last, wrote_back)
-
-pub loop-rest-smaller : goal.loop-rest-smaller
-loop-rest-smaller c = simp (length-take, length-drop) (omega arith)
-
-pub loop-rest-preserved : goal.loop-rest-preserved
-loop-rest-preserved c = search (rules, map_more, wrote_back)
+pub returns : goal.returns
+returns c = map_none c.in-None.ensures.steps.0 value_of c.loop-field.invariant

@@ -1,9 +1,7 @@
 -- The numbers that a line of a stored list gives to its case (tools/cases/README.md has the form). Assumes nothing.
-use Rattle.std.specs.Prelude.{ℕ, zero, suc, cond, List, [], ◌++◌, map, eqb, ltb, ℤ}
+use Rattle.std.specs.Prelude.{ℕ, zero, suc, cond, List, [], ◌++◌, map, eqb, ltb, ℤ, Option, None, Some}
 use Rattle.text_line.specs.Line.{fields_of, value_of, row_of}
 use Rattle.stored_lines.specs.inner.Line.{letter, count, piece}
-use Rattle.stored_numbers.specs.declared.Gathered.{Gathered}
-use Rattle.stored_numbers.specs.declared.Gathered.TheVariants.{All, TooMany}
 
 -- something so often, one after the other
 unfoldable pub times : {A : Type 0} → ℕ → List A → List A
@@ -22,6 +20,6 @@ numbers_of l = cond (eqb (letter l) 110) (times (count l) (numbers_in (piece l))
 unfoldable pub expected_of : List ℕ → List ℤ
 expected_of l = cond (eqb (letter l) 101) (times (count l) (numbers_in (piece l))) []
 
--- so many numbers or bytes, in a room of that length
-abbrev pub gathered : ℕ → ℕ → Gathered
-gathered n room = cond (ltb n room) (All n) TooMany
+-- so many numbers or bytes, where there is room for more than them
+abbrev pub gathered : ℕ → ℕ → Option ℕ
+gathered n room = cond (ltb n room) (Some n) None
