@@ -93,10 +93,12 @@ fn put_lines(out: &mut [u8], from: usize, numbers: &[i64], w: usize, n: usize) -
 pub fn put_refused(out: &mut [u8], e: Refusal) -> usize
     ensures { Wrote out.old 0 out.new result (printed_refused (number_of e.reason) e.place) }
 {
+    let number = e.reason.number();
+    let place = e.place as u64;
     let mut at = lent_room::put_all(out, 0, b"refused,");
-    at = put_decimal(out, at, e.reason.number());
+    at = put_decimal(out, at, number);
     at = lent_room::put(out, at, b',');
-    at = put_decimal(out, at, e.place as u64);
+    at = put_decimal(out, at, place);
     lent_room::put(out, at, b'\n')
 }
 
