@@ -19,7 +19,7 @@ fn digit(d: u64) -> u8
     b'0' + d as u8
 }
 
-// A number in decimal digits.
+// A number in decimal digits. Not by `write!`: what does not fit is dropped here, and a writer that drops bytes has no contents that a clause could name.
 fn put_decimal(out: &mut [u8], at: usize, n: u64) -> usize
     requires { at ≤ length out.old }
     ensures { Wrote out.old at out.new result (decimal n) }
