@@ -2,13 +2,13 @@
 // out as expected.
 #![tactic(auto)]
 
-ghost use Rattle.std.specs.Prelude.{◌≤◌, length, ◌<◌};
+ghost use Rattle.std.specs.Prelude.{◌≡◌, ◌≤◌, length, ◌<◌};
 ghost use Rattle.rows.specs.Cells.{row_count};
 ghost use Rattle.sheet.specs.inner.Accepted.{Accepted};
 ghost use Rattle.owners.specs.inner.Owners.{Linked, Owned};
 ghost use Rattle.pieces.specs.inner.Held.{Held};
-ghost use Rattle.derived_times.specs.inner.Rows.{Timings};
 
+use derived_times::Bookings;
 use overlap::Overlap;
 use refusals::Verdict;
 use resource_timing::{ActivityDuration, Derived, Piece, ResourceTiming, Timed};
@@ -53,18 +53,16 @@ fn numbers_of(k: usize, d: Derived) -> [i64; 4] {
 fn derived_at(
     rows: &[i64],
     links: &[u16; 1600],
-    owned: &[u16; 8810],
-    held: &[u8; 800],
-    t: &[u16; 800],
+    bookings: &Bookings<'_>,
     k: usize,
 ) -> Option<Derived>
-    requires { Accepted rows.now × Linked rows.now links.now × Owned rows.now owned.now × Held rows.now held.now × Timings rows.now t.now × (k < row_count rows.now) }
+    requires { Accepted rows.now × Linked rows.now links.now × (bookings.now.rows.now ≡ rows.now) × (k < row_count rows.now) }
 {
     if !rows::is_at(rows, k, 0, 23) {
         return None;
     }
     match owners::activity_of(rows, links, k) {
-        Found::At(o) => Some(derived_times::duration_on(rows, owned, held, t, o, k)),
+        Found::At(o) => Some(bookings.duration_on(o, k)),
         Found::Nothing => None,
     }
 }
@@ -79,10 +77,10 @@ fn derived_are(
 ) -> bool
     requires { Accepted rows.now × Linked rows.now links.now × Owned rows.now owned.now × Held rows.now held.now }
 {
-    let t = derived_times::timings_of(rows, links, owned);
+    let bookings = Bookings::new(rows, links, owned, held);
     let mut rest = expected;
     for k in 0..rows::row_count(rows) {
-        if let Some(d) = derived_at(rows, links, owned, held, &t, k) {
+        if let Some(d) = derived_at(rows, links, &bookings, k) {
             let Some(after) = rest.strip_prefix(&numbers_of(k, d)) else {
                 return false;
             };
