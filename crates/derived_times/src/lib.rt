@@ -62,7 +62,7 @@ fn timing_row(rows: &[i64], links: &[u16; 1600], owned: &[u16; 8810], k: usize) 
 }
 
 // The row of booking k's timing, kept for row k.
-fn timings_of(rows: &[i64], links: &[u16; 1600], owned: &[u16; 8810]) -> [u16; 800]
+pub fn timings_of(rows: &[i64], links: &[u16; 1600], owned: &[u16; 8810]) -> [u16; 800]
     requires { Accepted rows.now × Linked rows.now links.now × Owned rows.now owned.now }
     ensures { Timings rows.now result }
 {
