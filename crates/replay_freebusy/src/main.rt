@@ -6,7 +6,6 @@ ghost use Rattle.std.specs.Prelude.{◌≤◌, length};
 
 use refusals::Answer;
 use std::io;
-use stored_numbers::Gathered;
 use stored_run::Run;
 
 // Reads the bytes as a calendar to the first `lent` of the numbers, which are all 7, and says whether it came out as expected.
@@ -50,13 +49,13 @@ fn passes(lines: &[u8], line: &[u8]) -> bool {
     let mut given = stored_run::few();
     let mut bytes = stored_run::no_bytes();
     let mut rows = stored_run::sevens();
-    let Gathered::All(k) = stored_numbers::judging_numbers(line, &mut given) else {
+    let Some(k) = stored_numbers::judging_numbers(line, &mut given) else {
         return false;
     };
-    let Gathered::All(n) = stored_bytes::gather_bytes(lines, &mut bytes) else {
+    let Some(n) = stored_bytes::gather_bytes(lines, &mut bytes) else {
         return false;
     };
-    let Gathered::All(m) = stored_numbers::gather_numbers(lines, &mut rows) else {
+    let Some(m) = stored_numbers::gather_numbers(lines, &mut rows) else {
         return false;
     };
     stored_lines::letter_of(line) == b'V' && k == 4 && calendar_case(&given, &bytes, n, &rows, m)
