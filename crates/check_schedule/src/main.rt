@@ -37,7 +37,7 @@ fn print_text(text: &[u8], out: &mut [u8]) -> usize
             let end = 10 * n;
             print_sheet(&rows[..end], out)
         }
-        Err(e) => printing::put_refused(out, e),
+        Err(e) => printing::put_refusal(out, e),
     }
 }
 

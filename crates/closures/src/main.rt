@@ -31,7 +31,7 @@ fn print_closures(text: &[u8], resource: i64, out: &mut [u8]) -> usize
     let rows = text_program::kept(rows);
     match answer {
         Ok(n) => put_rows(out, &rows, n),
-        Err(e) => printing::put_refused(out, e),
+        Err(e) => printing::put_refusal(out, e),
     }
 }
 

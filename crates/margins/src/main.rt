@@ -59,7 +59,7 @@ fn print_margins(rows: &[i64], out: &mut [u8]) -> usize
     let lines = text_program::kept(lines);
     match answer {
         Ok(n) => put_margins(out, &lines, n),
-        Err(e) => printing::put_refused(out, e),
+        Err(e) => printing::put_refusal(out, e),
     }
 }
 
@@ -76,7 +76,7 @@ fn print_text(text: &[u8], out: &mut [u8]) -> usize
             let end = 10 * n;
             print_margins(&rows[..end], out)
         }
-        Err(e) => printing::put_refused(out, e),
+        Err(e) => printing::put_refusal(out, e),
     }
 }
 

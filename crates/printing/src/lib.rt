@@ -89,17 +89,22 @@ fn put_lines(out: &mut [u8], from: usize, numbers: &[i64], w: usize, n: usize) -
     at
 }
 
-// A refusal, from the start of the buffer on.
-pub fn put_refused(out: &mut [u8], e: Refusal) -> usize
-    ensures { Wrote out.old 0 out.new result (printed_refused (number_of e.reason) e.place) }
+// A refusal by its number and place, from the start of the buffer on.
+pub fn put_refused(out: &mut [u8], number: u64, place: u64) -> usize
+    ensures { Wrote out.old 0 out.new result (printed_refused number place) }
 {
-    let number = e.reason.number();
-    let place = e.place as u64;
     let mut at = lent_room::put_all(out, 0, b"refused,");
     at = put_decimal(out, at, number);
     at = lent_room::put(out, at, b',');
     at = put_decimal(out, at, place);
     lent_room::put(out, at, b'\n')
+}
+
+// The same of a refusal with its reason.
+pub fn put_refusal(out: &mut [u8], e: Refusal) -> usize
+    ensures { Wrote out.old 0 out.new result (printed_refused (number_of e.reason) e.place) }
+{
+    put_refused(out, e.reason.number(), e.place as u64)
 }
 
 fn put_accepted(out: &mut [u8], found: &[i64], n: usize) -> usize
@@ -119,6 +124,6 @@ pub fn print_answer(answer: Answer, found: &[i64], out: &mut [u8]) -> usize
 {
     match answer {
         Ok(n) => put_accepted(out, found, n),
-        Err(e) => put_refused(out, e),
+        Err(e) => put_refusal(out, e),
     }
 }
