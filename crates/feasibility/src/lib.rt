@@ -96,9 +96,7 @@ fn write_findings(
     match handed {
         Handed::Over => Ok(count),
         Handed::Full => Err(Reason::Full.at(0)),
-        Handed::Longer => Ok(check_all(
-            rows, kinds, links, owned, held, need, &lacking, out,
-        )),
+        Handed::Longer => Ok(check_all(rows, kinds, links, owned, held, need, &lacking, out)),
     }
 }
 

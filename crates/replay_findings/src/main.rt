@@ -92,9 +92,7 @@ fn call_passes(
     let answer = feasibility::check_schedule(rows, &mut found[..room]);
     match answer {
         Ok(n) => number == 0 && place == n as u64 && all_pass(found, expected, m, n),
-        Err(e) => {
-            number == e.reason.number() && place == e.place as u64 && unchanged(found, 0)
-        }
+        Err(e) => { number == e.reason.number() && place == e.place as u64 && unchanged(found, 0) }
     }
 }
 
