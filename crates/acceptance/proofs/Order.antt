@@ -47,8 +47,8 @@ module _ (rows : List ℤ) where
 
   module _ {k₀ l₀ o₀ k l o : List ℕ} {v : Result Unit Refusal} (i : Indexing rows k₀ l₀ o₀ v k l o) where
     -- the rows are refused
-    pub accept_rows : {e : Refusal} → v ≡ Err e → Accepting rows k₀ l₀ o₀ v k l o
-    accept_rows e = record { verdict = ap verdict_of e ∙ sym (by_rows i.verdict e); tables = i.tables; kept = i.kept }
+    pub accept_rows : {e : Refusal} {u : Result Unit Refusal} → v ≡ Err e → u ≡ Err e → Accepting rows k₀ l₀ o₀ u k l o
+    accept_rows e f = record { verdict = ap verdict_of f ∙ sym (by_rows i.verdict e); tables = i.tables; kept = i.kept }
 
     -- they are not: the verdict is that of the times
     pub accept_times : {u : Result Unit Refusal} → v ≡ (Ok tt) → verdict_of u ≡ time_refusal rows → Accepting rows k₀ l₀ o₀ u k l o

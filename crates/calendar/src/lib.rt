@@ -283,6 +283,7 @@ impl<'a> Calendars<'a> {
     {
         let mut t = a;
         let mut sum = 0;
+        // The walk goes from stop to stop, and counts no index.
         while t < e {
             let s = self.look(t, e);
             sum += s.gained(t);
@@ -300,7 +301,7 @@ impl<'a> Calendars<'a> {
         }
         let mut t = start;
         let mut left = work;
-        // At the last instant of a u64 every window has ended.
+        // From stop to stop; at the last instant of a u64 every window has ended.
         while t < u64::MAX {
             let s = self.look(t, u64::MAX);
             let d = s.gained(t);

@@ -165,7 +165,8 @@ fn check_first(
     requires { Linked rows.now links.now × Owned rows.now owned.now × (refusal_of rows.now ≡ None) × (is rows.now k 0 24 ≡ true) × (place_of rows.now 2 (num rows.now k 1) ≡ Some a) }
     ensures { sink out.new result ≡ emit (sink out.old n) (check_first clock (sheet rows.now) (span_of rows.now k) (activity_of rows.now a)) }
 {
-    let mut windows = WindowList::new();
+    let mut room = [window_rows::NO_WINDOW; 800];
+    let mut windows = WindowList::over(&mut room);
     window_rows::gather_windows(rows, owned, a, 16, &mut windows);
     let short = is_short(rows, a, k, windows.as_slice());
     let outside = is_outside(rows, a, k, windows.as_slice());

@@ -130,7 +130,18 @@ fn lacks_time(
     requires { Indexed rows.now kinds.now links.now owned.now × Needs rows.now need.now × (k < row_count rows.now) × (is rows.now k 0 23 ≡ true) × (place_of rows.now 2 (num rows.now k 1) ≡ Some a) }
     ensures { result ≡ (not (joint_working clock (piece_calendars clock (sheet rows.now) (assignment_of rows.now k) (activity_of rows.now a)) (pos (num rows.now k 4))) || ltb (joint_available_ms clock (piece_calendars clock (sheet rows.now) (assignment_of rows.now k) (activity_of rows.now a)) (pos (num rows.now k 4)) (pos (num rows.now k 5))) (num rows.now k 6 + get_or need.now k 0)) }
 {
-    let laid = check6_joint_calendars::lay_calendars(rows, kinds, links, owned, a, k);
+    let mut windows = [window_rows::NO_WINDOW; 800];
+    let mut places = [check6_joint_calendars::NO_PLACES; 800];
+    let laid = check6_joint_calendars::lay_calendars(
+        rows,
+        kinds,
+        links,
+        owned,
+        a,
+        k,
+        &mut windows,
+        &mut places,
+    );
     let start = rows::num_at(rows, k, 4);
     let end = rows::num_at(rows, k, 5);
     let needed = needed_ms(rows, need, k);

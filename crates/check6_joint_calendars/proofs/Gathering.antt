@@ -9,7 +9,7 @@ use native.Mathlib.Decide.{ℕ_discrete, dec_lt}
 use borrow.Author.Tests.{lt-ltb, le-ltb, eq-eqb, ne_eqb}
 use lib.Dec.{eqb, ltb}
 use lib.IntN.{ℤ}
-use lib.ListN.{length, get_or, set, length-append, take, drop}
+use lib.ListN.{length, set, length-append, take, drop}
 use lib.Seq.{drop-append_seam, take-append_seam}
 use Rattle.std.proofs.lemmas.List.{append_assoc, length_push, take_more_set, length-map, take-map, drop-map, drop-take}
 use Rattle.loops.specs.Lists.{each}
@@ -163,7 +163,7 @@ module _ (rows : List ℤ) where
 
 -- ---- resource by resource
 
-module _ (rows : List ℤ) (marks : List ℕ) where
+module _ (rows : List ℤ) (marks : List Bool) where
   -- there is place for one calendar more
   module _ {r : ℕ} (l : LaidCalendars) (h : Resources rows marks r l) (b : row_count rows ≤ 800) where
     pub room_windows : length (listed l.windows) + count_below (owned_by rows r 15) (row_count rows) ≤ 800
@@ -204,15 +204,15 @@ module _ (rows : List ℤ) (marks : List ℕ) where
 
     -- row r's mark is read
     pub added_taken : Added (windows (sheet rows) 15 (num rows r 1)) (count_below (owned_by rows r 15) (row_count rows)) l l'
-        → get_or marks r 0 ≡ 1 → AddedAt rows marks r l l'
-    added_taken a q = record { taken = λ e. a; passed = λ e. absurd (true≢false (sym (eq-eqb _ _ q) ∙ e)) }
+        → marked marks r ≡ true → AddedAt rows marks r l l'
+    added_taken a q = record { taken = λ e. a; passed = λ e. absurd (true≢false (sym q ∙ e)) }
 
-    pub added_passed : (get_or marks r 0 ≡ 1 → ⊥) → AddedAt rows marks r l l
-    added_passed q = record { taken = λ e. absurd (true≢false (sym e ∙ ne_eqb _ _ q)); passed = λ e. refl }
+    pub added_passed : marked marks r ≡ false → AddedAt rows marks r l l
+    added_passed q = record { taken = λ e. absurd (true≢false (sym e ∙ q)); passed = λ e. refl }
 
   module _ (m : OnResources rows marks) where
-    pub holder : {r : ℕ} → r < row_count rows → get_or marks r 0 ≡ 1 → Holder rows r 15
-    holder l e = inr (refl, m.resource _ l (eq-eqb _ _ e))
+    pub holder : {r : ℕ} → r < row_count rows → marked marks r ≡ true → Holder rows r 15
+    holder l e = inr (refl, m.resource _ l e)
 
     -- a row that is no resource is not marked
     unmarked : (r : ℕ) → r < row_count rows → of_kind rows 11 r ≡ false → (b : Bool) → marked marks r ≡ b → marked marks r ≡ false
@@ -259,15 +259,17 @@ module _ (rows : List ℤ) (marks : List ℕ) where
 
 -- ---- a calendar more in the room that is lent
 
-pub added : (l : LaidCalendars) (w : WindowList) {x : Calendar ℤ} {m from to : ℕ} {room within : _} → from ≡ length (listed l.windows) → to ≡ length (listed w) → calendar_in w ≡ calendar_in l.windows ++ x
-    → length (listed w) ≡ length (listed l.windows) + m → length (laid.placed l) < 800
-    → Added x m l (record { windows = w; places = set l.places l.count (record { from = from; to = to }); count = l.count + 1; room = room; within = within })
+pub added : (l l' : LaidCalendars) {x : Calendar ℤ} {m from to : ℕ} → from ≡ length (listed l.windows) → to ≡ length (listed l'.windows)
+    → calendar_in l'.windows ≡ calendar_in l.windows ++ x → length (listed l'.windows) ≡ length (listed l.windows) + m → length (laid.placed l) < 800
+    → l'.places.now ≡ set l.places.now l.count (record { from = from; to = to }) → l'.count ≡ l.count + 1 → Added x m l l'
 unfolding laid.placed
-added l w {x} {from = from} {to = to} e f g h b = record {
+added l l' {x} {from = from} {to = to} e f g h b p q = record {
   windows = g;
   places =
-      let t : to ≡ length (listed l.windows) + length x = omega (arith, f, listed_length w, ap length g, length-append (calendar_in l.windows) x, listed_length l.windows) in
-      take_more_set l.places l.count (record { from = from; to = to }) (omega (arith, l.room, room_left l.places l.count l.room l.within b))
-      ∙ ap₂ (λ (i j : ℕ). take l.count l.places ++ record { from = i; to = j } ∷ []) e t;
+      let t : to ≡ length (listed l.windows) + length x =
+      omega (arith, f, listed_length l'.windows, ap length g, length-append (calendar_in l.windows) x, listed_length l.windows) in
+      ap₂ take q p
+      ∙ take_more_set l.places.now l.count (record { from = from; to = to }) (omega (arith, l.room, room_left l.places.now l.count l.room l.within b))
+      ∙ ap₂ (λ (i j : ℕ). take l.count l.places.now ++ record { from = i; to = j } ∷ []) e t;
   count = h;
 }

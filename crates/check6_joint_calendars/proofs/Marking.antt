@@ -2,13 +2,12 @@
 use Rattle.model.proofs.OwnedLaws.{booking_owner}
 use Prim.Native.Nat.{ℕ, suc, ◌+◌, ◌<◌, ◌≤◌}
 use mathlib.Core.Path.{◌≡◌, refl, ap, sym, ◌∙◌}
-use mathlib.Core.Bool.{Bool, true, false, cond, ◌&&◌, ◌||◌, or-true, or-false}
+use mathlib.Core.Bool.{Bool, true, false, ◌&&◌, ◌||◌, or-true, or-false}
 use mathlib.Core.List.{List}
 use Rattle.std.specs.Prelude.{Some}
 use native.Mathlib.Omega.{arith}
 use native.Mathlib.Decide.{ℕ_discrete}
 use borrow.Author.Tests.{eq-eqb, ne_eqb}
-use lib.Dec.{eqb}
 use lib.IntN.{ℤ}
 use lib.ListN.{get_or, set, replicate, length-set, length-replicate, get_or-replicate}
 use lib.Seq.{get_or-set_same, get_or-set_other}
@@ -27,9 +26,6 @@ use Rattle.pieces.proofs.Chains.{blind_if, piece_owned}
 use Rattle.check6_joint_calendars.specs.inner.Taken.{is_on, taken_below, marked, Marked, OnResources}
 use Rattle.check6_joint_calendars.proofs.Once.{taken_place}
 
-abbrev mark : Bool → ℕ
-mark b = cond b 1 0
-
 -- a row that was found
 pub mark_low : (rows : List ℤ) (x id : ℕ) {f : Found} {r : ℕ} → found_of f ≡ place_of rows x id → f ≡ At r → row_count rows ≤ 800 → r < 800
 mark_low rows x id e q b = let w = (placed rows x id _ (sym e ∙ ap found_of q)).within in omega (arith, w)
@@ -41,22 +37,22 @@ module _ (rows : List ℤ) (k : ℕ) where
   below_more j r = refl
 
   -- a row that is no booking of the piece
-  mark_other : {j : ℕ} {marks : List ℕ} → in_piece rows k j ≡ false → Marked rows k j marks → Marked rows k (suc j) marks
+  mark_other : {j : ℕ} {marks : List Bool} → in_piece rows k j ≡ false → Marked rows k j marks → Marked rows k (suc j) marks
   mark_other {j} e g = record {
     size = g.size;
-    at = λ r l. g.at r l ∙ ap mark (same r);
+    at = λ r l. g.at r l ∙ same r;
     past = g.past;
   }
     where
       same : (r : ℕ) → taken_below rows k j r ≡ taken_below rows k (suc j) r
       same r = sym (below_more j r ∙ rw e (or-false (taken_below rows k j r)))
 
-  pub mark_past : {j : ℕ} {b : Bool} {marks : List ℕ} → b ≡ in_piece rows k j → b ≡ false → Marked rows k j marks → Marked rows k (suc j) marks
+  pub mark_past : {j : ℕ} {b : Bool} {marks : List Bool} → b ≡ in_piece rows k j → b ≡ false → Marked rows k j marks → Marked rows k (suc j) marks
   mark_past e q g = mark_other (sym e ∙ q) g
 
   -- a booking on a resource that is not in the sheet
-  pub mark_none : {j : ℕ} {f : Found} {marks : List ℕ} → found_of f ≡ place_of rows 11 (num rows j 3) → f ≡ Nothing → Marked rows k j marks → Marked rows k (suc j) marks
-  mark_none {j} {f} d z g = record { size = g.size; at = λ r m. g.at r m ∙ ap mark (same r); past = g.past }
+  pub mark_none : {j : ℕ} {f : Found} {marks : List Bool} → found_of f ≡ place_of rows 11 (num rows j 3) → f ≡ Nothing → Marked rows k j marks → Marked rows k (suc j) marks
+  mark_none {j} {f} d z g = record { size = g.size; at = λ r m. g.at r m ∙ same r; past = g.past }
     where
       go : (b : Bool) (r : ℕ) → (taken_below rows k j r || (b && false)) ≡ taken_below rows k j r
       go true r = or-false _
@@ -65,12 +61,12 @@ module _ (rows : List ℤ) (k : ℕ) where
       same : (r : ℕ) → taken_below rows k j r ≡ taken_below rows k (suc j) r
       same r = sym (below_more j r ∙ rw (← d, z) (go (in_piece rows k j) r))
 
-  pub mark_more : {j s : ℕ} {f : Found} {y : Bool} {marks : List ℕ} → Marked rows k j marks → y ≡ in_piece rows k j → y ≡ true → found_of f ≡ place_of rows 11 (num rows j 3)
-      → f ≡ At s → row_count rows ≤ 800 → Marked rows k (suc j) (set marks s 1)
+  pub mark_more : {j s : ℕ} {f : Found} {y : Bool} {marks : List Bool} → Marked rows k j marks → y ≡ in_piece rows k j → y ≡ true → found_of f ≡ place_of rows 11 (num rows j 3)
+      → f ≡ At s → row_count rows ≤ 800 → Marked rows k (suc j) (set marks s true)
   mark_more {j} {s} {f} {marks = marks} g t u d z b = record {
-    size = length-set marks s 1 ∙ g.size;
+    size = length-set marks s true ∙ g.size;
     at = λ r m. go r m (ℕ_discrete r s);
-    past = λ r m l. get_or-set_other marks s r 1 0 (λ q. omega (arith, (placed rows 11 _ s (sym e)).within)) ∙ g.past r m l;
+    past = λ r m l. get_or-set_other marks s r true false (λ q. omega (arith, (placed rows 11 _ s (sym e)).within)) ∙ g.past r m l;
   }
     where
       p : in_piece rows k j ≡ true
@@ -85,47 +81,43 @@ module _ (rows : List ℤ) (k : ℕ) where
       elsewhere : (r : ℕ) → (r ≡ s → ⊥) → taken_below rows k j r ≡ taken_below rows k (suc j) r
       elsewhere r d = sym (below_more j r ∙ rw (p, ← e, ne_eqb s r (λ c. d (sym c))) (or-false (taken_below rows k j r)))
 
-      go : (r : ℕ) → r < row_count rows → Dec (r ≡ s) → get_or (set marks s 1) r 0 ≡ mark (taken_below rows k (suc j) r)
+      go : (r : ℕ) → r < row_count rows → Dec (r ≡ s) → get_or (set marks s true) r false ≡ taken_below rows k (suc j) r
       go r m (yes d) =
-          ap (λ i. get_or (set marks s 1) i 0) d
-          ∙ get_or-set_same marks s 1 0 (omega (arith, g.size, (placed rows 11 _ s (sym e)).within))
-          ∙ ap mark (here r d)
+          ap (λ i. get_or (set marks s true) i false) d
+          ∙ get_or-set_same marks s true false (omega (arith, g.size, (placed rows 11 _ s (sym e)).within))
+          ∙ here r d
       go r m (no d) =
-          get_or-set_other marks s r 1 0 d
+          get_or-set_other marks s r true false d
           ∙ g.at r m
-          ∙ ap mark (elsewhere r d)
+          ∙ elsewhere r d
 
   module _ (a : ℕ) (h : is rows k 0 23 ≡ true) (o : place_of rows 2 (num rows k 1) ≡ Some a) where
-    still : (marks : List ℕ) (j : ℕ) → owned_by rows a 23 j ≡ false → Marked rows k j marks → Marked rows k (j + 1) marks
+    still : (marks : List Bool) (j : ℕ) → owned_by rows a 23 j ≡ false → Marked rows k j marks → Marked rows k (j + 1) marks
     still marks j e g =
         let q : j + 1 ≡ suc j = omega arith in
         rw q (mark_other ((blind_if (owned_by rows a 23) (in_piece rows k) (piece_owned rows k a h (booking_owner rows k a h o))).still j e) g)
 
-    pub mark_first : {n i : ℕ} → First (owned_by rows a 23) 0 n i → row_count rows ≤ 800 → Marked rows k i (replicate 800 0)
+    pub mark_first : {n i : ℕ} → First (owned_by rows a 23) 0 n i → row_count rows ≤ 800 → Marked rows k i (replicate 800 false)
     mark_first f b =
-        over (λ j. Marked rows k j (replicate 800 0)) (owned_by rows a 23) 0 _ _ (still (replicate 800 0)) f
+        over (λ j. Marked rows k j (replicate 800 false)) (owned_by rows a 23) 0 _ _ (still (replicate 800 false)) f
         (record {
-          size = length-replicate {A = ℕ} 800 0;
-          at = λ r l. get_or-replicate {A = ℕ} 800 r 0 0 (omega arith) ∙ (unfold taken_below any_below in refl);
-          past = λ r m l. get_or-replicate {A = ℕ} 800 r 0 0 l;
+          size = length-replicate {A = Bool} 800 false;
+          at = λ r l. get_or-replicate {A = Bool} 800 r false false (omega arith) ∙ (unfold taken_below any_below in refl);
+          past = λ r m l. get_or-replicate {A = Bool} 800 r false false l;
         })
 
-    pub mark_next : {n i j : ℕ} {marks : List ℕ} → First (owned_by rows a 23) (suc i) n j → Marked rows k (suc i) marks → Marked rows k j marks
+    pub mark_next : {n i j : ℕ} {marks : List Bool} → First (owned_by rows a 23) (suc i) n j → Marked rows k (suc i) marks → Marked rows k j marks
     mark_next {i = i} {marks = marks} f g = over (λ j. Marked rows k j marks) (owned_by rows a 23) (suc i) _ _ (still marks) f g
 
-  pub mark_end : {p : ℕ → Bool} {N i : ℕ} {marks : List ℕ} → N ≤ i → N ≡ row_count rows → Stands p (row_count rows) i → Marked rows k i marks → Marked rows k (row_count rows) marks
+  pub mark_end : {p : ℕ → Bool} {N i : ℕ} {marks : List Bool} → N ≤ i → N ≡ row_count rows → Stands p (row_count rows) i → Marked rows k i marks → Marked rows k (row_count rows) marks
   mark_end l z s g = rw (stands_end s l z) at g
 
   -- the mark tells
-  pub marked_is : {i : ℕ} {marks : List ℕ} → Marked rows k i marks → (r : ℕ) → r < row_count rows → marked marks r ≡ taken_below rows k i r
-  marked_is {i} g r l = ap (λ x. eqb x 1) (g.at r l) ∙ one (taken_below rows k i r)
-    where
-      one : (b : Bool) → eqb (mark b) 1 ≡ b
-      one true = refl
-      one false = refl
+  pub marked_is : {i : ℕ} {marks : List Bool} → Marked rows k i marks → (r : ℕ) → r < row_count rows → marked marks r ≡ taken_below rows k i r
+  marked_is g r l = g.at r l
 
   -- what is marked is a resource
-  pub on_resources : {marks : List ℕ} → Marked rows k (row_count rows) marks → OnResources rows marks
+  pub on_resources : {marks : List Bool} → Marked rows k (row_count rows) marks → OnResources rows marks
   on_resources g = record {
     size = g.size;
     resource = λ r l e. taken_place rows k r (sym (marked_is g r l) ∙ e);

@@ -65,12 +65,12 @@ module _ (rows : List ℤ) (acc : Accepted rows) (k : ℕ) (l : k < row_count ro
       ∙ ap (λ y. y && is_working_time clock (windows (sheet rows) 16 (num rows a 1)) t) (resources_work ∙ ap not (once_each rows acc k l h t))
       ∙ sym (joint_is rows acc k l h t a)
 
-marks_taken : (rows : List ℤ) (k : ℕ) {marks : List ℕ} → Marked rows k (row_count rows) marks → collect (calendar_at rows marks) (row_count rows) ≡ collect (taken_at rows k) (row_count rows)
+marks_taken : (rows : List ℤ) (k : ℕ) {marks : List Bool} → Marked rows k (row_count rows) marks → collect (calendar_at rows marks) (row_count rows) ≡ collect (taken_at rows k) (row_count rows)
 unfolding calendar_at
 marks_taken rows k m = collect_ext _ _ (row_count rows) (λ r b. ap (λ y. given y (windows (sheet rows) 15 (num rows r 1))) (marked_is rows k m r b))
 
 -- what is promised of the calendars that are laid out
-pub whole : (rows : List ℤ) (k a : ℕ) {marks : List ℕ} (l l' : LaidCalendars) → Marked rows k (row_count rows) marks → Resources rows marks (row_count rows) l
+pub whole : (rows : List ℤ) (k a : ℕ) {marks : List Bool} (l l' : LaidCalendars) → Marked rows k (row_count rows) marks → Resources rows marks (row_count rows) l
     → Added (windows (sheet rows) 16 (num rows a 1)) (count_below (owned_by rows a 16) (row_count rows)) l l' → LaidOut (laid_calendars rows k a) l'
 whole rows k a l l' p r s =
     subst (λ c. LaidOut (c ++ windows (sheet rows) 16 (num rows a 1) ∷ []) l') (marks_taken rows k p) (out_more _ r.out s)

@@ -12,7 +12,7 @@ use Rattle.check6_joint_calendars.specs.declared.laid_calendars.LaidCalendars.{L
 use Rattle.check6_joint_calendars.specs.inner.Taken.{taken}
 
 unfoldable pub placed : LaidCalendars → List Places
-placed l = take l.count l.places
+placed l = take l.count l.places.now
 
 -- the windows of calendars, one calendar behind the other
 unfoldable pub in_a_row : List (Calendar ℤ) → Calendar ℤ

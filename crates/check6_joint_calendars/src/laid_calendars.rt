@@ -2,20 +2,23 @@
 
 ghost use Rattle.std.specs.Prelude.{◌≡◌, ◌≤◌, ◌<◌, ◌+◌, [], ◌∷◌, ◌++◌, length};
 
-use calendar::{Calendars, Places};
+use calendar::{Calendars, Places, TimeWindow};
 use window_rows::WindowList;
 
-// Their windows, and the places of each among these. As many calendars as a sheet has rows have room: the library has no heap.
+// What stands in room before a calendar is laid out there.
+pub const NO_PLACES: Places = Places { from: 0, to: 0 };
+
+// Their windows, and the places of each among these. As many calendars as a sheet has rows have room, which is lent, as that of the windows is.
 #[derive(Drop)]
-pub struct LaidCalendars {
-    windows: WindowList,
-    places: [Places; 800],
+pub struct LaidCalendars<'a> {
+    windows: WindowList<'a>,
+    places: &'a mut [Places; 800],
     count: usize,
-    ghost room: { length places ≡ 800 },
+    ghost room: { length places.now ≡ 800 },
     ghost within: { count ≤ 800 },
 }
 
-impl LaidCalendars {
+impl<'a> LaidCalendars<'a> {
     ghost use Rattle.loops.specs.Search.{count_below};
     ghost use Rattle.rows.specs.Cells.{row_count, num};
     ghost use Rattle.calendar.specs.Layout.{calendars_of};
@@ -28,12 +31,15 @@ impl LaidCalendars {
     ghost use Rattle.check6_joint_calendars.specs.inner.Laying.{Added};
 
     // Without calendars.
-    pub fn new() -> LaidCalendars
+    pub fn over(
+        windows: &'a mut [TimeWindow; 800],
+        places: &'a mut [Places; 800],
+    ) -> LaidCalendars<'a>
         ensures { LaidOut [] result }
     {
         LaidCalendars {
-            windows: WindowList::new(),
-            places: [Places { from: 0, to: 0 }; 800],
+            windows: WindowList::over(windows),
+            places,
             count: 0,
         }
     }

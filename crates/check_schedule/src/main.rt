@@ -5,27 +5,11 @@ ghost use Rattle.std.specs.Prelude.{◌≡◌, ◌≤◌, length, take};
 ghost use Rattle.text_program.specs.Text.{printed_text};
 ghost use Rattle.check_schedule.specs.Program.{printed_sheet};
 
-use program_io::Input;
-
 // 2,000 findings.
 fn no_findings() -> [i64; 8000]
     ensures { 8000 ≡ length result }
 {
     [0; 8000]
-}
-
-// Room for what is printed of 2,000 findings.
-fn longest_answer() -> [u8; 168030]
-    ensures { 168030 ≡ length result }
-{
-    [0; 168030]
-}
-
-// The numbers as they are. Handed on by value they are known to be numbers of 64 bits, which bounds what is printed of them.
-fn kept(numbers: [i64; 8000]) -> [i64; 8000]
-    ensures { result ≡ numbers }
-{
-    numbers
 }
 
 // Checks the rows and puts what is printed of them into out. It answers how many bytes that are.
@@ -36,7 +20,7 @@ fn print_sheet(rows: &[i64], out: &mut [u8]) -> usize
 {
     let mut found = no_findings();
     let answer = feasibility::check_schedule(rows, &mut found);
-    let found = kept(found);
+    let found = text_program::kept(found);
     printing::print_answer(answer, &found, out)
 }
 
@@ -53,19 +37,20 @@ fn print_text(text: &[u8], out: &mut [u8]) -> usize
             let end = 10 * n;
             print_sheet(&rows[..end], out)
         }
-        Err(e) => printing::put_refused(out, e),
+        Err(e) => printing::put_refusal(out, e),
     }
 }
 
 fn main(rt: HostRuntime) {
-    let started = program_io::arguments(
+    let given = program_io::arguments(
         &rt,
         0,
         b"usage: check_schedule < SHEET (it takes no argument)",
     );
-    if !started.taken {
+    if given.is_err() {
         return;
     }
+    // Lent arrays, and no heap: there is no memory to run out of, and nothing to say of it.
     let mut text = text_program::no_text();
     let reading = program_io::read_input(
         &rt,
@@ -73,11 +58,11 @@ fn main(rt: HostRuntime) {
         b"check_schedule: a sheet is read from standard input, up to the end of input (Ctrl-D)",
         &mut text,
     );
-    let input = reading.input;
-    let Input::Read(n) = input else {
+    let Some(n) = reading.input else {
         return;
     };
-    let mut out = longest_answer();
+    // Room for what is printed of 2,000 findings.
+    let mut out = [0u8; 168030];
     let m = print_text(&text[..n], &mut out);
     program_io::write_output(&rt, b"check_schedule: standard output", &out[..m]);
 }

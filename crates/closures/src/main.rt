@@ -6,35 +6,16 @@ ghost use Rattle.loops.specs.inner.Wrote.{Wrote};
 ghost use Rattle.closures.specs.Program.{printed_closures};
 ghost use Rattle.closures.specs.inner.Bytes.{rows_bytes};
 
-use program_io::Input;
-use text_fields::Number;
-
-// Room for what is printed of 800 rows.
-fn longest_answer() -> [u8; 84000]
-    ensures { 84000 ≡ length result }
-{
-    [0; 84000]
-}
-
-// The numbers as they are. Handed on by value they are known to be numbers of 64 bits, which bounds what is printed of them.
-fn kept(numbers: [i64; 8000]) -> [i64; 8000]
-    ensures { result ≡ numbers }
-{
-    numbers
-}
-
 // The first n rows.
 fn put_rows(out: &mut [u8], rows: &[i64], n: usize) -> usize
     requires { (n ≤ 800) × (length rows.now ≡ 8000) }
     ensures { Wrote out.old 0 out.new result (rows_bytes rows.now n) }
 {
     let mut at = 0;
-    let mut k = 0;
-    while k < n {
+    for k in 0..n {
         let from = k * 10;
         let to = from + 5;
         at = printing::put_line(out, at, &rows[from..to]);
-        k += 1;
     }
     at
 }
@@ -47,25 +28,23 @@ fn print_closures(text: &[u8], resource: i64, out: &mut [u8]) -> usize
 {
     let mut rows = text_program::no_rows();
     let answer = freebusy::read_freebusy(text, resource, &mut rows);
-    let rows = kept(rows);
+    let rows = text_program::kept(rows);
     match answer {
         Ok(n) => put_rows(out, &rows, n),
-        Err(e) => printing::put_refused(out, e),
+        Err(e) => printing::put_refusal(out, e),
     }
 }
 
 fn main(rt: HostRuntime) {
     let usage = b"usage: closures RESOURCE < CALENDAR (RESOURCE is a number, spelt as in a sheet)";
-    let started = program_io::arguments(&rt, 1, usage);
-    if !started.taken {
+    if program_io::arguments(&rt, 1, usage).is_err() {
         return;
     }
-    let argument = number_arguments::number_argument(&rt, 1);
-    let number = argument.number;
-    let Number::Value(resource) = number else {
+    let Some(resource) = number_arguments::number_argument(&rt, 1).number else {
         program_io::tell(&rt, usage);
         return;
     };
+    // Lent arrays, and no heap: there is no memory to run out of, and nothing to say of it.
     let mut text = text_program::no_text();
     let reading = program_io::read_input(
         &rt,
@@ -73,11 +52,11 @@ fn main(rt: HostRuntime) {
         b"closures: a calendar is read from standard input, up to the end of input (Ctrl-D)",
         &mut text,
     );
-    let input = reading.input;
-    let Input::Read(n) = input else {
+    let Some(n) = reading.input else {
         return;
     };
-    let mut out = longest_answer();
+    // Room for what is printed of 800 rows.
+    let mut out = [0u8; 84000];
     let m = print_closures(&text[..n], resource, &mut out);
     program_io::write_lines(&rt, b"closures: standard output", &out[..m]);
 }

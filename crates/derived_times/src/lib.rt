@@ -27,6 +27,9 @@ use resource_timing::{ActivityDuration, Derived, Piece, ResourceTiming, Timed};
 use rounding::TooLarge;
 use sheet::Found;
 
+// 2^53: no time that is not refused reaches it.
+const REFUSED: u64 = 9007199254740992;
+
 // ---- timings
 
 // The earlier of two places.
@@ -71,14 +74,6 @@ pub fn timings_of(rows: &[i64], links: &[u16; 1600], owned: &[u16; 8810]) -> [u1
     t
 }
 
-// The row of booking k's timing.
-fn timing_of(rows: &[i64], t: &[u16; 800], k: usize) -> Found
-    requires { Timings rows.now t.now × (k < row_count rows.now) }
-    ensures { found_of result ≡ timing_place rows.now k }
-{
-    sheet::kept_place(rows, t, k)
-}
-
 // A duration in three columns from c on.
 fn duration_at(rows: &[i64], k: usize, c: usize) -> ActivityDuration
     requires { c < 8 }
@@ -102,96 +97,6 @@ fn timing_at(rows: &[i64], i: usize) -> ResourceTiming
     }
 }
 
-// ---- a booking's piece
-
-// What booking k's piece is judged as, of the activity of row o.
-fn piece_at(rows: &[i64], owned: &[u16; 8810], o: usize, k: usize) -> Piece
-    requires { Accepted rows.now × Owned rows.now owned.now × (k < row_count rows.now) × (is rows.now k 0 23 ≡ true) × (place_of rows.now 2 (num rows.now k 1) ≡ Some o) }
-    ensures piece { result ≡ piece_of (sheet rows.now) (activity_of rows.now o) (part_at rows.now k) }
-    ensures amounts { PieceAmounts result }
-{
-    let index = rows::cell_at(rows, k, 7);
-    if rows::is_none(index) {
-        return Piece::Whole;
-    }
-    let Found::At(i) = owners::find_owned(rows, owned, o, 4) else {
-        return Piece::Whole;
-    };
-    let work = rows::num_at(rows, k, 8);
-    let whole = rows::num_at(rows, o, 5);
-    let overhead = rows::num_at(rows, i, 4);
-    Piece::InPart(resource_timing::part_of(index, work, whole, overhead))
-}
-
-// ---- what its resources make of its time
-
-// One booking more, where booking k's piece runs on it.
-fn timed_on(
-    rows: &[i64],
-    held: &[u8; 800],
-    t: &[u16; 800],
-    k: usize,
-    piece: Piece,
-    f: Timed,
-    j: usize,
-) -> Timed
-    requires { Accepted rows.now × Held rows.now held.now × Timings rows.now t.now × PieceAmounts piece × (j < row_count rows.now) }
-    ensures { (g : TimedSoFar) → f ≡ timed_of g → result ≡ timed_of (timed_at rows.now k piece g j) }
-{
-    if !pieces::in_piece(rows, k, j) || pieces::is_marked(rows, held, j) {
-        return f;
-    }
-    match timing_of(rows, t, j) {
-        Found::At(i) => f.on(piece, timing_at(rows, i)),
-        Found::Nothing => f,
-    }
-}
-
-// All that booking k's piece, of the activity of row o, runs on.
-fn timed_of(
-    rows: &[i64],
-    owned: &[u16; 8810],
-    held: &[u8; 800],
-    t: &[u16; 800],
-    o: usize,
-    k: usize,
-    piece: Piece,
-) -> Timed
-    requires { Accepted rows.now × Owned rows.now owned.now × Held rows.now held.now × Timings rows.now t.now × (o < row_count rows.now) × (is rows.now k 0 23 ≡ true) × (o ≡ own_place rows.now k) × PieceAmounts piece }
-    ensures { result ≡ timed_of (fold (timed_at rows.now k piece) start (row_count rows.now)) }
-{
-    let n = rows::row_count(rows);
-    let mut f = Timed::new();
-    let mut j = owners::first_owned(rows, owned, o, 23);
-    while j < n {
-        f = timed_on(rows, held, t, k, piece, f, j);
-        j = owners::next_owned(rows, owned, o, 23, j);
-    }
-    f
-}
-
-// The derived duration of booking k, of the activity of row o.
-pub fn duration_on(
-    rows: &[i64],
-    owned: &[u16; 8810],
-    held: &[u8; 800],
-    t: &[u16; 800],
-    o: usize,
-    k: usize,
-) -> Derived
-    requires { Accepted rows.now × Owned rows.now owned.now × Held rows.now held.now × Timings rows.now t.now × (k < row_count rows.now) × (is rows.now k 0 23 ≡ true) × (place_of rows.now 2 (num rows.now k 1) ≡ Some o) }
-    ensures { result ≡ within (derived (sheet rows.now) (assignment_of rows.now k) (activity_of rows.now o)) }
-{
-    let piece = piece_at(rows, owned, o, k);
-    let f = timed_of(rows, owned, held, t, o, k, piece);
-    f.duration(piece, duration_at(rows, o, 4))
-}
-
-// ---- what each booking needs
-
-// 2^53: no time that is not refused reaches it.
-const REFUSED: u64 = 9007199254740992;
-
 // Processing and teardown; 2^53 where the time is refused.
 fn rest_ms(d: Derived) -> u64
     requires { rest_ms d ≤ 9007199254740992 }
@@ -203,24 +108,121 @@ fn rest_ms(d: Derived) -> u64
     }
 }
 
-// The same of row k, where it is a booking of a known activity.
-fn rest_at(
-    rows: &[i64],
-    links: &[u16; 1600],
-    owned: &[u16; 8810],
-    held: &[u8; 800],
-    t: &[u16; 800],
-    k: usize,
-) -> u64
-    requires { Accepted rows.now × Linked rows.now links.now × Owned rows.now owned.now × Held rows.now held.now × Timings rows.now t.now × (k < row_count rows.now) }
-    ensures { result ≡ rest_at rows.now k }
-{
-    if !rows::is_at(rows, k, 0, 23) {
-        return 0;
+// ---- the bookings
+
+// The bookings of an accepted sheet, with the tables that their derived times are found by.
+#[derive(Drop)]
+pub struct Bookings<'a> {
+    rows: &'a [i64],
+    links: &'a [u16; 1600],
+    owned: &'a [u16; 8810],
+    held: &'a [u8; 800],
+    timings: [u16; 800],
+    ghost accepted: { Accepted rows.now },
+    ghost linked: { Linked rows.now links.now },
+    ghost owned_rows: { Owned rows.now owned.now },
+    ghost held_rows: { Held rows.now held.now },
+    ghost timed: { Timings rows.now timings },
+}
+
+impl<'a> Bookings<'a> {
+    pub fn new(
+        rows: &'a [i64],
+        links: &'a [u16; 1600],
+        owned: &'a [u16; 8810],
+        held: &'a [u8; 800],
+    ) -> Bookings<'a>
+        requires { Accepted rows.now × Linked rows.now links.now × Owned rows.now owned.now × Held rows.now held.now }
+        ensures { result.rows.now ≡ rows.now }
+    {
+        Bookings {
+            rows,
+            links,
+            owned,
+            held,
+            timings: timings_of(rows, links, owned),
+        }
     }
-    match owners::activity_of(rows, links, k) {
-        Found::At(o) => rest_ms(duration_on(rows, owned, held, t, o, k)),
-        Found::Nothing => 0,
+
+    // The row of booking k's timing.
+    fn timing_of(&self, k: usize) -> Found
+        requires { k < row_count self.now.rows.now }
+        ensures { found_of result ≡ timing_place self.now.rows.now k }
+    {
+        sheet::kept_place(self.rows, &self.timings, k)
+    }
+
+    // What booking k's piece is judged as, of the activity of row o.
+    fn piece_at(&self, o: usize, k: usize) -> Piece
+        requires { (k < row_count self.now.rows.now) × (is self.now.rows.now k 0 23 ≡ true) × (place_of self.now.rows.now 2 (num self.now.rows.now k 1) ≡ Some o) }
+        ensures piece { result ≡ piece_of (sheet self.now.rows.now) (activity_of self.now.rows.now o) (part_at self.now.rows.now k) }
+        ensures amounts { PieceAmounts result }
+    {
+        let rows = self.rows;
+        let index = rows::cell_at(rows, k, 7);
+        if rows::is_none(index) {
+            return Piece::Whole;
+        }
+        let Found::At(i) = owners::find_owned(rows, self.owned, o, 4) else {
+            return Piece::Whole;
+        };
+        let work = rows::num_at(rows, k, 8);
+        let whole = rows::num_at(rows, o, 5);
+        let overhead = rows::num_at(rows, i, 4);
+        Piece::InPart(resource_timing::part_of(index, work, whole, overhead))
+    }
+
+    // One booking more, where booking k's piece runs on it.
+    fn timed_on(&self, k: usize, piece: Piece, f: Timed, j: usize) -> Timed
+        requires { PieceAmounts piece × (j < row_count self.now.rows.now) }
+        ensures { (g : TimedSoFar) → f ≡ timed_of g → result ≡ timed_of (timed_at self.now.rows.now k piece g j) }
+    {
+        if !pieces::in_piece(self.rows, k, j) || pieces::is_marked(self.rows, self.held, j) {
+            return f;
+        }
+        match self.timing_of(j) {
+            Found::At(i) => f.on(piece, timing_at(self.rows, i)),
+            Found::Nothing => f,
+        }
+    }
+
+    // All that booking k's piece, of the activity of row o, runs on.
+    fn timed_of(&self, o: usize, k: usize, piece: Piece) -> Timed
+        requires { (o < row_count self.now.rows.now) × (is self.now.rows.now k 0 23 ≡ true) × (o ≡ own_place self.now.rows.now k) × PieceAmounts piece }
+        ensures { result ≡ timed_of (fold (timed_at self.now.rows.now k piece) start (row_count self.now.rows.now)) }
+    {
+        let n = rows::row_count(self.rows);
+        let mut f = Timed::new();
+        let mut j = owners::first_owned(self.rows, self.owned, o, 23);
+        while j < n {
+            f = self.timed_on(k, piece, f, j);
+            j = owners::next_owned(self.rows, self.owned, o, 23, j);
+        }
+        f
+    }
+
+    // The derived duration of booking k, of the activity of row o.
+    pub fn duration_on(&self, o: usize, k: usize) -> Derived
+        requires { (k < row_count self.now.rows.now) × (is self.now.rows.now k 0 23 ≡ true) × (place_of self.now.rows.now 2 (num self.now.rows.now k 1) ≡ Some o) }
+        ensures { result ≡ within (derived (sheet self.now.rows.now) (assignment_of self.now.rows.now k) (activity_of self.now.rows.now o)) }
+    {
+        let piece = self.piece_at(o, k);
+        let f = self.timed_of(o, k, piece);
+        f.duration(piece, duration_at(self.rows, o, 4))
+    }
+
+    // What row k needs besides its own setup, where it is a booking of a known activity; 2^53 where its time is refused.
+    fn rest_at(&self, k: usize) -> u64
+        requires { k < row_count self.now.rows.now }
+        ensures { result ≡ rest_at self.now.rows.now k }
+    {
+        if !rows::is_at(self.rows, k, 0, 23) {
+            return 0;
+        }
+        match owners::activity_of(self.rows, self.links, k) {
+            Found::At(o) => rest_ms(self.duration_on(o, k)),
+            Found::Nothing => 0,
+        }
     }
 }
 
@@ -234,11 +236,11 @@ pub fn needs_of(
     requires { Accepted rows.now × Linked rows.now links.now × Owned rows.now owned.now × Held rows.now held.now }
     ensures { Times rows.now result }
 {
+    let bookings = Bookings::new(rows, links, owned, held);
     let n = rows::row_count(rows);
-    let t = timings_of(rows, links, owned);
     let mut need = [0u64; 800];
     for k in 0..n {
-        need[k] = rest_at(rows, links, owned, held, &t, k);
+        need[k] = bookings.rest_at(k);
     }
     need
 }

@@ -97,6 +97,7 @@ fn are_characters<F: Fn(u8) -> bool>(is_one_byte: F, s: &[u8]) -> bool
     ensures { result ≡ characters test s.now }
 {
     let mut rest = s;
+    // A character has one byte or more, so the walk is over what is left.
     while let [first, others @ ..] = rest {
         if is_one_byte(*first) {
             rest = others;

@@ -2,7 +2,7 @@
 use Prim.Native.Nat.{ℕ, zero, suc, ◌+◌, ◌*◌, ◌/◌, ◌<◌}
 use mathlib.Core.Bool.{Bool, true, false, cond, ◌&&◌, not}
 use mathlib.Core.List.{List, [], ◌∷◌, ◌++◌}
-use Rattle.std.specs.Prelude.{None}
+use Rattle.std.specs.Prelude.{None, Result, Ok, Err}
 use mathlib.Core.Path.{◌≡◌, refl, ◌∙◌}
 use native.Mathlib.Omega.{arith}
 use lib.Dec.{ltb, leb}
@@ -16,6 +16,7 @@ use Rattle.loops.proofs.PlaceLaws.{or_none_left, or_none_right}
 use Rattle.loops.proofs.SearchLaws.{none_below}
 use Rattle.line_buffer.specs.Lines.{flat_lines}
 use Rattle.refusals.specs.Refusals.{refuse}
+use Rattle.refusals.specs.declared.Reason.{Reason}
 use Rattle.refusals.specs.declared.Reason.TheVariants.{OutOfRange, Overlong}
 use Rattle.refusals.proofs.AnswerLaws.{unrefused, accepted_count}
 use Rattle.rows.specs.Cells.{cell, is}
@@ -24,8 +25,7 @@ use Rattle.rows.specs.Table.{class_of}
 use Rattle.rows.specs.Ranges.{between, in_range, in_class}
 use Rattle.sheet.specs.Refusals.{known_kind, bad_cell, half_part, out_of_range}
 use Rattle.freebusy_periods.specs.Period.{window_of}
-use Rattle.freebusy_periods.specs.declared.Window.{Window}
-use Rattle.freebusy_periods.specs.declared.Window.TheVariants.{Span, Wrong}
+use Rattle.freebusy_periods.specs.declared.Span.{Span}
 use Rattle.freebusy_periods.proofs.PeriodLaws.{window_in_range}
 use Rattle.freebusy_lines.specs.Lines.{lines}
 use Rattle.freebusy_components.specs.Components.{Busy, wrong_from}
@@ -41,12 +41,12 @@ in_time_both : (c : Closure) → timely c ≡ true → (leb c.start 400000000000
 unfolding timely
 in_time_both c e = (and_left (leb c.start 4000000000000) _ e, and_right (leb c.start 4000000000000) _ e)
 
-timely_window : (s : List ℕ) (w : Window) → window_of s ≡ w → all_of timely (window_closures w) ≡ true
+timely_window : (s : List ℕ) (w : Result Span Reason) → window_of s ≡ w → all_of timely (window_closures w) ≡ true
 unfolding all_of timely
-timely_window s (Wrong k) e = refl
-timely_window s (Span a b) e =
-    let h = window_in_range s a b e in
-    rw (le-leb a 4000000000000 (omega (arith, h.0, h.1)), le-leb b 4000000000000 h.1)
+timely_window s (Err k) e = refl
+timely_window s (Ok w) e =
+    let h = window_in_range s w e in
+    rw (le-leb w.start 4000000000000 (omega (arith, h.0, h.1)), le-leb w.end 4000000000000 h.1)
 
 timely_of : (b : Busy) → all_of timely (closures_of b) ≡ true
 unfolding closures_of all_of

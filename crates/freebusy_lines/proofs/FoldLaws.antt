@@ -27,12 +27,6 @@ fold_is (x ∷ []) = refl
 fold_is (x ∷ y ∷ []) = refl
 fold_is (x ∷ y ∷ z ∷ s) = rw (le-leb 3 (suc (suc (suc (length s)))) (omega arith))
 
-pub fold_long : (s : List ℕ) → fold_first s ≡ true → 3 ≤ length s
-fold_long [] h = clash h refl
-fold_long (x ∷ []) h = clash h refl
-fold_long (x ∷ y ∷ []) h = clash h refl
-fold_long (x ∷ y ∷ z ∷ s) h = omega arith
-
 unfolded_fold : (s : List ℕ) → fold_first s ≡ true → unfolded s ≡ unfolded (drop 3 s)
 unfolding unfolded
 unfolded_fold [] h = clash h refl
@@ -125,5 +119,3 @@ module _ {s to₀ : List ℕ} where
 
     pub copied_long : length to ≡ length to₀
     copied_long = c.long
-
-pub ruleset copies = (rules, copied_start, copied_fold, copied_byte, copied_count, copied_all, copied_long)

@@ -68,6 +68,7 @@ pub fn unfold_into(s: &[u8], to: &mut [u8]) -> usize
 {
     let mut rest = s;
     let mut n: usize = 0;
+    // A turn takes one byte or the three of a fold, so that no `for` fits.
     while let [first, others @ ..] = rest {
         if is_fold(rest) {
             rest = &rest[3..];

@@ -38,10 +38,10 @@ moved a back n = cond back (some_if (leb (n * 1000) a) (a - n * 1000)) (some_if 
 unfoldable pub end_from : ℕ → List ℕ → Option ℕ
 end_from a e = cond (date_time e) (instant e) (option (dur_value e) None (λ n. moved a (is_back e) n))
 
--- undated for its start or its end, then malformed for an end not after its start
 abbrev pub span : ℕ → ℕ → Span
 span a e = record { start = a; end = e }
 
+-- undated for its start or its end, then malformed for an end not after its start
 unfoldable pub window_of : List ℕ → Result Span Reason
 window_of s =
     option (instant (before s)) (Err Undated) λ a.

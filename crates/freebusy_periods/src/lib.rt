@@ -81,6 +81,7 @@ fn dur_second(s: &[u8]) -> Option<u64>
     then_nothing(k.count, k.rest)
 }
 
+// Each production that may follow has its own of these.
 fn then_second(n: u64, s: &[u8]) -> Option<u64>
     ensures { result ≡ capped (then_maybe dur_second n s.now) }
 {

@@ -1,2 +1,1 @@
 pub mod LetterLaws
-pub mod EveryLaws

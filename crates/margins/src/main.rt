@@ -7,27 +7,11 @@ ghost use Rattle.text_program.specs.Text.{printed_text};
 ghost use Rattle.margins.specs.Program.{word_of, printed_margins};
 ghost use Rattle.margins.specs.inner.Bytes.{line_bytes, lines_bytes};
 
-use program_io::Input;
-
 // 800 lines.
 fn no_lines() -> [i64; 2400]
     ensures { 2400 ≡ length result }
 {
     [0; 2400]
-}
-
-// Room for what is printed of 800 lines.
-fn longest_answer() -> [u8; 40800]
-    ensures { 40800 ≡ length result }
-{
-    [0; 40800]
-}
-
-// The numbers as they are. Handed on by value they are known to be numbers of 64 bits, which bounds what is printed of them.
-fn kept(numbers: [i64; 2400]) -> [i64; 2400]
-    ensures { result ≡ numbers }
-{
-    numbers
 }
 
 // The word that a line begins with.
@@ -56,12 +40,10 @@ fn put_margins(out: &mut [u8], lines: &[i64], n: usize) -> usize
     ensures { Wrote out.old 0 out.new result (lines_bytes lines.now n) }
 {
     let mut at = 0;
-    let mut k = 0;
-    while k < n {
+    for k in 0..n {
         let from = k * 3;
         let to = from + 3;
         at = put_margin(out, at, &lines[from..to]);
-        k += 1;
     }
     at
 }
@@ -74,10 +56,10 @@ fn print_margins(rows: &[i64], out: &mut [u8]) -> usize
 {
     let mut lines = no_lines();
     let answer = margin_lines::margins(rows, &mut lines);
-    let lines = kept(lines);
+    let lines = text_program::kept(lines);
     match answer {
         Ok(n) => put_margins(out, &lines, n),
-        Err(e) => printing::put_refused(out, e),
+        Err(e) => printing::put_refusal(out, e),
     }
 }
 
@@ -94,15 +76,16 @@ fn print_text(text: &[u8], out: &mut [u8]) -> usize
             let end = 10 * n;
             print_margins(&rows[..end], out)
         }
-        Err(e) => printing::put_refused(out, e),
+        Err(e) => printing::put_refusal(out, e),
     }
 }
 
 fn main(rt: HostRuntime) {
-    let started = program_io::arguments(&rt, 0, b"usage: margins < SHEET (it takes no argument)");
-    if !started.taken {
+    let given = program_io::arguments(&rt, 0, b"usage: margins < SHEET (it takes no argument)");
+    if given.is_err() {
         return;
     }
+    // Lent arrays, and no heap: there is no memory to run out of, and nothing to say of it.
     let mut text = text_program::no_text();
     let reading = program_io::read_input(
         &rt,
@@ -110,11 +93,11 @@ fn main(rt: HostRuntime) {
         b"margins: a sheet is read from standard input, up to the end of input (Ctrl-D)",
         &mut text,
     );
-    let input = reading.input;
-    let Input::Read(n) = input else {
+    let Some(n) = reading.input else {
         return;
     };
-    let mut out = longest_answer();
+    // Room for what is printed of 800 lines.
+    let mut out = [0u8; 40800];
     let m = print_text(&text[..n], &mut out);
     program_io::write_lines(&rt, b"margins: standard output", &out[..m]);
 }

@@ -17,6 +17,7 @@ fn number_of(argument: &[u8]) -> Option<i64>
 }
 
 // What the system handed over as an argument, the first `length` of these bytes, and the number that it spells.
+// The system writes it to fixed memory: there is no heap here.
 #[derive(Drop)]
 pub struct Argument {
     pub bytes: [u8; 21],

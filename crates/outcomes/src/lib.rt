@@ -7,7 +7,7 @@ ghost use Rattle.work_end_inquiry.specs.Inquiry.{outcome_of};
 ghost use Rattle.outcomes.specs.Outcome.{of_answer, of_refusal, of_inquiry};
 
 use refusals::{Answer, Verdict};
-use work_end_inquiry::{InquiryEnd, InquiryAnswer};
+use work_end_inquiry::{InquiryAnswer, InquiryEnd};
 
 // A refusal by number and place, or, with number 0, acceptance and a count in the place.
 #[repr(C)]
@@ -20,10 +20,7 @@ pub struct Outcome {
 fn numbered(number: u64, place: u64) -> Outcome
     ensures { result ≡ record { number = number; place = place } }
 {
-    Outcome {
-        number: number,
-        place: place,
-    }
+    Outcome { number, place }
 }
 
 pub fn of_answer(answer: Answer) -> Outcome
@@ -40,7 +37,7 @@ pub fn of_verdict(v: Verdict) -> Outcome
 {
     match v {
         Ok(()) => numbered(0, 0),
-        Err(e) => numbered(e.reason.number(), e.place as u64),
+        Err(refusal) => numbered(refusal.reason.number(), refusal.place as u64),
     }
 }
 
@@ -60,8 +57,8 @@ fn accepted(outcome: u64, instant: u64) -> WorkEndOutcome
     WorkEndOutcome {
         number: 0,
         place: 0,
-        outcome: outcome,
-        instant: instant,
+        outcome,
+        instant,
     }
 }
 

@@ -19,7 +19,7 @@ fn digit(d: u64) -> u8
     b'0' + d as u8
 }
 
-// A number in decimal digits.
+// A number in decimal digits. Not by `write!`: what does not fit is dropped here, and a writer that drops bytes has no contents that a clause could name.
 fn put_decimal(out: &mut [u8], at: usize, n: u64) -> usize
     requires { at ≤ length out.old }
     ensures { Wrote out.old at out.new result (decimal n) }
@@ -89,15 +89,22 @@ fn put_lines(out: &mut [u8], from: usize, numbers: &[i64], w: usize, n: usize) -
     at
 }
 
-// A refusal, from the start of the buffer on.
-pub fn put_refused(out: &mut [u8], e: Refusal) -> usize
-    ensures { Wrote out.old 0 out.new result (printed_refused (number_of e.reason) e.place) }
+// A refusal by its number and place, from the start of the buffer on.
+pub fn put_refused(out: &mut [u8], number: u64, place: u64) -> usize
+    ensures { Wrote out.old 0 out.new result (printed_refused number place) }
 {
     let mut at = lent_room::put_all(out, 0, b"refused,");
-    at = put_decimal(out, at, e.reason.number());
+    at = put_decimal(out, at, number);
     at = lent_room::put(out, at, b',');
-    at = put_decimal(out, at, e.place as u64);
+    at = put_decimal(out, at, place);
     lent_room::put(out, at, b'\n')
+}
+
+// The same of a refusal with its reason.
+pub fn put_refusal(out: &mut [u8], e: Refusal) -> usize
+    ensures { Wrote out.old 0 out.new result (printed_refused (number_of e.reason) e.place) }
+{
+    put_refused(out, e.reason.number(), e.place as u64)
 }
 
 fn put_accepted(out: &mut [u8], found: &[i64], n: usize) -> usize
@@ -117,6 +124,6 @@ pub fn print_answer(answer: Answer, found: &[i64], out: &mut [u8]) -> usize
 {
     match answer {
         Ok(n) => put_accepted(out, found, n),
-        Err(e) => put_refused(out, e),
+        Err(e) => put_refusal(out, e),
     }
 }

@@ -1,8 +1,8 @@
 -- How reading and writing go on and end, one answer of the system after the other. What it answers, no contract can say; what is made of each answer is said
 -- here: a read that failed is no end of the input, and neither is one that was interrupted. Left to believe is that `read` and `write` of `system.rt` lend the
--- bytes that they are handed, and that the standard library tells the answer as it came: the fields of `Answer` are private, so no other code makes one.
--- Assumes nothing.
-use Rattle.std.specs.Prelude.{ℕ, ◌+◌, ◌-◌, cond, ◌≡◌, ◌↔◌, ◌⊎◌, leb, eqb, Option, None, Some, Result, Ok, Err}
+-- bytes that they are handed and pass on what the standard library told, and that it told the answer as it came: the fields of `Answer` are private, so no
+-- other page makes one. Assumes nothing.
+use Rattle.std.specs.Prelude.{ℕ, ◌+◌, ◌-◌, cond, ◌≡◌, ◌↔◌, ◌⊎◌, leb, eqb, Option, None, Some, Result, Ok, Err, MatchResult}
 use Rattle.std.specs.IoError.{error_kind}
 use Rattle.std.specs.declared.io.Error.{Error}
 use Rattle.std.specs.declared.io.ErrorKind.TheVariants as kind
@@ -24,6 +24,10 @@ Stops e why = (why ≡ stop.Interrupted) ↔ (error_kind e ≡ kind.Interrupted)
 -- the answer where it tells of an error
 abbrev pub IsFailure : Error → Answer → Type 0
 IsFailure e answer = (why : Stop) × (answer.got ≡ Err why) × Stops e why
+
+-- what the standard library told is handed on: its count is the answer's, and the reason of an earlier failure stays; its error is a failure, and the reason
+abbrev pub HandsOn : Result ℕ Error → Option Error → Option Error → Answer → Type 0
+HandsOn told before after answer = MatchResult told (λ n. (answer.got ≡ Ok n) × (after ≡ before)) (λ e. IsFailure e answer × (after ≡ Some e))
 
 -- a call that counts leaves the reason of an earlier failure as it was; one that fails has its own
 abbrev pub TellsWhy : Option Error → Option Error → Answer → Type 0

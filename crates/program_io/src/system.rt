@@ -2,7 +2,7 @@
 // of what `read` and `write` below were answered. That these lend the bytes that they are handed has to be believed, and that the standard library tells the
 // answer as it came: no contract can say what the outside gives and takes.
 ghost use Rattle.std.specs.Prelude.{◌≡◌, length, None};
-ghost use Rattle.program_io.specs.Ending.{unasked, Stops, TellsWhy};
+ghost use Rattle.program_io.specs.Ending.{unasked, HandsOn, Stops, TellsWhy};
 
 use std::io;
 use std::io::{ErrorKind, Read, Stdin, Stdout, Write};
@@ -58,7 +58,7 @@ impl<S> Channel<S> {
     fn answer(&mut self, lent: usize, told: io::Result<usize>) -> Answer
         ensures lent { result.lent ≡ lent }
         ensures stays { self.new.stream ≡ self.old.stream }
-        ensures reason { TellsWhy self.old.reason self.new.reason result }
+        ensures told { HandsOn told self.old.reason self.new.reason result }
     {
         match told {
             Ok(n) => Answer { lent, got: Ok(n) },

@@ -1,4 +1,4 @@
-// How calls answer: accepted, or refused with a number and a place.
+// How calls answer: accepted, or refused for a reason, which has its number, at a place.
 #![tactic(auto)]
 
 ghost use Rattle.std.specs.Prelude.{◌≡◌};
@@ -62,6 +62,7 @@ impl Reason {
         }
     }
 
+    // Refused for this reason at that place.
     pub fn at(self, place: usize) -> Refusal
         ensures { result ≡ at self place }
     {

@@ -18,7 +18,7 @@ a to b = record { least = a; greatest = b; none? = false }
 abbrev pub or_none : Range → Range
 or_none r = record { least = r.least; greatest = r.greatest; none? = true }
 
--- A float's bits lie between those of its ends: 0.0 and 1.0, 2^-10 and 2^10. The kind is judged by refusal 2, and a blank column is 0.
+-- docs/RULES.md has letters for the classes: n is Number, u Count, t Instant, m Duration, g SignedTime, f Flag; a `?` is Optional here. A float's bits lie between those of its ends: 0.0 and 1.0, 2^-10 and 2^10. The kind is judged by refusal 2, and a blank column is 0.
 abbrev pub range : Class → Range
 range Id = pos 0 to pos 999_999_999
 range Number = minus 1_000_000 to pos 1_000_000

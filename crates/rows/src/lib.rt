@@ -212,34 +212,34 @@ pub fn is_none(x: i64) -> bool
     x == i64::MIN
 }
 
-impl Class {
-    // The least number and the greatest of a column of the class, where it is not none.
-    fn ends(self) -> (i64, i64)
-        ensures { result ≡ ((range self).least, (range self).greatest) }
-    {
-        match self {
-            Class::Blank => (0, 0),
-            Class::RowKind => (i64::MIN, i64::MAX),
-            Class::Id | Class::TaskId | Class::ActivityId | Class::ResourceId => (0, 999_999_999),
-            Class::Number | Class::OptionalNumber => (-1_000_000, 1_000_000),
-            Class::Count | Class::RequirementPlace | Class::ConstraintPlace => (0, 1_000_000),
-            Class::Instant | Class::Duration => (0, 4_000_000_000_000),
-            Class::OptionalInstant | Class::OptionalDuration => (0, 4_000_000_000_000),
-            Class::SignedTime => (-4_000_000_000_000, 4_000_000_000_000),
-            Class::Flag => (0, 1),
-            Class::ShareBits => (0, 0x3ff0_0000_0000_0000),
-            Class::SpeedBits => (0x3f50_0000_0000_0000, 0x4090_0000_0000_0000),
-        }
-    }
+// By class the least number of a column, the greatest, and whether it may be none. (A match would be a jump at each cell of a sheet.)
+static RANGES: [(i64, i64, bool); 19] = [
+    (0, 0, false), // Blank
+    (i64::MIN, i64::MAX, false), // RowKind
+    (0, 999_999_999, false), // Id
+    (-1_000_000, 1_000_000, false), // Number
+    (0, 1_000_000, false), // Count
+    (0, 4_000_000_000_000, false), // Instant
+    (0, 4_000_000_000_000, false), // Duration
+    (-4_000_000_000_000, 4_000_000_000_000, false), // SignedTime
+    (0, 1, false), // Flag
+    (0, 0x3ff0_0000_0000_0000, false), // ShareBits
+    (0x3f50_0000_0000_0000, 0x4090_0000_0000_0000, false), // SpeedBits
+    (-1_000_000, 1_000_000, true), // OptionalNumber
+    (0, 4_000_000_000_000, true), // OptionalInstant
+    (0, 4_000_000_000_000, true), // OptionalDuration
+    (0, 999_999_999, false), // TaskId
+    (0, 999_999_999, false), // ActivityId
+    (0, 999_999_999, false), // ResourceId
+    (0, 1_000_000, false), // RequirementPlace
+    (0, 1_000_000, false), // ConstraintPlace
+];
 
-    // Whether a column of the class may be none.
-    fn is_optional(self) -> bool
-        ensures { result ≡ (range self).none? }
+impl Class {
+    fn range(self) -> (i64, i64, bool)
+        ensures { result ≡ ((range self).least, (range self).greatest, (range self).none?) }
     {
-        matches!(
-            self,
-            Class::OptionalNumber | Class::OptionalInstant | Class::OptionalDuration
-        )
+        RANGES[self as usize]
     }
 
     // Whether x may stand in a column of the class.
@@ -247,8 +247,8 @@ impl Class {
     pub fn allows(self, x: i64) -> bool
         ensures { result ≡ in_class self x }
     {
-        let (least, greatest) = self.ends();
-        (least..=greatest).contains(&x) || self.is_optional() && is_none(x)
+        let (least, greatest, optional) = self.range();
+        (least..=greatest).contains(&x) || optional && is_none(x)
     }
 }
 

@@ -12,10 +12,10 @@ ghost use Rattle.model.specs.inner.Indexed.{Indexed};
 ghost use Rattle.pieces.specs.inner.Held.{Held};
 ghost use Rattle.derived_times.specs.inner.Needs.{Needs};
 
+use calendar::{Calendars, Places, TimeWindow, WindowKind, WorkEnd};
 use refusals::Verdict;
 use std::io;
 use std::io::Read;
-use text_fields::Number;
 
 // Room for two lines and many texts. The promises give the lengths, which is all that lending an array as a slice asks.
 fn no_text() -> [u8; 400000]
@@ -38,10 +38,7 @@ fn no_findings() -> [i64; 4096]
 
 // The number that a line spells, 0 where it spells none.
 fn number_of(s: &[u8]) -> u64 {
-    match text_fields::read_number(s) {
-        Number::Value(z) => rows::nat(z),
-        Number::Misspelt => 0,
-    }
+    rows::nat(text_fields::read_number(s).unwrap_or(0))
 }
 
 // What follows the first n bytes and the line feed after them.
@@ -74,15 +71,6 @@ fn one_if_fine(v: Verdict) -> usize {
     }
 }
 
-fn one_if_never(x: calendar::WorkEnd) -> usize {
-    match x {
-        calendar::WorkEnd::End(_) => 0,
-        calendar::WorkEnd::Pause => 0,
-        calendar::WorkEnd::Never => 1,
-        calendar::WorkEnd::Beyond => 0,
-    }
-}
-
 fn derive_times(
     rows: &[i64],
     kinds: &[u16; 3680],
@@ -102,25 +90,37 @@ fn later(t: u64) -> u64 {
 }
 
 // Windows with pauses between them, listed backwards.
-fn list_windows(w: &mut [u64]) {
+fn list_windows(windows: &mut [TimeWindow]) {
     let mut t = 0;
-    let mut k = w.len() / 3;
-    while 0 < k {
-        k -= 1;
-        w[3 * k] = 0;
-        w[3 * k + 1] = t;
-        t = later(t);
-        w[3 * k + 2] = t;
-        t = later(t);
+    for w in windows.iter_mut().rev() {
+        let start = t;
+        let end = later(start);
+        *w = TimeWindow {
+            kind: WindowKind::Open,
+            start,
+            end,
+        };
+        t = later(end);
     }
 }
 
 // Work of 4,000,000,000,000 ms over 800 windows: it never ends, which is known only after every start and end has been passed.
 fn end_work() -> usize {
-    let mut w = [0u64; 2400];
-    list_windows(&mut w);
-    let cs = [0usize, 800];
-    one_if_never(calendar::joint_work_end(&cs, &w, 0, 4000000000000))
+    let none = TimeWindow {
+        kind: WindowKind::Neither,
+        start: 0,
+        end: 0,
+    };
+    let mut windows = [none; 800];
+    list_windows(&mut windows);
+    let calendars = Calendars {
+        windows: &windows,
+        places: &[Places { from: 0, to: 800 }],
+    };
+    match calendars.joint_work_end(0, 4000000000000) {
+        WorkEnd::Never => 1,
+        _ => 0,
+    }
 }
 
 // What a part gives; the findings of a check go to a buffer that holds 1,024 of them.

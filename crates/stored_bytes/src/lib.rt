@@ -25,24 +25,13 @@ fn meant_by(x: u8) -> u8
     }
 }
 
-fn put_byte(out: &mut [u8], at: usize, x: u8) -> usize
-    requires { at ≤ length out.old }
-    ensures { Wrote out.old at out.new result (x ∷ []) }
-{
-    if at < out.len() {
-        out[at] = x;
-        return at + 1;
-    }
-    at
-}
-
 fn put_bytes(out: &mut [u8], from: usize, s: &[u8]) -> usize
     requires { from ≤ length out.old }
     ensures { Wrote out.old from out.new result (map meant s.now) }
 {
     let mut at = from;
     for x in s {
-        at = put_byte(out, at, meant_by(*x));
+        at = lent_room::put(out, at, meant_by(*x));
     }
     at
 }

@@ -1,45 +1,24 @@
 -- Laws of a line's letter, count and piece, and of the tests that say whether it is formed. Assumes nothing.
-use Rattle.loops.proofs.BranchLaws.{chosen, passed, matched}
 use Prim.Native.Nat.{ℕ, ◌+◌, ◌≤◌, ◌<◌}
-use mathlib.Core.Bool.{Bool, true, false}
+use mathlib.Core.Bool.{Bool}
 use mathlib.Core.List.{List, []}
 use mathlib.Core.Path.{◌≡◌, sym, ap, ◌∙◌}
 use native.Mathlib.Omega.{arith}
-use borrow.Author.Tests.{lt-ltb, le-ltb, le-leb, lt-leb, eq-eqb, ne_eqb}
-use lib.Dec.{eqb, ltb, leb}
+use borrow.Author.Tests.{lt-ltb, le-ltb}
+use lib.Dec.{ltb}
 use lib.IntN.{ℤ}
-use lib.ListN.{length, drop, drop_of_length-le, get_or-eq_default}
+use lib.ListN.{length, drop, drop_of_length-le}
 use mir.Syntax.{w64}
 use mir.Val.{SFits, to_z, of_z}
 use mir.Facts.{to_z-of_z}
 use Rattle.loops.specs.Numbers.{to_nat}
 use Rattle.text_fields.specs.Parts.{until_byte}
 use Rattle.text_line.specs.Line.{fields_of, value_of, spelled}
-use Rattle.stored_lines.specs.inner.Line.{letter, body, count, piece, is_judging, has_count}
-
--- the test of a byte, x, that was read
-pub is_byte : {x : ℕ} (y k : ℕ) → x ≡ y → x ≡ k → eqb y k ≡ true
-is_byte y k e h = eq-eqb y k (sym e ∙ h)
-
-pub no_byte : {x : ℕ} (y k : ℕ) → x ≡ y → (x ≡ k → ⊥) → eqb y k ≡ false
-no_byte y k e h = ne_eqb y k (λ p. h (e ∙ p))
-
-pub ruleset branches = (chosen, passed, matched, is_byte, no_byte, eq-eqb, ne_eqb)
+use Rattle.stored_lines.specs.inner.Line.{body, count, piece, has_count}
 
 -- the parts of a line: nothing lies past its end; b is what follows its letter, f what stands there before the first comma
 pub none_after : (s : List ℕ) (n : ℕ) → length s ≤ n → [] ≡ drop (n + 1) s
 none_after s n h = sym (drop_of_length-le s {i = n + 1} (omega arith))
-
-pub no_letter : (l : List ℕ) → length l ≤ 0 → 0 ≡ letter l
-no_letter l h = sym (get_or-eq_default l 0 {n = 0} (omega arith))
-
-pub judging_is : {x : ℕ} (l : List ℕ) → x ≡ letter l → 65 ≤ x → leb x 90 ≡ is_judging l
-unfolding is_judging
-judging_is {x} l e h = rw (sym e, le-leb 65 x h)
-
-pub judging_low : {x : ℕ} (l : List ℕ) → x ≡ letter l → x < 65 → leb 65 x ≡ is_judging l
-unfolding is_judging
-judging_low {x} l e h = rw (sym e, lt-leb 65 x h)
 
 module _ {b : List ℕ} (l : List ℕ) (e : b ≡ body l) where
   pub body_spelled : {r : Bool} → r ≡ spelled (fields_of b) → r ≡ spelled (fields_of (body l))

@@ -33,10 +33,7 @@ parts_spread b (x ∷ xs) = go (eqb x b) (parts b xs) (parts_spread b xs)
 line_at : (list : List ℕ) (at : ℕ) (f : List ℕ) → f ≡ until_byte 10 (take (length list - at) (drop at list)) → f ≡ until_byte 10 (drop at list)
 line_at list at f e = e ∙ ap (until_byte 10) (rest_is at list)
 
--- where the first line judges, looked for from a place on: past the end; on a line, which does, or doesn't; where no line is left
-pub judges_past : (list : List ℕ) (from : ℕ) → length list < from → length list ≡ judging_at list from
-judges_past list from h = omega arith
-
+-- where the first line judges, looked for from a place on; ps are the lines that are left: f is the first of them, and judges or does not; none is left
 pub judges_start : (list : List ℕ) (from : ℕ) {ps : List (List ℕ)} → from ≤ length list → ps ≡ parts 10 (take (length list - from) (drop from list))
     → (min (from + gathering_length ps) (length list) ≡ judging_at list from) × (from + spread ps ≡ length list + 1)
 judges_start list from {ps} h e =

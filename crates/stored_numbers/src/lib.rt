@@ -21,17 +21,6 @@ pub fn told(n: usize, room: usize) -> Option<usize>
     if n < room { Some(n) } else { None }
 }
 
-fn put_number(out: &mut [i64], at: usize, x: i64) -> usize
-    requires { at ≤ length out.old }
-    ensures { Wrote out.old at out.new result (x ∷ []) }
-{
-    if at < out.len() {
-        out[at] = x;
-        return at + 1;
-    }
-    at
-}
-
 // The numbers of a line's fields.
 fn put_numbers(out: &mut [i64], from: usize, fields: &[u8]) -> usize
     requires { from ≤ length out.old }
@@ -39,7 +28,7 @@ fn put_numbers(out: &mut [i64], from: usize, fields: &[u8]) -> usize
 {
     let mut at = from;
     for field in Parts::new(fields, b',') {
-        at = put_number(out, at, stored_lines::number_of(field));
+        at = lent_room::put(out, at, stored_lines::number_of(field));
     }
     at
 }
@@ -50,7 +39,7 @@ fn put_zeros(out: &mut [i64], from: usize, n: usize) -> usize
 {
     let mut at = from;
     for _i in 0..n {
-        at = put_number(out, at, 0);
+        at = lent_room::put(out, at, 0);
     }
     at
 }

@@ -1,5 +1,5 @@
 -- Laws of digits that are read on from a number, and of a field by its digits. Assumes nothing.
-use Prim.Native.Nat.{ℕ, zero, suc, ◌+◌, ◌*◌, ◌-◌, ◌^◌, ◌≤◌, ◌<◌}
+use Prim.Native.Nat.{ℕ, suc, ◌+◌, ◌*◌, ◌-◌, ◌^◌, ◌≤◌, ◌<◌}
 use mathlib.Core.Bool.{Bool, true, false, cond, ◌&&◌, not, and-false}
 use Rattle.std.specs.Prelude.{Option, None, Some}
 use mathlib.Core.List.{List, [], ◌∷◌}
@@ -13,7 +13,7 @@ use borrow.Author.Tests.{le-ltb, lt-ltb, ltb-true, eq-eqb, ne_eqb, not-true, not
 use borrow.Author.Rules.{rules}
 use Rattle.rows.specs.Ranges.{held_none}
 use Rattle.text_fields.specs.Spelling.{is_digit, digits_from, limited, digits_of, number_of, positive, negative}
-use lib.IntN.{ℤ, pos, neg_ℤ}
+use lib.IntN.{ℤ}
 use mathlib.Core.Logic.{◌⊎◌, inl, inr}
 use mir.Syntax.{w64}
 use mir.Val.{to_z}
@@ -127,7 +127,3 @@ module _ (s : List ℕ) (n : length s ≡ 0 → ⊥) {r : Option ℕ} where
 
   pub plain_none : (get_or s 0 0 ≡ 45 → ⊥) → r ≡ digits_of s → r ≡ None → None ≡ number_of s
   plain_none e q p = ap positive (sym p ∙ q) ∙ sym (no_minus s n e)
-
-pub negative_is : (n : ℕ) → (n ≡ 0 → ⊥) → Some (neg_ℤ (pos n)) ≡ negative (Some n)
-negative_is zero h = absurd (h refl)
-negative_is (suc n) h = refl

@@ -1,10 +1,9 @@
 -- Laws of reading a line's fields one after the other. Assumes nothing.
 use Prim.Native.Nat.{ℕ, suc, ◌+◌, ◌<◌, ◌^◌}
-use mathlib.Core.Bool.{Bool, true, ◌&&◌, and-true, and_assoc}
+use mathlib.Core.Bool.{Bool, ◌&&◌, and-true, and_assoc}
 use mathlib.Core.List.{List, [], ◌∷◌, map}
-use mathlib.Core.Path.{◌≡◌, refl, sym, ap, ◌∙◌}
+use mathlib.Core.Path.{◌≡◌, sym, ap, ◌∙◌}
 use native.Mathlib.Omega.{arith}
-use native.Mathlib.Nat.{add-zero}
 use mir.Syntax.{w64}
 use mir.Val.{Fits}
 use lib.ListN.{length, set, length-set}
@@ -21,9 +20,6 @@ pub record FieldsRead (line : List ℕ) (rows₀ : List ℤ) (base : ℕ) (rows 
   pub stores : sets rows (base + j) (map value_of ps) ≡ sets rows₀ base (map value_of (fields_of line))
   pub count : j + length ps ≡ length (fields_of line)
   pub long : length rows ≡ length rows₀
-
-pub fields_none : (line : List ℕ) (rows : List ℤ) (base : ℕ) → FieldsRead line rows base rows (fields_of line) 0 true
-fields_none line rows base = record { spelling = refl; stores = rw (add-zero base); count = omega arith; long = refl }
 
 module _ (line : List ℕ) (rows₀ : List ℤ) (base : ℕ) (rows : List ℤ) (ps : List (List ℕ)) (j : ℕ) (good : Bool) (r : FieldsRead line rows₀ base rows ps j good) where
   pub field_fits : base + length line < 2 ^ 32 → Fits w64 (base + j)
@@ -54,6 +50,3 @@ module _ (line : List ℕ) (rows₀ : List ℤ) (base : ℕ) (rows : List ℤ) (
 
     pub all_counted : j ≡ length (fields_of line)
     all_counted = omega (arith, ap length e, r.count)
-
-    pub all_stored : rows ≡ sets rows₀ base (map value_of (fields_of line))
-    all_stored = rw e at r.stores

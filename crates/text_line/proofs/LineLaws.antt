@@ -1,67 +1,21 @@
 -- Laws of a field that was read, of a line's kind and of its row. Assumes nothing.
-use Rattle.std.specs.Prelude.{Option, Result, Ok, Err}
+use Rattle.std.specs.Prelude.{Result, Ok, Err}
 use Rattle.refusals.specs.declared.Reason.{Reason}
-use Rattle.refusals.specs.declared.Reason.TheVariants.{Misspelt, UnknownKind}
 use Prim.Native.Nat.{ℕ, suc, ◌+◌, ◌-◌, ◌≤◌, ◌<◌, ◌^◌}
-use mathlib.Core.Bool.{Bool, true, false, cond, not, and-false, false≢true}
-use mathlib.Core.List.{List, [], ◌∷◌, map}
-use mathlib.Core.Path.{◌≡◌, refl, sym, ap, ◌∙◌}
+use mathlib.Core.Bool.{Bool}
+use mathlib.Core.List.{List, [], map}
+use mathlib.Core.Path.{◌≡◌, sym, ◌∙◌}
 use native.Mathlib.Omega.{arith}
 use native.Mathlib.Numerals.{add-one}
-use lib.Dec.{ltb, eqb}
 use lib.ListN.{length, get_or, set, replicate, length-map}
 use lib.Seq.{sets}
 use Rattle.loops.proofs.StoreLaws.{sets_append}
 use lib.IntN.{ℤ, pos}
 use mir.Syntax.{w64}
-use mir.Val.{SFits, to_z, of_z, Fits}
-use mir.Facts.{to_z-of_z}
-use borrow.Author.Tests.{lt-ltb, le-ltb}
-use Rattle.loops.specs.Numbers.{to_nat}
-use Rattle.rows.specs.Table.{width}
-use Rattle.text_line.specs.Line.{by_kind, by_fields, fields_of, spelled, held, value_of, line_of, row_of}
+use mir.Val.{Fits}
+use Rattle.text_line.specs.Line.{by_fields, fields_of, spelled, value_of, line_of, row_of}
 use Rattle.text_fields.specs.Parts.{until_byte}
-use Rattle.text_fields.specs.Spelling.{number_of}
 use Rattle.text_fields.proofs.PartLaws.{parts_first, parts_count}
-
--- a line that is misspelt, or whose kind is empty
-pub fields_bad : (good : Bool) (kind : List ℕ) (n : ℕ) → not good ≡ true → Err Misspelt ≡ by_fields good kind n
-fields_bad true kind n e = absurd (false≢true e)
-fields_bad false kind n e = refl
-
-pub fields_empty : (good : Bool) (kind : List ℕ) (n : ℕ) → length kind ≡ 0 → Err Misspelt ≡ by_fields good kind n
-fields_empty true [] n e = refl
-fields_empty false [] n e = refl
-fields_empty good (x ∷ kind) n e = absurd (omega arith)
-
-fields_kind : (good : Bool) (kind : List ℕ) (n : ℕ) → not good ≡ false → (length kind ≡ 0 → ⊥) → by_kind (to_nat (value_of kind)) n ≡ by_fields good kind n
-fields_kind true [] n e h = absurd (h refl)
-fields_kind true (x ∷ kind) n e h = refl
-fields_kind false kind n e h = absurd (false≢true (sym e))
-
--- else its kind decides, which the code reads as k
-module _ (good : Bool) (kind : List ℕ) (n : ℕ) {k : ℕ} {v : ℤ} {m : Option ℤ} (g : not good ≡ false) (h : length kind ≡ 0 → ⊥)
-    (f : SFits w64 v) (e : k ≡ to_nat (to_z w64 (of_z w64 v))) (q : v ≡ held m) (r : m ≡ number_of kind) where
-  by_kind_lem : by_kind k n ≡ by_fields good kind n
-  by_kind_lem = ap (λ (k : ℕ). by_kind k n) ((rw (to_z-of_z f) at e) ∙ ap to_nat (q ∙ ap held r)) ∙ fields_kind good kind n g h
-
-  pub kind_low : k < 1 → Err UnknownKind ≡ by_fields good kind n
-  kind_low l = sym (rw (le-ltb 0 k (omega arith))) ∙ by_kind_lem
-
-  pub kind_high : 24 < k → Err UnknownKind ≡ by_fields good kind n
-  kind_high l = sym (rw (le-ltb k 25 (omega arith), and-false (ltb 0 k))) ∙ by_kind_lem
-
--- and so does w, whether the line has its columns; the rarest premise stands first, so that a search ends where it is not found
-module _ (good : Bool) (kind : List ℕ) (n : ℕ) {w : Bool} {k : ℕ} (u : w ≡ eqb n (suc (width k))) {v : ℤ} (e : k ≡ to_nat (to_z w64 (of_z w64 v)))
-    {m : Option ℤ} (q : v ≡ held m) (r : m ≡ number_of kind) (f : SFits w64 v) (g : not good ≡ false) (h : length kind ≡ 0 → ⊥) (a : 1 ≤ k) (b : k ≤ 24) where
-  counted : cond w (Ok tt) (Err Misspelt) ≡ by_fields good kind n
-  counted = rw u (sym (rw (lt-ltb 0 k (omega arith), lt-ltb k 25 (omega arith))) ∙ by_kind_lem good kind n g h f e q r)
-
-  pub kind_row : w ≡ true → (Ok tt) ≡ by_fields good kind n
-  kind_row t = rw t at counted
-
-  pub kind_count : w ≡ false → Err Misspelt ≡ by_fields good kind n
-  kind_count t = rw t at counted
 
 -- zeros, stored one after the other
 module _ {all : List ℤ} (rows : List ℤ) (i to : ℕ) (now : sets rows i (replicate (to - i) (pos 0)) ≡ all) where

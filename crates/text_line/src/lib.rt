@@ -8,7 +8,7 @@ ghost use Rattle.text_line.specs.Line.{fields_of, spelled, value_of, by_fields, 
 use refusals::Reason;
 use text_fields::Parts;
 
-// The fields of a line: whether all are spelled right, and how many there are.
+// The fields of a line: whether all are spelled right, and how many there are. No Option: the count is wanted of a misspelt line too.
 #[derive(Clone, Copy)]
 struct Fields {
     pub good: bool,

@@ -18,3 +18,11 @@ pub fn no_text() -> [u8; 65537]
 {
     [0; 65537]
 }
+
+// The numbers as they are. Handed on by value they are known to be numbers of 64 bits, which bounds what is printed of them; of a lent array of signed
+// numbers the proofs know no bound.
+pub fn kept<const N: usize>(numbers: [i64; N]) -> [i64; N]
+    ensures { result ≡ numbers.entry }
+{
+    numbers
+}

@@ -6,7 +6,7 @@ use Rattle.calendar.specs.Layout.{window_of}
 use Rattle.window_rows.specs.declared.window_list.WindowList.{WindowList}
 
 unfoldable pub listed : WindowList → List TimeWindow
-listed l = take l.count l.windows
+listed l = take l.count l.windows.now
 
 unfoldable pub calendar_in : WindowList → Calendar ℤ
 calendar_in l = map window_of (listed l)

@@ -15,7 +15,7 @@ ghost use Rattle.window_rows.specs.inner.Laid.{Holder, window_here};
 mod window_list;
 
 use calendar::{Fit, TimeWindow, WindowKind};
-pub use window_list::WindowList;
+pub use window_list::{NO_WINDOW, WindowList};
 
 // The window of row k.
 fn window_of(rows: &[i64], k: usize) -> TimeWindow

@@ -5,29 +5,32 @@ ghost use Rattle.std.specs.Prelude.{◌≡◌, ◌≤◌, ◌<◌, [], ◌∷◌
 
 use calendar::{TimeWindow, WindowKind};
 
-// As many windows as a sheet has rows have room: the library has no heap.
+// What stands in room before a window is laid out there.
+pub const NO_WINDOW: TimeWindow = TimeWindow {
+    kind: WindowKind::Neither,
+    start: 0,
+    end: 0,
+};
+
+// As many windows as a sheet has rows have room. The library has no heap, and an array in a struct by value would be copied as it is handed on: the
+// room is lent.
 #[derive(Drop)]
-pub struct WindowList {
-    windows: [TimeWindow; 800],
+pub struct WindowList<'a> {
+    windows: &'a mut [TimeWindow; 800],
     count: usize,
-    ghost room: { length windows ≡ 800 },
+    ghost room: { length windows.now ≡ 800 },
     ghost within: { count ≤ 800 },
 }
 
-impl WindowList {
+impl<'a> WindowList<'a> {
     ghost use Rattle.window_rows.specs.Listed.{listed};
 
     // Without windows.
-    pub fn new() -> WindowList
+    pub fn over(room: &'a mut [TimeWindow; 800]) -> WindowList<'a>
         ensures { listed result ≡ [] }
     {
-        let none = TimeWindow {
-            kind: WindowKind::Neither,
-            start: 0,
-            end: 0,
-        };
         WindowList {
-            windows: [none; 800],
+            windows: room,
             count: 0,
         }
     }

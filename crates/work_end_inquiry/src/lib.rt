@@ -10,7 +10,7 @@ ghost use Rattle.sheet.specs.Refusals.{refusal_of};
 ghost use Rattle.owners.specs.inner.Owners.{Owned};
 ghost use Rattle.model.specs.Sheet.{sheet};
 ghost use Rattle.model.specs.Resource.{windows};
-ghost use Rattle.window_rows.specs.Listed.{calendar_in};
+ghost use Rattle.window_rows.specs.Listed.{listed, calendar_in};
 ghost use Rattle.work_end_inquiry.specs.Inquiry.{ends, outcome_of, in_order, inquired_calendar, inquiry};
 ghost use Rattle.work_end_inquiry.specs.inner.Said.{said};
 
@@ -37,33 +37,37 @@ fn in_order(start: i64, work: i64) -> bool
     Class::Instant.allows(start) && Class::SignedTime.allows(work)
 }
 
-// The windows of the resource of that id: none where the sheet has no such resource.
-fn resource_windows(rows: &[i64], kinds: &[u16; 3680], owned: &[u16; 8810], id: u64) -> WindowList
-    requires { (refusal_of rows.now ≡ None) × Kinds rows.now kinds.now × Owned rows.now owned.now }
-    ensures { calendar_in result ≡ windows (sheet rows.now) 15 id }
+// Lays out the windows of the resource of that id: none where the sheet has no such resource.
+fn resource_windows(
+    rows: &[i64],
+    kinds: &[u16; 3680],
+    owned: &[u16; 8810],
+    id: u64,
+    list: &mut WindowList,
+)
+    requires { (refusal_of rows.now ≡ None) × Kinds rows.now kinds.now × Owned rows.now owned.now × (listed list.old ≡ []) }
+    ensures { calendar_in list.new ≡ windows (sheet rows.now) 15 id }
 {
-    let mut list = WindowList::new();
     let Found::At(o) = sheet::find_resource(rows, kinds, id) else {
-        return list;
+        return;
     };
-    window_rows::gather_windows(rows, owned, o, 15, &mut list);
-    list
+    window_rows::gather_windows(rows, owned, o, 15, list);
 }
 
-// The windows of the resource that a number names: none where it is no id.
+// Lays out the windows of the resource that a number names: none where it is no id.
 fn resource_calendar(
     rows: &[i64],
     kinds: &[u16; 3680],
     owned: &[u16; 8810],
     resource: i64,
-) -> WindowList
-    requires { (refusal_of rows.now ≡ None) × Kinds rows.now kinds.now × Owned rows.now owned.now }
-    ensures { calendar_in result ≡ inquired_calendar rows.now resource }
+    list: &mut WindowList,
+)
+    requires { (refusal_of rows.now ≡ None) × Kinds rows.now kinds.now × Owned rows.now owned.now × (listed list.old ≡ []) }
+    ensures { calendar_in list.new ≡ inquired_calendar rows.now resource }
 {
     if Class::Id.allows(resource) {
-        return resource_windows(rows, kinds, owned, rows::nat(resource));
+        resource_windows(rows, kinds, owned, rows::nat(resource), list);
     }
-    WindowList::new()
 }
 
 // In a sheet no end lies beyond the numbers of 64 bits.
@@ -89,7 +93,9 @@ fn ending(
     requires { (refusal_of rows.now ≡ None) × Kinds rows.now kinds.now × Owned rows.now owned.now × (in_order start work ≡ true) }
     ensures { outcome_of result ≡ ends (joint_work_end clock (inquired_calendar rows.now resource ∷ []) start work) }
 {
-    let list = resource_calendar(rows, kinds, owned, resource);
+    let mut room = [window_rows::NO_WINDOW; 800];
+    let mut list = WindowList::over(&mut room);
+    resource_calendar(rows, kinds, owned, resource, &mut list);
     let all = [Places {
         from: 0,
         to: list.len(),

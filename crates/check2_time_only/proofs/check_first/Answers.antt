@@ -10,10 +10,10 @@ pub gather_windows-requires : goal.gather_windows-requires
 gather_windows-requires c = search (rules, place_low, own_windows, all_fit)
 
 pub is_short-short-requires : goal.is_short-short-requires
-is_short-short-requires c = let e = alone _ _ _ c.new-windows.ensures c.gather_windows.ensures.laid c.as_slice.ensures in search (rules, place_kind)
+is_short-short-requires c = let e = alone _ _ _ c.over-windows.ensures c.gather_windows.ensures.laid c.as_slice.ensures in search (rules, place_kind)
 
 pub is_outside-outside-requires : goal.is_outside-outside-requires
-is_outside-outside-requires c = alone _ _ _ c.new-windows.ensures c.gather_windows.ensures.laid c.as_slice-2.ensures
+is_outside-outside-requires c = alone _ _ _ c.over-windows.ensures c.gather_windows.ensures.laid c.as_slice-2.ensures
 
 pub task_release-requires : goal.task_release-requires
 task_release-requires c = search (rules, place_within, place_kind)

@@ -21,11 +21,11 @@ pub record Added (x : Calendar ℤ) (m : ℕ) (l l' : LaidCalendars) : Type 0 wh
   pub count : length (listed l'.windows) ≡ length (listed l.windows) + m
 
 -- the calendar of row r's resource, where it is marked
-unfoldable pub calendar_at : List ℤ → List ℕ → ℕ → List (Calendar ℤ)
+unfoldable pub calendar_at : List ℤ → List Bool → ℕ → List (Calendar ℤ)
 calendar_at rows marks r = given (marked marks r) (windows (sheet rows) 15 (num rows r 1))
 
 -- the calendar of row r's resource is laid out behind the others, where it is marked; else nothing is changed
-pub record AddedAt (rows : List ℤ) (marks : List ℕ) (r : ℕ) (l l' : LaidCalendars) : Type 0 where
+pub record AddedAt (rows : List ℤ) (marks : List Bool) (r : ℕ) (l l' : LaidCalendars) : Type 0 where
   pub taken : marked marks r ≡ true → Added (windows (sheet rows) 15 (num rows r 1)) (count_below (owned_by rows r 15) (row_count rows)) l l'
   pub passed : marked marks r ≡ false → l' ≡ l
 
@@ -34,7 +34,7 @@ unfoldable pub window_above : List ℤ → ℕ → ℕ → Bool
 window_above rows i j = is rows j 0 15 && ltb (own_place rows j) i
 
 -- the calendars of the marked resources among the first i rows are laid out, and no others; there is place for the windows of the rest
-pub record Resources (rows : List ℤ) (marks : List ℕ) (i : ℕ) (l : LaidCalendars) : Type 0 where
+pub record Resources (rows : List ℤ) (marks : List Bool) (i : ℕ) (l : LaidCalendars) : Type 0 where
   pub out : LaidOut (collect (calendar_at rows marks) i) l
   pub windows : length (listed l.windows) ≤ count_below (window_above rows i) (row_count rows)
   pub calendars : length (placed l) ≤ count_below (of_kind rows 11) i

@@ -1,5 +1,5 @@
 -- Which resources the bookings of a piece are on, by row. Assumes nothing.
-use Rattle.std.specs.Prelude.{ℕ, ◌<◌, ◌≤◌, ◌≡◌, Bool, true, false, cond, ◌&&◌, List, eqb, ℤ, length, get_or}
+use Rattle.std.specs.Prelude.{ℕ, ◌<◌, ◌≤◌, ◌≡◌, Bool, true, false, ◌&&◌, List, eqb, ℤ, length, get_or}
 use Rattle.std.specs.Prelude.{Some}
 use Rattle.loops.specs.Lists.{option}
 use Rattle.loops.specs.Search.{any_below}
@@ -19,16 +19,16 @@ taken_below rows k i r = any_below (λ j. in_piece rows k j && is_on rows j r) i
 abbrev pub taken : List ℤ → ℕ → ℕ → Bool
 taken rows k r = taken_below rows k (row_count rows) r
 
-abbrev pub marked : List ℕ → ℕ → Bool
-marked marks r = eqb (get_or marks r 0) 1
+abbrev pub marked : List Bool → ℕ → Bool
+marked marks r = get_or marks r false
 
--- marks, 1 at the row of each resource that is taken among the first i rows, 0 at the others and past the last row
-pub record Marked (rows : List ℤ) (k i : ℕ) (marks : List ℕ) : Type 0 where
+-- marks, true at the row of each resource that is taken among the first i rows, false at the others and past the last row
+pub record Marked (rows : List ℤ) (k i : ℕ) (marks : List Bool) : Type 0 where
   pub size : length marks ≡ 800
-  pub at : (r : ℕ) → r < row_count rows → get_or marks r 0 ≡ cond (taken_below rows k i r) 1 0
-  pub past : (r : ℕ) → row_count rows ≤ r → r < 800 → get_or marks r 0 ≡ 0
+  pub at : (r : ℕ) → r < row_count rows → marked marks r ≡ taken_below rows k i r
+  pub past : (r : ℕ) → row_count rows ≤ r → r < 800 → marked marks r ≡ false
 
 -- the marks of rows are at resources
-pub record OnResources (rows : List ℤ) (marks : List ℕ) : Type 0 where
+pub record OnResources (rows : List ℤ) (marks : List Bool) : Type 0 where
   pub size : length marks ≡ 800
   pub resource : (r : ℕ) → r < row_count rows → marked marks r ≡ true → place_of rows 11 (num rows r 1) ≡ Some r

@@ -14,7 +14,7 @@ pub put_line-at-requires : goal.put_line-at-requires
 put_line-at-requires c = search (rules, wrote_within)
 
 pub loop-k-preserved : goal.loop-k-preserved
-loop-k-preserved c = (search (rules, wrote_row), search rules)
+loop-k-preserved c = search (rules, wrote_row)
 
 pub shape_of-out : goal.shape_of-out
 shape_of-out c = search (rules, wrote_long)

@@ -9,6 +9,6 @@ check_times-requires c = indexed_of _ c.index.ensures (search rules)
 pub returns-in_err-index : goal.returns-in_err-index
 returns-in_err-index c =
     record {
-      value = search (rules, rows_answer);
-      out_after = search (rules, rows_left);
+      value = rows_answer _ _ {e = c.in_err-index.field-0.0} c.index.ensures.verdict (search rules) (search rules);
+      out_after = rows_left _ _ {e = c.in_err-index.field-0.0} c.index.ensures.verdict (search rules);
     }

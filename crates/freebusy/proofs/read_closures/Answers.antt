@@ -11,7 +11,7 @@ returns-in_err-found c =
     let q = c.in_err-found.was in
     record {
       value = search (rules, refused_answer);
-      rows_after = refused_rows _ _ c.args.rows.now on (omega arith) q _ (omega arith);
+      rows_after = refused_rows _ _ c.args.rows.now on (omega arith) q c.read_periods-found.new.rows (omega arith);
       space_after = search (rules, refused_space);
     }
 
@@ -22,6 +22,6 @@ returns c =
     let q = c.in_ok-found.was in
     record {
       value = read_answer _ _ c.args.rows.now on (omega arith) q;
-      rows_after = read_rows _ _ c.args.rows.now on (omega arith) q _ (omega arith) again;
+      rows_after = read_rows _ _ c.args.rows.now on (omega arith) q c.read_periods-found.new.rows (omega arith) again;
       space_after = search (rules, read_space);
     }

@@ -1,6 +1,3 @@
-use mathlib.Core.Path.{sym}
-use native.Mathlib.Omega.{arith}
-use lib.Seq.{length-take-le}
 use Rattle.freebusy_lines.proofs.SentLaws.{sendings}
 use Rattle.freebusy_lines.proofs.first_line.Goals as goal
 

@@ -4,11 +4,11 @@ use borrow.Author.Rules.{rules}
 use Rattle.margin_lines.proofs.margins.Goals as goal
 
 pub write_margins-requires : goal.write_margins-requires
-write_margins-requires c = (search index_of, search passed_all)
+write_margins-requires c = (index_of _ c.accept.ensures (search rules), passed_all _ c.accept.ensures (search rules))
 
 pub returns-in_err-accept : goal.returns-in_err-accept
 returns-in_err-accept c =
     record {
-      value = search (rules, refused_answer);
-      out_after = search (rules, refused_left);
+      value = refused_answer _ _ c.accept.ensures {x = c.in_err-accept.field-0.0} (search rules) (search rules);
+      out_after = refused_left _ _ c.accept.ensures {x = c.in_err-accept.field-0.0} (search rules);
     }

@@ -14,7 +14,7 @@ pub put_margin-at-requires : goal.put_margin-at-requires
 put_margin-at-requires c = (search (rules, wrote_within), search (rules, cut_line))
 
 pub loop-k-preserved : goal.loop-k-preserved
-loop-k-preserved c = (search (rules, wrote_margins), search rules)
+loop-k-preserved c = search (rules, wrote_margins)
 
 pub shape_of-out : goal.shape_of-out
 shape_of-out c = search (rules, wrote_long)

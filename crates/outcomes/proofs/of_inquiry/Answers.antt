@@ -4,14 +4,14 @@ use Rattle.outcomes.proofs.Known.{by_case}
 use borrow.Author.Rules.{rules}
 use Rattle.outcomes.proofs.of_inquiry.Goals as goal
 
-pub returns-in-End : goal.returns-in-End
-returns-in-End c = search (rules, by_case (λ a. of_inquiry (outcome_of a)))
+pub returns-in-Ok-End : goal.returns-in-Ok-End
+returns-in-Ok-End c = search (rules, by_case (λ a. of_inquiry (outcome_of a)))
 
-pub returns-in-Pause : goal.returns-in-Pause
-returns-in-Pause c = search (rules, by_case (λ a. of_inquiry (outcome_of a)))
+pub returns-in-Ok-Pause : goal.returns-in-Ok-Pause
+returns-in-Ok-Pause c = search (rules, by_case (λ a. of_inquiry (outcome_of a)))
 
-pub returns-in-Never : goal.returns-in-Never
-returns-in-Never c = search (rules, by_case (λ a. of_inquiry (outcome_of a)))
+pub returns-in-Ok-Never : goal.returns-in-Ok-Never
+returns-in-Ok-Never c = search (rules, by_case (λ a. of_inquiry (outcome_of a)))
 
 pub returns-in-Err : goal.returns-in-Err
 returns-in-Err c = search (rules, by_case (λ a. of_inquiry (outcome_of a)))

@@ -5,5 +5,5 @@ use Rattle.work_end_inquiry.proofs.resource_calendar.Goals as goal
 pub returns-then-allows : goal.returns-then-allows
 returns-then-allows c = search (rules, laid_known)
 
-pub returns : goal.returns
-returns c = search (rules, laid_unknown)
+pub returns-else-allows : goal.returns-else-allows
+returns-else-allows c = search (rules, laid_unknown)

@@ -4,13 +4,16 @@ use borrow.Author.Rules.{rules}
 use Rattle.work_end_inquiry.proofs.work_end.Goals as goal
 
 pub ending-requires : goal.ending-requires
-ending-requires c = search (rules, no_refusal, kinds_of, owned_of, told)
+ending-requires c =
+    (no_refusal _ c.index.ensures.verdict (search rules), kinds_of _ c.index.ensures (search rules), owned_of _ c.index.ensures (search rules), search (rules, told))
 
 pub returns : goal.returns
-returns c = search (rules, inquiry_ends)
+returns c =
+    inquiry_ends _ c.args.resource c.args.start c.args.work c.in_order.ensures c.index.ensures.verdict (search rules) (search rules) (search rules) c.ending.ensures c.if-not-in_order.false (search rules)
 
 pub returns-in_err-index : goal.returns-in_err-index
-returns-in_err-index c = search (rules, inquiry_refused)
+returns-in_err-index c = inquiry_refused _ _ _ _ {x = c.in_err-index.field-0.0} c.index.ensures.verdict (search rules) (search rules)
 
 pub returns-then-not-in_order : goal.returns-then-not-in_order
-returns-then-not-in_order c = search (rules, inquiry_own)
+returns-then-not-in_order c =
+    inquiry_own _ c.args.resource c.args.start c.args.work c.in_order.ensures c.index.ensures.verdict (search rules) (search rules) (search rules) c.at.ensures c.if-not-in_order.true

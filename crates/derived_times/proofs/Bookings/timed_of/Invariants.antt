@@ -7,10 +7,10 @@ use Rattle.loops.specs.Range.{fold}
 use Rattle.loops.specs.inner.Chain.{Stands}
 use Prim.Native.Nat.{◌-◌}
 use mathlib.Core.Path.{◌≡◌}
-use Rattle.derived_times.proofs.timed_of.Given as goal
+use Rattle.derived_times.proofs.Bookings.timed_of.Given as goal
 
 abbrev pub invariant-loop-j : goal.invariant-loop-j
-invariant-loop-j l = Stands (owned_by l.rows l.o 23) (row_count l.rows) l.j × (l.f ≡ timed_of (fold (timed_at l.rows l.k l.piece) start l.j))
+invariant-loop-j l = Stands (owned_by l.self.rows.now l.o 23) (row_count l.self.rows.now) l.j × (l.f ≡ timed_of (fold (timed_at l.self.rows.now l.k l.piece) start l.j))
 
 abbrev pub decreases-loop-j : goal.decreases-loop-j
 decreases-loop-j l = l.n - l.j

@@ -1,7 +1,7 @@
 use Rattle.sheet.proofs.Lookups.{place_low}
 use Rattle.derived_times.proofs.Parts.{whole_found, unsplit_found, piece_found, work_amount, whole_amount}
 use borrow.Author.Rules.{rules}
-use Rattle.derived_times.proofs.piece_at.Goals as goal
+use Rattle.derived_times.proofs.Bookings.piece_at.Goals as goal
 
 pub returns-then-is_none : goal.returns-then-is_none
 returns-then-is_none c =

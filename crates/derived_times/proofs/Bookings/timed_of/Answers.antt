@@ -1,6 +1,6 @@
 use borrow.Author.Rules.{rules}
 use Rattle.derived_times.proofs.Derivation.{timed_quiet, known_first, known_next, known_end}
-use Rattle.derived_times.proofs.timed_of.Goals as goal
+use Rattle.derived_times.proofs.Bookings.timed_of.Goals as goal
 
 pub loop-j-init : goal.loop-j-init
 loop-j-init c = search (rules, known_first, timed_quiet)

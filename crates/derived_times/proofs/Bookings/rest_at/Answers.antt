@@ -4,7 +4,7 @@ use Rattle.owners.proofs.Links.{books}
 use Rattle.derived_times.proofs.Refusing.{rest_most, rest_known, rest_unknown, rest_none}
 use borrow.Author.Rules.{rules}
 use borrow.Author.Tests.{not-true, not-false}
-use Rattle.derived_times.proofs.rest_at.Goals as goal
+use Rattle.derived_times.proofs.Bookings.rest_at.Goals as goal
 
 pub activity_of-requires : goal.activity_of-requires
 activity_of-requires c = search (rules, books, told, not-true, not-false)

@@ -2,8 +2,8 @@ use Rattle.loops.proofs.BranchLaws.{told}
 use Rattle.derived_times.proofs.Derivation.{held_aside, timed_still, timed_found, untimed_found, not_of_piece}
 use borrow.Author.Rules.{rules}
 use borrow.Author.Tests.{not-true, not-false}
-use Rattle.derived_times.proofs.timed_on.Goals as goal
-use Rattle.derived_times.proofs.timed_on.Goals.{then-not-in_piece-via-then-not-in_piece, then-not-in_piece-via-else-not-in_piece+then-is_marked}
+use Rattle.derived_times.proofs.Bookings.timed_on.Goals as goal
+use Rattle.derived_times.proofs.Bookings.timed_on.Goals.{then-not-in_piece-via-then-not-in_piece, then-not-in_piece-via-else-not-in_piece+then-is_marked}
 
 pub returns-then-not-in_piece : goal.returns-then-not-in_piece
 returns-then-not-in_piece c = λ g e.
