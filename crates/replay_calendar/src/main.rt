@@ -3,12 +3,9 @@
 // no calendar arithmetic in common with the library.
 #![tactic(auto)]
 
-ghost use Rattle.std.specs.Prelude.{◌≤◌, length};
-
 use calendar::{Calendars, Places, TimeWindow, WindowKind, WorkEnd};
 use std::io;
-use stored_numbers::Gathered;
-use stored_run::Run;
+use stored_run::Gathered;
 
 // An instant or an amount. The last four of 64 bits are spelled -4 to -1, for a list's numbers go only to 2^63 - 1.
 fn instant(z: i64) -> u64 {
@@ -71,19 +68,28 @@ fn is_end(found: WorkEnd, outcome: i64, end: i64) -> bool {
 
 // The windows from place FROM to place TO of the one calendar, or the calendars as pairs of places, stand last in a line:
 // `FX,Y,YES,FROM,TO`, `WX,YES,FROM,TO`, `JX,YES,PLACE..`, `AX,Y,MS,PLACE..`, `EX,WORK,OUTCOME,END,PLACE..`, `BX,WORK,OUTCOME,END,PLACE..`.
-fn is_answer(letter: u8, given: &[i64; 16], calendars: Calendars) -> bool {
-    let x = instant(given[0]);
-    let y = instant(given[1]);
+fn is_answer(letter: u8, given: &[i64], calendars: Calendars) -> bool {
     let none = Places { from: 0, to: 0 };
     let one = calendars.places.first().copied().unwrap_or(none);
     let windows = one.windows_in(calendars.windows);
-    match letter {
-        b'F' => is_bool(calendar::interval_fits(windows, x, y), given[2]),
-        b'W' => is_bool(calendar::is_working_time(windows, x), given[1]),
-        b'J' => is_bool(calendars.joint_working(x), given[1]),
-        b'A' => calendars.joint_available_ms(x, y) == instant(given[2]),
-        b'E' => is_end(calendars.joint_work_end(x, given[1]), given[2], given[3]),
-        b'B' => is_end(calendars.end_from(x, y), given[2], given[3]),
+    match (letter, given) {
+        (b'F', &[x, y, yes]) => {
+            is_bool(
+                calendar::interval_fits(windows, instant(x), instant(y)),
+                yes,
+            )
+        }
+        (b'W', &[x, yes]) => is_bool(calendar::is_working_time(windows, instant(x)), yes),
+        (b'J', &[x, yes]) => is_bool(calendars.joint_working(instant(x)), yes),
+        (b'A', &[x, y, ms]) => {
+            calendars.joint_available_ms(instant(x), instant(y)) == instant(ms)
+        }
+        (b'E', &[x, work, outcome, end]) => {
+            is_end(calendars.joint_work_end(instant(x), work), outcome, end)
+        }
+        (b'B', &[x, work, outcome, end]) => {
+            is_end(calendars.end_from(instant(x), instant(work)), outcome, end)
+        }
         _ => false,
     }
 }
@@ -98,68 +104,27 @@ fn before_places(letter: u8) -> usize {
     }
 }
 
-// Whether the question of a line of k numbers over n windows' numbers comes out so.
-fn question_passes(letter: u8, given: &[i64; 16], k: usize, numbers: &[i64], n: usize) -> bool {
-    let from = before_places(letter);
-    if k < from || k > 16 || n > 2400 {
+// Whether the question of a line over these windows' numbers comes out so.
+fn question_passes(letter: u8, given: &[i64], places: &[i64], numbers: &[i64]) -> bool {
+    if places.len() > 16 || numbers.len() > 2400 {
         return false;
     }
     let windows = windows_of(numbers);
-    let places = places_of(&given[from..k]);
+    let of_calendars = places_of(places);
     let calendars = Calendars {
-        windows: &windows[..n / 3],
-        places: &places[..(k - from) / 2],
+        windows: &windows[..numbers.len() / 3],
+        places: &of_calendars[..places.len() / 2],
     };
     is_answer(letter, given, calendars)
 }
 
-// Whether the case of these lines comes out as the line that judges it says.
-fn passes(lines: &[u8], line: &[u8]) -> bool {
-    let mut given = stored_run::few();
-    let mut numbers = stored_run::sevens();
-    let Gathered::All(k) = stored_numbers::judging_numbers(line, &mut given) else {
-        return false;
-    };
-    let Gathered::All(n) = stored_numbers::gather_numbers(lines, &mut numbers) else {
-        return false;
-    };
-    question_passes(stored_lines::letter_of(line), &given, k, &numbers, n)
-}
-
-// ---- the list
-
-fn next_case(rt: &impl Print, name: &[u8], list: &[u8], run: Run) -> io::Result<Run>
-    requires { run.at ≤ length list.now }
-{
-    let at = run.at;
-    let case = stored_lines::case_at(list, at);
-    let line = case.line;
-    let end = case.end;
-    let formed = stored_lines::all_formed(stored_lines::between(list, at, end));
-    let fine = passes(
-        stored_lines::between(list, at, line),
-        stored_lines::between(list, line, end),
-    );
-    stored_run::name_failed(rt, run, formed, fine, name, list)?;
-    Ok(stored_run::judged(run, formed, fine, case.next))
-}
-
-// A list has no more cases than bytes.
-fn replay(rt: &impl Print, name: &[u8], list: &[u8], before: Run) -> io::Result<Run> {
-    let mut run = stored_run::next_list(before);
-    for k in 0..list.len() {
-        if run.at < list.len() {
-            run = next_case(rt, name, list, run)?;
-        }
+fn passes(case: &Gathered) -> bool {
+    match case.judging.split_at_checked(before_places(case.letter)) {
+        Some((given, places)) => question_passes(case.letter, given, places, case.numbers),
+        None => false,
     }
-    Ok(run)
 }
 
 fn main(rt: HostRuntime) -> io::Result<()> {
-    let name = b"cases.txt";
-    let mut list = stored_run::no_list();
-    let n = stored_run::read_list(&rt, name, &mut list);
-    stored_run::name_unread(&rt, name, &list, n)?;
-    let run = replay(&rt, name, &list[..n], stored_run::no_cases())?;
-    stored_run::print_run(&rt, run)
+    stored_run::replay_files(&rt, &[b"cases.txt"], passes)
 }

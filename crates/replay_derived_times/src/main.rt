@@ -15,8 +15,7 @@ use resource_timing::{ActivityDuration, Derived, Piece, ResourceTiming, Timed};
 use rounding::TooLarge;
 use sheet::Found;
 use std::io;
-use stored_numbers::Gathered;
-use stored_run::Run;
+use stored_run::Gathered;
 
 // No time in a sheet is greater, and no lag is farther from 0.
 const LONGEST: u64 = 4000000000000;
@@ -154,32 +153,17 @@ fn overlap_case(bits: u64, lag: i64, start: u64, end: u64, first: i64, last: i64
 
 // ---- the list
 
-// Whether the case of these lines comes out as the line that judges it says.
-fn passes(lines: &[u8], line: &[u8]) -> bool {
-    let mut given = stored_run::few();
-    let mut rows = stored_run::sevens();
-    let mut expected = stored_run::sevens();
-    let Gathered::All(k) = stored_numbers::judging_numbers(line, &mut given) else {
-        return false;
-    };
-    let Gathered::All(n) = stored_numbers::gather_numbers(lines, &mut rows) else {
-        return false;
-    };
-    let Gathered::All(m) = stored_numbers::gather_expected(lines, &mut expected) else {
-        return false;
-    };
-    let (Some(given), Some(rows), Some(expected)) = (
-        given.get(..k),
-        rows.get(..n),
-        expected.get(..m),
-    ) else {
-        return false;
-    };
-    match (stored_lines::letter_of(line), given) {
+fn passes(case: &Gathered) -> bool {
+    match (case.letter, case.judging) {
         (b'D', &[number, place]) => {
-            sheet_case(rows, expected, rows::nat(number), rows::nat(place))
+            sheet_case(
+                case.numbers,
+                case.expected,
+                rows::nat(number),
+                rows::nat(place),
+            )
         }
-        (b'P', &[ms, time]) => product_case(rows, natural(ms), time),
+        (b'P', &[ms, time]) => product_case(case.numbers, natural(ms), time),
         (b'S', &[ms, work, whole, time]) => {
             is_time(
                 part_share::share(natural(ms), natural(work), natural(whole)),
@@ -200,38 +184,6 @@ fn passes(lines: &[u8], line: &[u8]) -> bool {
     }
 }
 
-fn next_case(rt: &impl Print, name: &[u8], list: &[u8], run: Run) -> io::Result<Run>
-    requires { run.at ≤ length list.now }
-{
-    let at = run.at;
-    let case = stored_lines::case_at(list, at);
-    let line = case.line;
-    let end = case.end;
-    let formed = stored_lines::all_formed(stored_lines::between(list, at, end));
-    let fine = passes(
-        stored_lines::between(list, at, line),
-        stored_lines::between(list, line, end),
-    );
-    stored_run::name_failed(rt, run, formed, fine, name, list)?;
-    Ok(stored_run::judged(run, formed, fine, case.next))
-}
-
-// A list has no more cases than bytes.
-fn replay(rt: &impl Print, name: &[u8], list: &[u8], before: Run) -> io::Result<Run> {
-    let mut run = stored_run::next_list(before);
-    for _ in 0..list.len() {
-        if run.at < list.len() {
-            run = next_case(rt, name, list, run)?;
-        }
-    }
-    Ok(run)
-}
-
 fn main(rt: HostRuntime) -> io::Result<()> {
-    let name = b"cases.txt";
-    let mut list = stored_run::no_list();
-    let n = stored_run::read_list(&rt, name, &mut list);
-    stored_run::name_unread(&rt, name, &list, n)?;
-    let run = replay(&rt, name, &list[..n], stored_run::no_cases())?;
-    stored_run::print_run(&rt, run)
+    stored_run::replay_files(&rt, &[b"cases.txt"], passes)
 }

@@ -2,118 +2,24 @@
 // expected.
 #![tactic(auto)]
 
-ghost use Rattle.std.specs.Prelude.{◌≤◌, length};
-
 use std::io;
-use stored_numbers::Gathered;
-use stored_run::Run;
+use stored_run::Gathered;
 
-// Reads the bytes as a text to the first `lent` of the numbers, which are all 7, and says whether it came out as expected.
-fn text_passes(
-    bytes: &[u8],
-    rows: &[i64],
-    numbers: usize,
-    out: &mut [i64],
-    lent: usize,
-    number: u64,
-    place: u64,
-) -> bool {
-    if out.len() < lent {
-        return false;
-    }
-    let found = text::read_text(bytes, &mut out[..lent]);
-    stored_run::came_out(found, out, rows, numbers, number, place)
-}
-
-// A line `TLENT,NUMBER,PLACE`: whether the bytes that were gathered, read as a text, come out so.
-fn text_case(given: &[i64; 16], bytes: &[u8], n: usize, rows: &[i64], numbers: usize) -> bool {
-    if bytes.len() < n {
-        return false;
-    }
-    let mut out = stored_run::sevens();
-    text_passes(
-        &bytes[..n],
-        rows,
-        numbers,
-        &mut out,
-        rows::nat(given[0]) as usize,
-        rows::nat(given[1]),
-        rows::nat(given[2]),
-    )
-}
-
-// Judges the numbers as rows, and says whether it came out as expected.
-fn rows_pass(rows: &[i64], number: u64, place: u64) -> bool {
-    let found = validation::validate(rows);
-    match found {
-        Ok(()) => number == 0 && place == 0,
-        Err(e) => number == e.reason.number() && place == e.place as u64,
-    }
-}
-
-// A line `RNUMBER,PLACE`: whether the numbers that were gathered, judged as rows, come out so.
-fn rows_case(given: &[i64; 16], rows: &[i64], n: usize) -> bool {
-    if rows.len() < n {
-        return false;
-    }
-    rows_pass(&rows[..n], rows::nat(given[0]), rows::nat(given[1]))
-}
-
-// Whether the case of these lines comes out as the line that judges it says.
-fn passes(lines: &[u8], line: &[u8]) -> bool {
-    let mut given = stored_run::few();
-    let mut bytes = stored_run::no_bytes();
-    let mut rows = stored_run::sevens();
-    let Gathered::All(k) = stored_numbers::judging_numbers(line, &mut given) else {
-        return false;
-    };
-    let Gathered::All(n) = stored_bytes::gather_bytes(lines, &mut bytes) else {
-        return false;
-    };
-    let Gathered::All(m) = stored_numbers::gather_numbers(lines, &mut rows) else {
-        return false;
-    };
-    match stored_lines::letter_of(line) {
-        b'T' => k == 3 && text_case(&given, &bytes, n, &rows, m),
-        b'R' => k == 2 && rows_case(&given, &rows, m),
+// A line `TLENT,NUMBER,PLACE` has the bytes read as a text, a line `RNUMBER,PLACE` the numbers judged as rows.
+fn passes(case: &Gathered) -> bool {
+    match case.letter {
+        b'T' => {
+            stored_run::call_passes(
+                case.judging,
+                case.numbers,
+                |lent| text::read_text(case.bytes, lent),
+            )
+        }
+        b'R' => stored_run::verdict_passes(case.judging, validation::validate(case.numbers)),
         _ => false,
     }
 }
 
-// ---- the list
-
-fn next_case(rt: &impl Print, name: &[u8], list: &[u8], run: Run) -> io::Result<Run>
-    requires { run.at ≤ length list.now }
-{
-    let at = run.at;
-    let case = stored_lines::case_at(list, at);
-    let line = case.line;
-    let end = case.end;
-    let formed = stored_lines::all_formed(stored_lines::between(list, at, end));
-    let fine = passes(
-        stored_lines::between(list, at, line),
-        stored_lines::between(list, line, end),
-    );
-    stored_run::name_failed(rt, run, formed, fine, name, list)?;
-    Ok(stored_run::judged(run, formed, fine, case.next))
-}
-
-// A list has no more cases than bytes.
-fn replay(rt: &impl Print, name: &[u8], list: &[u8], before: Run) -> io::Result<Run> {
-    let mut run = stored_run::next_list(before);
-    for k in 0..list.len() {
-        if run.at < list.len() {
-            run = next_case(rt, name, list, run)?;
-        }
-    }
-    Ok(run)
-}
-
 fn main(rt: HostRuntime) -> io::Result<()> {
-    let name = b"cases.txt";
-    let mut list = stored_run::no_list();
-    let n = stored_run::read_list(&rt, name, &mut list);
-    stored_run::name_unread(&rt, name, &list, n)?;
-    let run = replay(&rt, name, &list[..n], stored_run::no_cases())?;
-    stored_run::print_run(&rt, run)
+    stored_run::replay_files(&rt, &[b"cases.txt"], passes)
 }

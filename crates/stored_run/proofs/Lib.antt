@@ -1,1 +1,1 @@
-pub mod ExpectedLaws
+pub mod RoomLaws

@@ -1,46 +1,124 @@
-// The run over stored lists of cases: what is counted and told, the room that is lent, and the reading of a list. The programs replay_.. judge.
+// The run over stored lists of cases: what a case gathers, whether it passes, and what is counted and told. The programs replay_.. judge.
 #![tactic(auto)]
 
-ghost use Rattle.std.specs.Prelude.{◌≡◌, cond, ◌&&◌, eqb, true, pos, IsOk, ◌≢◌, ◌<◌, ◌≤◌, length, take, replicate};
+ghost use Rattle.std.specs.Prelude.{◌≡◌, ◌*◌, cond, true, pos, IsOk, is_ok, IfSome, ℕ, Some, ◌≢◌, ◌≤◌, length, get_or, take, drop, replicate, List, ◌++◌, ℤ, Result};
+ghost use Rattle.refusals.specs.declared.Refusal.{Refusal};
+ghost use Rattle.std.specs.Fn.{FnReturnsAt, FnOnceReturnsAtMut};
+ghost use Rattle.loops.specs.Lists.{all_of};
+ghost use Rattle.text_fields.specs.Parts.{parts};
+ghost use Rattle.stored_lines.specs.inner.Line.{is_formed};
+ghost use Rattle.stored_run.specs.Cases.{Gathers};
+ghost use Rattle.stored_run.specs.declared.Gathered.{Gathered};
 ghost use Rattle.stored_run.specs.inner.Count.{more};
-ghost use Rattle.stored_run.specs.inner.Expected.{expected_at, differs_at, as_expected, passes};
+ghost use Rattle.stored_run.specs.inner.Expected.{as_expected, passes, number_at, lines_expected, verdict_passes};
 
-use refusals::Answer;
+use refusals::{Answer, Verdict};
 use std::fs::File;
 use std::io::Read;
 use std::rt::Files;
 use std::{io, str};
+use text_fields::Parts;
+
+// ---- what a case gathers
+
+// The letter and the numbers of the line that judges a case, and what its other lines gather for it.
+#[derive(Clone, Copy)]
+pub struct Gathered<'a> {
+    pub letter: u8,
+    pub judging: &'a [i64],
+    pub numbers: &'a [i64],
+    pub bytes: &'a [u8],
+    pub expected: &'a [i64],
+}
+
+impl Gathered<'_> {
+    // Whether the numbers expected are `width` to each line that a call is to give; it gives none where it is to refuse.
+    pub fn expects_lines_of(&self, width: u64) -> bool
+        ensures { result ≡ true → length self.now.expected.now ≡ lines_expected self.now.judging.now * width }
+    {
+        match self.judging {
+            &[_, number, place] => {
+                let lines = if rows::nat(number) == 0 {
+                    rows::nat(place)
+                } else {
+                    0
+                };
+                lines.checked_mul(width) == Some(self.expected.len() as u64)
+            }
+            _ => false,
+        }
+    }
+}
+
+// So many of them, if it is known how many.
+fn first_of<T>(n: Option<usize>, room: &[T]) -> Option<&[T]>
+    ensures { IfSome result (λ s. (k : ℕ) × (n ≡ Some k) × (s.now ≡ take k room.now)) }
+{
+    room.get(..n?)
+}
+
+// Why a case fails: a line of it is ill-formed, or it comes out otherwise than expected.
+#[derive(Clone, Copy, PartialEq, Eq)]
+pub enum Fault {
+    IllFormed,
+    Differs,
+}
+
+// What the judge says of what these lines gather, if there is room for it.
+fn is_passed<F: Fn(&Gathered) -> bool>(lines: &[u8], line: &[u8], passes: &F) -> Option<bool>
+    requires { F.IsAlwaysCallable passes.now }
+    ensures { IfSome result (λ yes. (c : Gathered) × Gathers lines.now line.now c × FnReturnsAt F.Fn passes.now c yes) }
+{
+    let mut judging = few();
+    let mut numbers = sevens();
+    let mut bytes = no_bytes();
+    let mut expected = sevens();
+    let case = Gathered {
+        letter: stored_lines::letter_of(line),
+        judging: first_of(
+            stored_numbers::judging_numbers(line, &mut judging),
+            &judging,
+        )?,
+        numbers: first_of(
+            stored_numbers::gather_numbers(lines, &mut numbers),
+            &numbers,
+        )?,
+        bytes: first_of(stored_bytes::gather_bytes(lines, &mut bytes), &bytes)?,
+        expected: first_of(
+            stored_numbers::gather_expected(lines, &mut expected),
+            &expected,
+        )?,
+    };
+    Some(passes(&case))
+}
+
+// Whether a case passes. These are its lines, and the one among them that judges it.
+fn judge<F: Fn(&Gathered) -> bool>(
+    lines: &[u8],
+    gathering: &[u8],
+    judging: &[u8],
+    passes: &F,
+) -> Result<(), Fault>
+    requires { F.IsAlwaysCallable passes.now }
+    ensures formed { IsOk result → all_of is_formed (parts 10 lines.now) ≡ true }
+    ensures says_so { IsOk result → (c : Gathered) × Gathers gathering.now judging.now c × FnReturnsAt F.Fn passes.now c true }
+{
+    if !stored_lines::all_formed(lines) {
+        return Err(Fault::IllFormed);
+    }
+    match is_passed(gathering, judging, passes) {
+        Some(true) => Ok(()),
+        _ => Err(Fault::Differs),
+    }
+}
 
 // ---- what is told
 
-// Where a list is to be read on, how many cases were judged, and how many of them came out as expected.
+// How many cases were judged, and how many of them came out as expected.
 #[derive(Clone, Copy)]
 pub struct Run {
-    pub at: usize,
     pub cases: u64,
     pub passed: u64,
-}
-
-// Before the first list.
-pub fn no_cases() -> Run
-    ensures { (result.at ≡ 0) × (result.cases ≡ 0) × (result.passed ≡ 0) }
-{
-    Run {
-        at: 0,
-        cases: 0,
-        passed: 0,
-    }
-}
-
-// Before another list.
-pub fn next_list(run: Run) -> Run
-    ensures { (result.at ≡ 0) × (result.cases ≡ run.cases) × (result.passed ≡ run.passed) }
-{
-    Run {
-        at: 0,
-        cases: run.cases,
-        passed: run.passed,
-    }
 }
 
 fn one_more(n: u64) -> u64
@@ -49,155 +127,210 @@ fn one_more(n: u64) -> u64
     if n < 1000000 { n + 1 } else { n }
 }
 
-// How many line feeds a text has.
-fn line_feeds(text: &[u8]) -> u64 {
-    let mut n = 0;
-    let mut i = 0;
-    while i < text.len() {
-        n = if text[i] == b'\n' { one_more(n) } else { n };
-        i += 1;
+impl Run {
+    // Before the first list.
+    pub fn new() -> Run
+        ensures { (result.cases ≡ 0) × (result.passed ≡ 0) }
+    {
+        Run {
+            cases: 0,
+            passed: 0,
+        }
     }
-    n
+
+    // With another case.
+    pub fn judged(self, outcome: Result<(), Fault>) -> Run
+        ensures { (result.cases ≡ more self.cases) × (result.passed ≡ cond (is_ok outcome) (more self.passed) self.passed) }
+    {
+        let passed = if outcome.is_ok() {
+            one_more(self.passed)
+        } else {
+            self.passed
+        };
+        Run {
+            cases: one_more(self.cases),
+            passed,
+        }
+    }
+
+    // The last line that a program prints.
+    pub fn print(self, rt: &impl Print) -> io::Result<()> {
+        let cases = self.cases;
+        let passed = self.passed;
+        println!(rt; "{cases} cases, {passed} as expected")
+    }
 }
 
 // Names the case that starts at a place of a list: the file, the number of its first line, and that line, which is its remark.
 fn name_case(rt: &impl Print, name: &[u8], list: &[u8], at: usize, why: &[u8]) -> io::Result<()> {
-    if list.len() < at {
+    let Some((before, case)) = list.split_at_checked(at) else {
         return Ok(());
-    }
-    let line = one_more(line_feeds(&list[..at]));
+    };
+    let line = Parts::new(before, b'\n').take(1000000).count();
     rt.write_all(name)?;
     print!(rt; ":{line}")?;
     rt.write_all(why)?;
-    rt.write_all(text_fields::first_part(&list[at..], b'\n'))?;
+    rt.write_all(text_fields::first_part(case, b'\n'))?;
     rt.write_all(b"\n")
 }
 
-// Names the case that the list in a file was read to, where a line of it is ill-formed or it does not pass.
+// Names the case that starts at a place of the list in a file, where it fails.
 pub fn name_failed(
     rt: &impl Print,
-    run: Run,
-    formed: bool,
-    passes: bool,
     name: &[u8],
     list: &[u8],
+    at: usize,
+    outcome: Result<(), Fault>,
 ) -> io::Result<()>
-    ensures { (formed && passes) ≡ true → IsOk result }
+    ensures { IsOk outcome → IsOk result }
 {
-    if !formed {
-        return name_case(rt, name, list, run.at, b": ill-formed: ");
-    }
-    if !passes {
-        return name_case(rt, name, list, run.at, b": differs: ");
-    }
-    Ok(())
-}
-
-fn both(a: bool, b: bool) -> bool
-    ensures { result ≡ (a && b) }
-{
-    a && b
-}
-
-// The case that a list was read to is judged: it is counted, and counted as one that passed where each line of it is formed and it does pass. The list
-// is to be read on from the next one.
-pub fn judged(run: Run, formed: bool, passes: bool, next: usize) -> Run
-    ensures { (result.at ≡ next) × (result.cases ≡ more run.cases) × (result.passed ≡ cond (formed && passes) (more run.passed) run.passed) }
-{
-    let cases = one_more(run.cases);
-    if both(formed, passes) {
-        return Run {
-            at: next,
-            cases,
-            passed: one_more(run.passed),
-        };
-    }
-    Run {
-        at: next,
-        cases,
-        passed: run.passed,
+    match outcome {
+        Ok(()) => Ok(()),
+        Err(Fault::IllFormed) => name_case(rt, name, list, at, b": ill-formed: "),
+        Err(Fault::Differs) => name_case(rt, name, list, at, b": differs: "),
     }
 }
 
-// The last line that a program prints.
-pub fn print_run(rt: &impl Print, run: Run) -> io::Result<()> {
-    let cases = run.cases;
-    let passed = run.passed;
-    println!(rt; "{cases} cases, {passed} as expected")
+// ---- the lists
+
+// Judges each case of a list, and names those that fail.
+fn replay_list<F: Fn(&Gathered) -> bool>(
+    rt: &impl Print,
+    name: &[u8],
+    list: &[u8],
+    before: Run,
+    passes: &F,
+) -> io::Result<Run>
+    requires { F.IsAlwaysCallable passes.now }
+{
+    let mut run = before;
+    let mut at = 0;
+    while at < list.len() {
+        let case = stored_lines::case_at(list, at);
+        let outcome = judge(
+            stored_lines::between(list, at, case.end),
+            stored_lines::between(list, at, case.line),
+            stored_lines::between(list, case.line, case.end),
+            passes,
+        );
+        name_failed(rt, name, list, at, outcome)?;
+        run = run.judged(outcome);
+        at = case.next;
+    }
+    Ok(run)
+}
+
+// The same of the list in a file.
+fn replay_file<F: Fn(&Gathered) -> bool>(
+    rt: &(impl Files + Print),
+    name: &[u8],
+    before: Run,
+    passes: &F,
+) -> io::Result<Run>
+    requires { F.IsAlwaysCallable passes.now }
+{
+    let mut list = no_list();
+    let n = read_list(rt, name, &mut list);
+    name_unread(rt, name, &list, n)?;
+    replay_list(rt, name, &list[..n], before, passes)
+}
+
+// Judges each case of the lists in files, names those that fail, and prints how many there were and how many came out as expected.
+pub fn replay_files<F: Fn(&Gathered) -> bool>(
+    rt: &(impl Files + Print),
+    names: &[&[u8]],
+    passes: F,
+) -> io::Result<()>
+    requires { F.IsAlwaysCallable passes }
+{
+    let mut run = Run::new();
+    for name in names {
+        run = replay_file(rt, name, run, &passes)?;
+    }
+    run.print(rt)
 }
 
 // ---- what is expected of a call that writes to lent numbers
 
-// The number at a place among the first n of those gathered; 7 after them.
-fn expected_at(gathered: &[i64], n: usize, i: usize) -> i64
-    ensures { result ≡ expected_at gathered.now n i }
+// The number at a place among those expected; 7 after them.
+fn expected_at(expected: &[i64], i: usize) -> i64
+    ensures { result ≡ get_or expected.now i (pos 7) }
 {
-    if i < n {
-        if i < gathered.len() {
-            return gathered[i];
-        }
-    }
-    7
+    expected.get(i).copied().unwrap_or(7)
 }
 
-// Whether the lent number at a place is another one.
-fn differs_at(lent: &[i64], gathered: &[i64], n: usize, i: usize) -> bool
-    requires { i < length lent.now }
-    ensures { result ≡ differs_at lent.now gathered.now n i }
+// Whether the lent numbers are the first of those expected, and after them 7.
+fn as_expected(lent: &[i64], expected: &[i64]) -> bool
+    ensures { result ≡ as_expected lent.now expected.now }
 {
-    let a = lent[i];
-    let b = expected_at(gathered, n, i);
-    if a < b {
-        return true;
-    }
-    b < a
-}
-
-// Whether the lent numbers are the first n of those gathered, and after them 7.
-fn as_expected(lent: &[i64], gathered: &[i64], n: usize) -> bool
-    ensures { result ≡ as_expected lent.now gathered.now n }
-{
-    let mut i = 0;
-    while i < lent.len() {
-        if differs_at(lent, gathered, n, i) {
-            return false;
-        }
-        i += 1;
-    }
-    true
-}
-
-fn same(number: u64, place: u64, k: u64, p: u64) -> bool
-    ensures { result ≡ (eqb number k && eqb place p) }
-{
-    number == k && place == p
+    lent.iter()
+        .enumerate()
+        .all(|(i, x)| *x == expected_at(expected, i))
 }
 
 // Whether a call came out as expected that was to write to lent numbers, each of them 7: refused by a number at a place, with every one still 7; or, where
-// that number is 0, accepted with so many lines as the place says, which are the first n of the numbers gathered.
-pub fn came_out(
-    answer: Answer,
-    lent: &[i64],
-    gathered: &[i64],
-    n: usize,
-    number: u64,
-    place: u64,
-) -> bool
-    ensures { result ≡ passes answer lent.now gathered.now n number place }
+// that number is 0, accepted with so many lines as the place says, which are the numbers expected.
+pub fn came_out(answer: Answer, lent: &[i64], expected: &[i64], number: u64, place: u64) -> bool
+    ensures { result ≡ passes answer lent.now expected.now number place }
 {
     match answer {
-        Ok(k) => {
-            both(
-                same(number, place, 0, k as u64),
-                as_expected(lent, gathered, n),
-            )
-        }
+        Ok(k) => number == 0 && place == k as u64 && as_expected(lent, expected),
         Err(e) => {
-            both(
-                same(number, place, e.reason.number(), e.place as u64),
-                as_expected(lent, gathered, 0),
+            number == e.reason.number() && place == e.place as u64 && as_expected(lent, &[])
+        }
+    }
+}
+
+// A line that judges with the numbers LENT, NUMBER and PLACE: whether a call comes out so that is lent the first LENT of numbers that are all 7.
+pub fn call_passes<F: FnOnce(&mut [i64]) -> Answer>(
+    judging: &[i64],
+    expected: &[i64],
+    call: F,
+) -> bool
+    requires { F.IsAlwaysCallable call }
+    ensures { result ≡ true → (length judging.now ≡ 3) × (answer : Result ℕ Refusal) × (left : List ℤ) × FnOnceReturnsAtMut F.FnOnce call (take (number_at judging.now 0) (replicate 8210 (pos 7))) answer left × (passes answer (left ++ drop (number_at judging.now 0) (replicate 8210 (pos 7))) expected.now (number_at judging.now 1) (number_at judging.now 2) ≡ true) }
+{
+    match judging {
+        &[lent, number, place] => {
+            let lent = rows::nat(lent) as usize;
+            lent <= 8210 && lent_passes(lent, expected, rows::nat(number), rows::nat(place), call)
+        }
+        _ => false,
+    }
+}
+
+// What happens with LENT numbers lent. The test of LENT stands above: a function with a large frame does not end before it needs it (docs/DECISIONS.md, 38).
+fn lent_passes<F: FnOnce(&mut [i64]) -> Answer>(
+    lent: usize,
+    expected: &[i64],
+    number: u64,
+    place: u64,
+    call: F,
+) -> bool
+    requires may_call { F.IsAlwaysCallable call }
+    requires room { lent ≤ 8210 }
+    ensures { result ≡ true → (answer : Result ℕ Refusal) × (left : List ℤ) × FnOnceReturnsAtMut F.FnOnce call (take lent (replicate 8210 (pos 7))) answer left × (passes answer (left ++ drop lent (replicate 8210 (pos 7))) expected.now number place ≡ true) }
+{
+    let mut numbers = sevens();
+    let answer = call(&mut numbers[..lent]);
+    came_out(answer, &numbers, expected, number, place)
+}
+
+// A line that judges with the numbers NUMBER and PLACE: whether this is the verdict.
+pub fn verdict_passes(judging: &[i64], verdict: Verdict) -> bool
+    ensures { result ≡ verdict_passes judging.now verdict }
+{
+    match judging {
+        &[number, place] => {
+            came_out(
+                verdict.map(|()| 0),
+                &[],
+                &[],
+                rows::nat(number),
+                rows::nat(place),
             )
         }
+        _ => false,
     }
 }
 
@@ -242,9 +375,8 @@ fn read_whole(from: &mut impl Read, room: &mut [u8]) -> usize
     let mut n = 0;
     while n < room.len() {
         match from.read(&mut room[n..]) {
-            Ok(0) => return n,
+            Ok(0) | Err(_) => return n,
             Ok(more) => n += more,
-            Err(_) => return n,
         }
     }
     n
@@ -259,10 +391,7 @@ pub fn read_list(rt: &impl Files, name: &[u8], list: &mut [u8]) -> usize
         return 0;
     };
     match File::open(rt, path) {
-        Ok(file) => {
-            let mut from = file;
-            read_whole(&mut from, list)
-        }
+        Ok(mut file) => read_whole(&mut file, list),
         Err(_) => 0,
     }
 }

@@ -1,24 +1,33 @@
 -- What is expected of a call that writes to lent numbers, each of them 7. Assumes nothing.
-use Rattle.std.specs.Prelude.{Result, Ok, Err}
+use Rattle.std.specs.Prelude.{ℕ, Bool, cond, ◌&&◌, List, [], ◌==◌, ℤ, pos, length, get_or, Result, Ok, Err}
+use Rattle.std.specs.List.{list_all, enumerate_from}
+use Rattle.std.specs.Ordering.{int_eq}
+use Rattle.loops.specs.Numbers.{to_nat}
 use Rattle.refusals.specs.Refusals.{number_of}
 use Rattle.refusals.specs.declared.Refusal.{Refusal}
-use Rattle.std.specs.Prelude.{ℕ, Bool, cond, not, ◌&&◌, ◌||◌, List, eqb, ltb, ℤ, pos, length, get_or}
-use Rattle.std.specs.Int.Signed.{lt_z}
-use Rattle.loops.specs.Search.{any_below}
 
--- the first n of the numbers gathered, and after them 7
-abbrev pub expected_at : List ℤ → ℕ → ℕ → ℤ
-expected_at gathered n i = cond (ltb i n && ltb i (length gathered)) (get_or gathered i (pos 0)) (pos 7)
-
--- the lent number at a place is another one
-unfoldable pub differs_at : List ℤ → List ℤ → ℕ → ℕ → Bool
-differs_at lent gathered n i = lt_z (get_or lent i (pos 0)) (expected_at gathered n i) || lt_z (expected_at gathered n i) (get_or lent i (pos 0))
-
--- the lent numbers are these
-unfoldable pub as_expected : List ℤ → List ℤ → ℕ → Bool
-as_expected lent gathered n = not (any_below (differs_at lent gathered n) (length lent))
+-- the lent numbers are the first of those expected, and after them 7
+abbrev pub as_expected : List ℤ → List ℤ → Bool
+as_expected lent expected = list_all (λ p. int_eq p.1 (get_or expected p.0 (pos 7))) (enumerate_from 0 lent)
 
 -- accepted with that count and those numbers, or refused so, with every lent number still 7
-abbrev pub passes : Result ℕ Refusal → List ℤ → List ℤ → ℕ → ℕ → ℕ → Bool
-passes (Ok k) lent gathered n number place = (eqb number 0 && eqb place k) && as_expected lent gathered n
-passes (Err e) lent gathered n number place = (eqb number (number_of e.reason) && eqb place e.place) && as_expected lent gathered 0
+abbrev pub passes : Result ℕ Refusal → List ℤ → List ℤ → ℕ → ℕ → Bool
+passes (Ok k) lent expected number place = (number == 0 && place == k) && as_expected lent expected
+passes (Err e) lent expected number place = (number == number_of e.reason && place == e.place) && as_expected lent []
+
+-- a number of the line that judges
+abbrev pub number_at : List ℤ → ℕ → ℕ
+number_at judging i = to_nat (get_or judging i (pos 0))
+
+-- how many lines a call is to write by a line LENT,NUMBER,PLACE: none where it is to refuse
+abbrev pub lines_expected : List ℤ → ℕ
+lines_expected judging = cond (number_at judging 1 == 0) (number_at judging 2) 0
+
+-- what a verdict answers, as a call that counts nothing
+abbrev pub answer_of : Result Unit Refusal → Result ℕ Refusal
+answer_of (Ok _) = Ok 0
+answer_of (Err e) = Err e
+
+-- a line NUMBER,PLACE judges a verdict so
+abbrev pub verdict_passes : List ℤ → Result Unit Refusal → Bool
+verdict_passes judging verdict = length judging == 2 && passes (answer_of verdict) [] [] (number_at judging 0) (number_at judging 1)
