@@ -20,9 +20,9 @@ fn put_word(out: &mut [u8], at: usize, of: u64) -> usize
     ensures { Wrote out.old at out.new result (word_of of) }
 {
     if of == 1 {
-        return printing::put_bytes(out, at, b"task,");
+        return lent_room::put_all(out, at, b"task,");
     }
-    printing::put_bytes(out, at, b"resource,")
+    lent_room::put_all(out, at, b"resource,")
 }
 
 // A line of three numbers.
