@@ -44,7 +44,7 @@ pub fn print_text<F: FnOnce(&[i64], &mut [u8]) -> usize>(
     let mut rows = no_rows();
     match text::read_text(text, &mut rows) {
         Ok(n) => print_rows(&rows[..10 * n], out),
-        Err(e) => printing::put_refused(out, e),
+        Err(e) => printing::put_refusal(out, e),
     }
 }
 

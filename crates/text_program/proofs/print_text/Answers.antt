@@ -17,4 +17,4 @@ returns-in-Ok-clause-out_after g c =
 
 pub returns-in-Err-clause-out_after : goal.returns-in-Err-clause-out_after
 returns-in-Err-clause-out_after g c =
-    text_refused c.args.text.now c.no_rows-rows.result c.no_rows-rows.ensures.value c.read_text.ensures.value g.of_rows c.put_refused.ensures refl (search rules) c.in-Err.is (search rules)
+    text_refused c.args.text.now c.no_rows-rows.result c.no_rows-rows.ensures.value c.read_text.ensures.value g.of_rows c.put_refusal.ensures refl (search rules) c.in-Err.is (search rules)
