@@ -21,7 +21,7 @@ use Rattle.feasibility.specs.Call.{check_answer, findings_after}
 use Rattle.printing.specs.Decimal.{decimal}
 use Rattle.printing.specs.NumberLines.{number_line, line_at, number_lines}
 use Rattle.printing.specs.Printed.{accepted_word, printed_accepted, printed}
-use Rattle.printing.proofs.FitLaws.{Small, accepted_fits, refused_fits}
+use Rattle.printing.proofs.FitLaws.{Small, accepted_fits}
 use Rattle.text_program.proofs.Printing.{Bounded, refusal_fits, stands}
 use Rattle.check_schedule.specs.Program.{printed_sheet}
 

@@ -6,6 +6,8 @@ ghost use Rattle.loops.specs.inner.Wrote.{Wrote};
 ghost use Rattle.closures.specs.Program.{printed_closures};
 ghost use Rattle.closures.specs.inner.Bytes.{rows_bytes};
 
+use text_program::Words;
+
 // The first n rows.
 fn put_rows(out: &mut [u8], rows: &[i64], n: usize) -> usize
     requires { (n ≤ 800) × (length rows.now ≡ 8000) }
@@ -44,19 +46,17 @@ fn main(rt: HostRuntime) {
         program_io::tell(&rt, usage);
         return;
     };
-    // Lent arrays, and no heap: there is no memory to run out of, and nothing to say of it.
-    let mut text = text_program::no_text();
-    let reading = program_io::read_input(
-        &rt,
-        b"closures: standard input",
-        b"closures: a calendar is read from standard input, up to the end of input (Ctrl-D)",
-        &mut text,
-    );
-    let Some(n) = reading.input else {
-        return;
+    let words = Words {
+        input: b"closures: standard input",
+        awaited: b"closures: a calendar is read from standard input, up to the end of input (Ctrl-D)",
+        output: b"closures: standard output",
     };
     // Room for what is printed of 800 rows.
     let mut out = [0u8; 84000];
-    let m = print_closures(&text[..n], resource, &mut out);
-    program_io::write_lines(&rt, b"closures: standard output", &out[..m]);
+    text_program::run(
+        &rt,
+        words,
+        &mut out,
+        |text, out| print_closures(text, resource, out),
+    );
 }

@@ -7,12 +7,7 @@ ghost use Rattle.text_program.specs.Text.{printed_text};
 ghost use Rattle.margins.specs.Program.{word_of, printed_margins};
 ghost use Rattle.margins.specs.inner.Bytes.{line_bytes, lines_bytes};
 
-// 800 lines.
-fn no_lines() -> [i64; 2400]
-    ensures { 2400 ≡ length result }
-{
-    [0; 2400]
-}
+use text_program::Words;
 
 // The word that a line begins with.
 fn put_word(out: &mut [u8], at: usize, of: u64) -> usize
@@ -20,9 +15,9 @@ fn put_word(out: &mut [u8], at: usize, of: u64) -> usize
     ensures { Wrote out.old at out.new result (word_of of) }
 {
     if of == 1 {
-        return printing::put_bytes(out, at, b"task,");
+        return lent_room::put_all(out, at, b"task,");
     }
-    printing::put_bytes(out, at, b"resource,")
+    lent_room::put_all(out, at, b"resource,")
 }
 
 // A line of three numbers.
@@ -54,7 +49,8 @@ fn print_margins(rows: &[i64], out: &mut [u8]) -> usize
     ensures upper_bound { result ≤ 40800 }
     ensures out_after { take result out.new ≡ printed_margins rows.now }
 {
-    let mut lines = no_lines();
+    // Room for 800 lines.
+    let mut lines = [0i64; 2400];
     let answer = margin_lines::margins(rows, &mut lines);
     let lines = text_program::kept(lines);
     match answer {
@@ -69,35 +65,20 @@ fn print_text(text: &[u8], out: &mut [u8]) -> usize
     ensures upper_bound { result ≤ 40800 }
     ensures out_after { take result out.new ≡ printed_text printed_margins text.now }
 {
-    let mut rows = text_program::no_rows();
-    let read = text::read_text(text, &mut rows);
-    match read {
-        Ok(n) => {
-            let end = 10 * n;
-            print_margins(&rows[..end], out)
-        }
-        Err(e) => printing::put_refusal(out, e),
-    }
+    text_program::print_text(text, out, print_margins)
 }
 
 fn main(rt: HostRuntime) {
-    let given = program_io::arguments(&rt, 0, b"usage: margins < SHEET (it takes no argument)");
-    if given.is_err() {
+    let usage = b"usage: margins < SHEET (it takes no argument)";
+    if program_io::arguments(&rt, 0, usage).is_err() {
         return;
     }
-    // Lent arrays, and no heap: there is no memory to run out of, and nothing to say of it.
-    let mut text = text_program::no_text();
-    let reading = program_io::read_input(
-        &rt,
-        b"margins: standard input",
-        b"margins: a sheet is read from standard input, up to the end of input (Ctrl-D)",
-        &mut text,
-    );
-    let Some(n) = reading.input else {
-        return;
+    let words = Words {
+        input: b"margins: standard input",
+        awaited: b"margins: a sheet is read from standard input, up to the end of input (Ctrl-D)",
+        output: b"margins: standard output",
     };
     // Room for what is printed of 800 lines.
     let mut out = [0u8; 40800];
-    let m = print_text(&text[..n], &mut out);
-    program_io::write_lines(&rt, b"margins: standard output", &out[..m]);
+    text_program::run(&rt, words, &mut out, print_text);
 }

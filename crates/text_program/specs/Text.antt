@@ -3,7 +3,8 @@
 use Rattle.std.specs.Prelude.{Result, Ok, Err}
 use Rattle.refusals.specs.Refusals.{number_of}
 use Rattle.refusals.specs.declared.Refusal.{Refusal}
-use Rattle.std.specs.Prelude.{ℕ, List, ℤ}
+use Rattle.std.specs.Prelude.{ℕ, List, ℤ, ◌≡◌, ◌≤◌, length, take}
+use denote.Ref.{Bor, MutBor}
 use Rattle.text_fields.specs.Parts.{parts}
 use Rattle.text.specs.Text.{answer_of, rows_of}
 use Rattle.printing.specs.Printed.{printed_refused}
@@ -16,3 +17,18 @@ module _ (ofRows : List ℤ → List ℕ) where
 
   unfoldable pub printed_text : List ℕ → List ℕ
   printed_text text = printed_of (answer_of text 800) text
+
+-- ---- a function that prints, by what its calls ask and give
+
+-- it may be called with any input, and room of that size
+abbrev pub TakesRoom : {X : Type 0} → (Bor (List X) → MutBor (List ℕ) → Type 0) → ℕ → Type 0
+TakesRoom {X} pre size = (input : Bor (List X)) (room : MutBor (List ℕ)) → length room.now ≡ size → pre input room
+
+-- it answers no more bytes than are there
+abbrev pub KeepsWithin : {X : Type 0} → (Bor (List X) → MutBor (List ℕ) → ℕ → MutBor (List ℕ) → Type 0) → ℕ → Type 0
+KeepsWithin {X} post size = (input : Bor (List X)) (room left : MutBor (List ℕ)) (n : ℕ) → length room.now ≡ size → post input room n left → n ≤ size
+
+-- of rows, in such room: it leaves what is printed of them, and answers how many bytes that are
+abbrev pub PrintsRows : (Bor (List ℤ) → MutBor (List ℕ) → ℕ → MutBor (List ℕ) → Type 0) → ℕ → (List ℤ → List ℕ) → Type 0
+PrintsRows post size ofRows =
+    (rows : Bor (List ℤ)) (room left : MutBor (List ℕ)) (n : ℕ) → length room.now ≡ size → post rows room n left → (n ≤ size) × (take n left.now ≡ ofRows rows.now)

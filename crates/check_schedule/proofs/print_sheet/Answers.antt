@@ -1,4 +1,4 @@
-use Rattle.std.specs.Prelude.{Result, Ok, Err}
+use Rattle.std.specs.Prelude.{ℕ, Result, Ok, Err}
 use Rattle.refusals.specs.declared.Refusal.{Refusal}
 use borrow.Author.Rules.{rules}
 use contract.Lifetimes.{Lfts}
@@ -8,7 +8,7 @@ use Rattle.check_schedule.proofs.print_sheet.Lts as lts
 use Rattle.check_schedule.proofs.print_sheet.Goals as goal
 
 -- the answer's numbers are of 64 bits
-bounded : (κs : Lfts 2) (a : Result ℕ Refusal) → (lts.r-1).is.Ok κs a → Bounded a
+bounded : (κs : Lfts 2) (a : Result ℕ Refusal) → (lts.r-0).is.Ok κs a → Bounded a
 bounded κs (Ok n) h = tt
 bounded κs (Err e) h = search rules
 

@@ -20,7 +20,7 @@ returns-in-Ok c =
 pub returns-in-Err : goal.returns-in-Err
 returns-in-Err c =
     record {
-      upper_bound = refused_within _ c.put_refused.ensures c.requires (omega arith) (search rules);
+      upper_bound = refused_within _ c.put_refusal.ensures c.requires (omega arith) (search rules);
       out_after = refusal_printed c.args.text.now c.args.resource c.no_rows-rows.result c.no_rows-rows.ensures.value c.read_freebusy-answer.ensures.value c.ranges.resource
-          c.put_refused.ensures c.requires c.in-Err.is (search rules);
+          c.put_refusal.ensures c.requires c.in-Err.is (search rules);
     }
