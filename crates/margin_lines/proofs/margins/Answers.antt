@@ -9,6 +9,6 @@ write_margins-requires c = (index_of _ c.accept.ensures (search rules), passed_a
 pub returns-in_err-accept : goal.returns-in_err-accept
 returns-in_err-accept c =
     record {
-      value = refused_answer _ _ c.accept.ensures {x = c.in_err-accept.field-0.0} (search rules) (search rules);
-      out_after = refused_left _ _ c.accept.ensures {x = c.in_err-accept.field-0.0} (search rules);
+      value = refused_answer _ _ {x = c.in_err-accept.field-0.0} c.accept.ensures (search rules) (search rules);
+      out_after = refused_left _ _ {x = c.in_err-accept.field-0.0} c.accept.ensures (search rules);
     }
