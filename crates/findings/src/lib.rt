@@ -1,17 +1,87 @@
 // Findings: the violations that the checks report, written to a lent buffer as lines of four numbers.
 #![tactic(auto)]
 
-ghost use Rattle.std.specs.Prelude.{◌≡◌, ◌<◌};
+ghost use Rattle.std.specs.Prelude.{◌≡◌, ◌<◌, true};
 ghost use Rattle.loops.specs.Lists.{given};
+ghost use Rattle.findings.specs.Kinds.{number_of, severity_of, violation_of};
 ghost use Rattle.findings.specs.inner.Sink.{sink, put1, emit};
+ghost use Rattle.findings.specs.inner.Told.{so_far, tell};
 
-// A violation: the check that reports it, its type, the entity that it is of, and its severity.
+// The types of violations, by the source's names.
+#[derive(Clone, Copy, PartialEq, Eq)]
+pub enum ViolationKind {
+    DeadlineMiss,
+    CapacityExceeded,
+    PrecedenceViolation,
+    ResourceUnavailable,
+    SkillMismatch,
+    RequirementUnfilled,
+    TimeWindowViolation,
+    SynchronizeViolation,
+    UnknownActivity,
+    DurationTooShort,
+    EarlyStart,
+}
+
+impl ViolationKind {
+    // The number that a line has for it.
+    pub fn number(self) -> u8
+        ensures { result ≡ number_of self }
+    {
+        match self {
+            ViolationKind::DeadlineMiss => 1,
+            ViolationKind::CapacityExceeded => 2,
+            ViolationKind::PrecedenceViolation => 3,
+            ViolationKind::ResourceUnavailable => 4,
+            ViolationKind::SkillMismatch => 5,
+            ViolationKind::RequirementUnfilled => 6,
+            ViolationKind::TimeWindowViolation => 7,
+            ViolationKind::SynchronizeViolation => 8,
+            ViolationKind::UnknownActivity => 9,
+            ViolationKind::DurationTooShort => 10,
+            ViolationKind::EarlyStart => 11,
+        }
+    }
+
+    pub fn severity(self) -> u8
+        ensures { result ≡ severity_of self }
+    {
+        match self {
+            ViolationKind::SkillMismatch => 70,
+            ViolationKind::TimeWindowViolation | ViolationKind::SynchronizeViolation => 75,
+            ViolationKind::DeadlineMiss => 80,
+            ViolationKind::ResourceUnavailable => 85,
+            ViolationKind::CapacityExceeded
+            | ViolationKind::DurationTooShort
+            | ViolationKind::EarlyStart => 90,
+            ViolationKind::PrecedenceViolation
+            | ViolationKind::RequirementUnfilled
+            | ViolationKind::UnknownActivity => 95,
+        }
+    }
+}
+
+// A violation: the check that reports it, its type's number, the entity that it is of, and its severity.
 #[derive(Clone, Copy, PartialEq, Eq)]
 pub struct Violation {
     pub check: u8,
     pub kind: u8,
     pub entity: u64,
     pub severity: u8,
+}
+
+impl Violation {
+    // What a check reports of an entity.
+    pub fn of(check: u8, kind: ViolationKind, entity: u64) -> Violation
+        ensures { result ≡ violation_of check kind entity }
+    {
+        Violation {
+            check,
+            kind: kind.number(),
+            entity,
+            severity: kind.severity(),
+        }
+    }
 }
 
 // One finding more: written where the buffer holds it, and counted in any case.
@@ -37,4 +107,50 @@ pub fn report(out: &mut [i64], n: usize, yes: bool, f: Violation) -> usize
         return put(out, n, f);
     }
     n
+}
+
+// The findings so far: a lent buffer of lines, and how many were found.
+#[derive(Drop)]
+pub struct Findings<'a> {
+    out: &'a mut [i64],
+    found: usize,
+}
+
+impl<'a> Findings<'a> {
+    // Nothing is found yet.
+    pub fn new(out: &'a mut [i64]) -> Findings<'a>
+        ensures { so_far result ≡ record { name = out.entry.ghost_name; sink = sink out.old 0 } }
+    {
+        Findings { out, found: 0 }
+    }
+
+    // So many were found before.
+    pub fn after(out: &'a mut [i64], found: usize) -> Findings<'a>
+        ensures { so_far result ≡ record { name = out.entry.ghost_name; sink = sink out.old found } }
+    {
+        Findings { out, found }
+    }
+
+    // One finding more.
+    pub fn tell(&mut self, f: Violation)
+        requires { f.entity < 9223372036854775808 }
+        ensures { so_far self.new ≡ tell (so_far self.old) (given true f) }
+    {
+        self.found = report(self.out, self.found, true, f);
+    }
+
+    // The finding where the test holds, else nothing.
+    pub fn report(&mut self, yes: bool, f: Violation)
+        requires { f.entity < 9223372036854775808 }
+        ensures { so_far self.new ≡ tell (so_far self.old) (given yes f) }
+    {
+        self.found = report(self.out, self.found, yes, f);
+    }
+
+    // How many were found.
+    pub fn len(&self) -> usize
+        ensures { result ≡ self.now.found }
+    {
+        self.found
+    }
 }

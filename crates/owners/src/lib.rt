@@ -11,6 +11,9 @@ ghost use Rattle.sheet.specs.inner.Found.{found_of};
 ghost use Rattle.sheet.specs.inner.Index.{or_end, Kinds};
 ghost use Rattle.owners.specs.inner.Owners.{owner_kind, own_place, res_place, owned_by, owned_key, Numbered, Linked, Owned};
 
+pub mod by_owner;
+
+pub use by_owner::{ByOwner, LinkIndex, OwnerIndex, Owners};
 use rows::Kind;
 use sheet::Found;
 

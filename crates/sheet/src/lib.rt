@@ -12,11 +12,41 @@ ghost use Rattle.sheet.specs.inner.Groups.{named_pair};
 ghost use Rattle.sheet.specs.inner.Kept.{IsRow};
 ghost use Rattle.sheet.specs.inner.Index.{name_hash, name_key, or_end, stored_place, Shaped, Kinds};
 
+pub mod by_kind;
+
+pub use by_kind::{ByKind, KindIndex, Rows};
+
 // What a lookup answers.
 #[derive(Clone, Copy)]
 pub enum Found {
     At(usize),
     Nothing,
+}
+
+impl From<Option<usize>> for Found {
+    ghost use Rattle.std.specs.Prelude.{◌≡◌};
+    ghost use Rattle.sheet.specs.inner.Found.{found_of};
+
+    ghost from_gives = { λ x r. found_of r ≡ x };
+
+    fn from(x: Option<usize>) -> Found {
+        match x {
+            Some(k) => Found::At(k),
+            None => Found::Nothing,
+        }
+    }
+}
+
+impl Found {
+    // The place that was found.
+    pub fn or_none(self) -> Option<usize>
+        ensures { result ≡ found_of self }
+    {
+        match self {
+            Found::At(k) => Some(k),
+            Found::Nothing => None,
+        }
+    }
 }
 
 // ---- tables of places

@@ -1,0 +1,255 @@
+// The rows of a sheet by the rows that they belong to, and the rows that they belong to.
+ghost use Rattle.std.specs.Prelude.{◌≡◌, ◌≤◌};
+ghost use Rattle.owners.specs.inner.Owners.{Linked, Owned};
+
+use chains::{Chain, Walk};
+use rows::Kind;
+use sheet::{Found, Rows};
+use std::marker::Model;
+
+// Rows whose table of owners is filled.
+pub trait LinkIndex: Rows {
+    ghost use Rattle.std.specs.Prelude.{Some, ◌≡◌, ◌<◌, true};
+    ghost use Rattle.rows.specs.Cells.{row_count, num, is};
+    ghost use Rattle.sheet.specs.Places.{task_place, activity_place, resource_place};
+    ghost use Rattle.sheet.specs.inner.Found.{found_of};
+    ghost use Rattle.owners.specs.declared.Owner.{Owner};
+    ghost use Rattle.owners.specs.inner.Owners.{owner_kind, Linked};
+
+    fn links(&self) -> &[u16; 1600]
+        ensures { Linked (Self.rows self.now) result.now };
+
+    // The row of the activity that row k, a booking or a time-only span, names.
+    fn activity_of(&self, k: usize) -> Found
+        requires { (k < row_count (Self.rows self.now)) × (owner_kind (num (Self.rows self.now) k 0) ≡ Some Owner.ActivityRow) }
+        ensures { found_of result ≡ activity_place (Self.rows self.now) (num (Self.rows self.now) k 1) }
+    {
+        crate::activity_of(self.as_slice(), self.links(), k)
+    }
+
+    // The row of the task that activity k is of.
+    fn task_of(&self, k: usize) -> Option<usize>
+        requires { (k < row_count (Self.rows self.now)) × (is (Self.rows self.now) k 0 2 ≡ true) }
+        ensures { result ≡ task_place (Self.rows self.now) (num (Self.rows self.now) k 2) }
+    {
+        crate::task_of(self.as_slice(), self.links(), k).or_none()
+    }
+
+    // The row of the resource that booking k names.
+    fn booked_resource(&self, k: usize) -> Found
+        requires { (k < row_count (Self.rows self.now)) × (is (Self.rows self.now) k 0 23 ≡ true) }
+        ensures { found_of result ≡ resource_place (Self.rows self.now) (num (Self.rows self.now) k 3) }
+    {
+        crate::booked_resource(self.as_slice(), self.links(), k)
+    }
+}
+
+// Rows whose table of the rows by owner and kind is filled.
+pub trait OwnerIndex: Rows {
+    ghost use Rattle.std.specs.Prelude.{◌≡◌, ◌≤◌};
+    ghost use Rattle.chains.specs.Places.{places};
+    ghost use Rattle.loops.specs.Search.{first_place, any_below};
+    ghost use Rattle.rows.specs.Kinds.{kind_number};
+    ghost use Rattle.rows.specs.Cells.{row_count};
+    ghost use Rattle.owners.specs.inner.Owners.{owned_by, Owned};
+
+    fn owned(&self) -> &[u16; 8810]
+        ensures { Owned (Self.rows self.now) result.now };
+
+    // The rows of a kind that belong to row o.
+    fn owned_by(&self, o: usize, kind: Kind) -> Walk<OwnedChain<'_>>
+        requires { o ≤ row_count (Self.rows self.now) }
+        ensures places { result ≡ places (owned_by (Self.rows self.now) o (kind_number kind)) (row_count (Self.rows self.now)) }
+        ensures known { Self.known (Self.rows self.now) }
+    {
+        Walk::new(OwnedChain {
+            rows: ByOwner::new(self.as_slice(), self.owned()),
+            owner: o,
+            kind,
+        })
+    }
+
+    // Those above row k.
+    fn owned_above(&self, o: usize, kind: Kind, k: usize) -> Walk<OwnedChain<'_>>
+        requires { (o ≤ row_count (Self.rows self.now)) × (k ≤ row_count (Self.rows self.now)) }
+        ensures places { result ≡ places (owned_by (Self.rows self.now) o (kind_number kind)) k }
+        ensures known { Self.known (Self.rows self.now) }
+    {
+        Walk::below(
+            OwnedChain {
+                rows: ByOwner::new(self.as_slice(), self.owned()),
+                owner: o,
+                kind,
+            },
+            k,
+        )
+    }
+
+    // The first of them.
+    #[tactic(auto, using(chains::proofs::PlaceLaws::next_none, chains::proofs::PlaceLaws::next_some))]
+    fn find_owned(&self, o: usize, kind: Kind) -> Option<usize>
+        requires { o ≤ row_count (Self.rows self.now) }
+        ensures { result ≡ first_place (owned_by (Self.rows self.now) o (kind_number kind)) (row_count (Self.rows self.now)) }
+    {
+        self.owned_by(o, kind).next()
+    }
+
+    // Whether a row of a kind belongs to row o.
+    fn has_owned(&self, o: usize, kind: Kind) -> bool
+        requires { o ≤ row_count (Self.rows self.now) }
+        ensures { result ≡ any_below (owned_by (Self.rows self.now) o (kind_number kind)) (row_count (Self.rows self.now)) }
+    {
+        crate::has_owned(self.as_slice(), self.owned(), o, kind.number() as usize)
+    }
+}
+
+// The rows of a sheet with the table of the rows by owner and kind; seen as the rows.
+#[derive(Drop)]
+pub struct ByOwner<'a> {
+    rows: &'a [i64],
+    table: &'a [u16; 8810],
+}
+
+impl<'a> Model for ByOwner<'a> {
+    ghost use Rattle.std.specs.Prelude.{List, ℤ};
+    ghost use Rattle.owners.specs.inner.Owners.{Owned};
+
+    ghost Value = { List ℤ };
+
+    ghost view = { λ s. s.rows.now };
+
+    ghost invariant = { λ s. Owned s.rows.now s.table.now };
+}
+
+impl<'a> ByOwner<'a> {
+    pub fn new(rows: &'a [i64], table: &'a [u16; 8810]) -> ByOwner<'a>
+        requires { Owned rows.now table.now }
+        ensures { result ≡ rows.now }
+    {
+        ByOwner { rows, table }
+    }
+}
+
+impl<'a> Rows for ByOwner<'a> {
+    ghost use Rattle.std.specs.Prelude.{◌≤◌};
+    ghost use Rattle.rows.specs.Cells.{row_count};
+
+    ghost rows = { λ s. s };
+
+    ghost known = { λ rows. row_count rows ≤ 800 };
+
+    fn as_slice(&self) -> &[i64] {
+        self.rows
+    }
+}
+
+impl<'a> OwnerIndex for ByOwner<'a> {
+    fn owned(&self) -> &[u16; 8810] {
+        self.table
+    }
+}
+
+// The rows of a sheet with both tables of owners; seen as the rows.
+#[derive(Drop)]
+pub struct Owners<'a> {
+    rows: &'a [i64],
+    links: &'a [u16; 1600],
+    owned: &'a [u16; 8810],
+}
+
+impl<'a> Model for Owners<'a> {
+    ghost use Rattle.std.specs.Prelude.{List, ℤ};
+    ghost use Rattle.owners.specs.inner.Owners.{Linked, Owned};
+
+    ghost Value = { List ℤ };
+
+    ghost view = { λ s. s.rows.now };
+
+    ghost invariant = { λ s. Linked s.rows.now s.links.now × Owned s.rows.now s.owned.now };
+}
+
+impl<'a> Owners<'a> {
+    pub fn new(rows: &'a [i64], links: &'a [u16; 1600], owned: &'a [u16; 8810]) -> Owners<'a>
+        requires { Linked rows.now links.now × Owned rows.now owned.now }
+        ensures { result ≡ rows.now }
+    {
+        Owners { rows, links, owned }
+    }
+}
+
+impl<'a> Rows for Owners<'a> {
+    ghost use Rattle.std.specs.Prelude.{◌≤◌};
+    ghost use Rattle.rows.specs.Cells.{row_count};
+
+    ghost rows = { λ s. s };
+
+    ghost known = { λ rows. row_count rows ≤ 800 };
+
+    fn as_slice(&self) -> &[i64] {
+        self.rows
+    }
+}
+
+impl<'a> LinkIndex for Owners<'a> {
+    fn links(&self) -> &[u16; 1600] {
+        self.links
+    }
+}
+
+impl<'a> OwnerIndex for Owners<'a> {
+    fn owned(&self) -> &[u16; 8810] {
+        self.owned
+    }
+}
+
+// The rows of a kind that belong to a row.
+#[derive(Drop)]
+pub struct OwnedChain<'a> {
+    rows: ByOwner<'a>,
+    owner: usize,
+    kind: Kind,
+}
+
+impl<'a> Model for OwnedChain<'a> {
+    ghost use Rattle.std.specs.Prelude.{List, ℤ, ℕ, ◌≤◌};
+    ghost use Rattle.rows.specs.Kinds.{kind_number};
+    ghost use Rattle.rows.specs.Cells.{row_count};
+
+    ghost Value = { List ℤ × ℕ × ℕ };
+
+    ghost view = { λ s. (s.rows, s.owner, kind_number s.kind) };
+
+    ghost invariant = { λ s. s.owner ≤ row_count s.rows };
+}
+
+impl<'a> Chain for OwnedChain<'a> {
+    ghost use Rattle.rows.specs.Cells.{row_count};
+    ghost use Rattle.owners.specs.inner.Owners.{owned_by};
+
+    ghost test = { λ s. owned_by s.0 s.1 s.2 };
+
+    ghost end = { λ s. row_count s.0 };
+
+    fn end_place(&self) -> usize {
+        self.rows.row_count()
+    }
+
+    fn first_place(&self) -> usize {
+        crate::first_owned(
+            self.rows.rows,
+            self.rows.table,
+            self.owner,
+            self.kind.number() as usize,
+        )
+    }
+
+    fn next_place(&self, i: usize) -> usize {
+        crate::next_owned(
+            self.rows.rows,
+            self.rows.table,
+            self.owner,
+            self.kind.number() as usize,
+            i,
+        )
+    }
+}

@@ -1,0 +1,253 @@
+// The rows of a sheet, and their walks by kind and by name.
+ghost use Rattle.std.specs.Prelude.{◌≡◌, ◌<◌, ◌≤◌};
+ghost use Rattle.rows.specs.Cells.{row_count};
+ghost use Rattle.sheet.specs.inner.Index.{Kinds};
+
+use chains::{Chain, Walk};
+use crate::Found;
+use rows::Kind;
+use std::marker::Model;
+
+// What holds the rows of a sheet.
+pub trait Rows {
+    ghost use Rattle.std.specs.Prelude.{◌≡◌, ◌<◌, ◌≤◌, List, ℤ};
+    ghost use Rattle.rows.specs.Kinds.{kind_number};
+    ghost use Rattle.rows.specs.Cells.{row_count, cell, num, is};
+    ghost use Rattle.rows.specs.Ranges.{is_none};
+
+    ghost rows: { Self → List ℤ };
+
+    // What is known of such rows.
+    ghost known: { List ℤ → Type 0 };
+
+    fn as_slice(&self) -> &[i64]
+        ensures rows { result.now ≡ rows self.now }
+        ensures known { known (rows self.now) };
+
+    fn row_count(&self) -> usize
+        ensures { result ≡ row_count (rows self.now) }
+    {
+        rows::row_count(self.as_slice())
+    }
+
+    // Column c of row k, 0 outside.
+    fn cell(&self, k: usize, c: usize) -> i64
+        ensures { result ≡ cell (rows self.now) k c }
+    {
+        rows::cell_at(self.as_slice(), k, c)
+    }
+
+    // The same as a number that is never negative.
+    fn num(&self, k: usize, c: usize) -> u64
+        ensures value { result ≡ num (rows self.now) k c }
+        ensures bound { result < 9223372036854775808 }
+    {
+        rows::id_at(self.as_slice(), k, c)
+    }
+
+    // Whether column c of row k is v.
+    fn has(&self, k: usize, c: usize, v: u64) -> bool
+        ensures { result ≡ is (rows self.now) k c v }
+    {
+        rows::is_at(self.as_slice(), k, c, v)
+    }
+
+    fn is_of_kind(&self, k: usize, kind: Kind) -> bool
+        ensures { result ≡ is (rows self.now) k 0 (kind_number kind) }
+    {
+        rows::is_of_kind(self.as_slice(), k, kind)
+    }
+
+    // Whether column c of row k stands for none.
+    fn is_none(&self, k: usize, c: usize) -> bool
+        ensures { result ≡ is_none (cell (rows self.now) k c) }
+    {
+        rows::is_none(self.cell(k, c))
+    }
+}
+
+// Rows whose table of kinds and names is filled.
+pub trait KindIndex: Rows {
+    ghost use Rattle.std.specs.Prelude.{◌≡◌, ◌≤◌};
+    ghost use Rattle.chains.specs.Places.{places};
+    ghost use Rattle.rows.specs.Kinds.{kind_number};
+    ghost use Rattle.rows.specs.Cells.{row_count};
+    ghost use Rattle.sheet.specs.Places.{of_kind, named, place_of, task_place, activity_place, resource_place};
+    ghost use Rattle.sheet.specs.inner.Found.{found_of};
+    ghost use Rattle.sheet.specs.inner.Index.{Kinds};
+
+    fn kinds(&self) -> &[u16; 3680]
+        ensures { Kinds (Self.rows self.now) result.now };
+
+    // The rows of a kind.
+    fn of_kind(&self, kind: Kind) -> Walk<KindChain<'_>>
+        ensures places { result ≡ places (of_kind (Self.rows self.now) (kind_number kind)) (row_count (Self.rows self.now)) }
+        ensures known { Self.known (Self.rows self.now) }
+    {
+        Walk::new(KindChain { rows: ByKind::new(self.as_slice(), self.kinds()), kind })
+    }
+
+    // The rows of a kind with that number in column 1.
+    fn named(&self, kind: Kind, id: u64) -> Walk<NamedChain<'_>>
+        ensures places { result ≡ places (named (Self.rows self.now) (kind_number kind) id) (row_count (Self.rows self.now)) }
+        ensures known { Self.known (Self.rows self.now) }
+    {
+        Walk::new(NamedChain { rows: ByKind::new(self.as_slice(), self.kinds()), kind, id })
+    }
+
+    // Those above row k.
+    fn named_above(&self, kind: Kind, id: u64, k: usize) -> Walk<NamedChain<'_>>
+        requires { k ≤ row_count (Self.rows self.now) }
+        ensures places { result ≡ places (named (Self.rows self.now) (kind_number kind) id) k }
+        ensures known { Self.known (Self.rows self.now) }
+    {
+        Walk::below(NamedChain { rows: ByKind::new(self.as_slice(), self.kinds()), kind, id }, k)
+    }
+
+    // The first row of a kind with that id.
+    #[tactic(auto, using(chains::proofs::PlaceLaws::next_none, chains::proofs::PlaceLaws::next_some), unfolding(crate::specs::Places::place_of))]
+    fn find_named(&self, kind: Kind, id: u64) -> Option<usize>
+        ensures { result ≡ place_of (Self.rows self.now) (kind_number kind) id }
+    {
+        self.named(kind, id).next()
+    }
+
+    fn find_task(&self, id: u64) -> Option<usize>
+        ensures { result ≡ task_place (Self.rows self.now) id }
+    {
+        self.find_named(Kind::Task, id)
+    }
+
+    fn find_activity(&self, id: u64) -> Found
+        ensures { found_of result ≡ activity_place (Self.rows self.now) id }
+    {
+        Found::from(self.find_named(Kind::Activity, id))
+    }
+
+    fn find_resource(&self, id: u64) -> Found
+        ensures { found_of result ≡ resource_place (Self.rows self.now) id }
+    {
+        Found::from(self.find_named(Kind::Resource, id))
+    }
+}
+
+// The rows of a sheet with the table of the rows by kind and by name; seen as the rows.
+#[derive(Drop)]
+pub struct ByKind<'a> {
+    rows: &'a [i64],
+    table: &'a [u16; 3680],
+}
+
+impl<'a> Model for ByKind<'a> {
+    ghost use Rattle.std.specs.Prelude.{List, ℤ};
+    ghost use Rattle.sheet.specs.inner.Index.{Kinds};
+
+    ghost Value = { List ℤ };
+
+    ghost view = { λ s. s.rows.now };
+
+    ghost invariant = { λ s. Kinds s.rows.now s.table.now };
+}
+
+impl<'a> ByKind<'a> {
+    pub fn new(rows: &'a [i64], table: &'a [u16; 3680]) -> ByKind<'a>
+        requires { Kinds rows.now table.now }
+        ensures { result ≡ rows.now }
+    {
+        ByKind { rows, table }
+    }
+}
+
+impl<'a> Rows for ByKind<'a> {
+    ghost use Rattle.std.specs.Prelude.{List, ℤ, ◌≤◌};
+    ghost use Rattle.rows.specs.Cells.{row_count};
+
+    ghost rows = { λ s. s };
+
+    ghost known = { λ rows. row_count rows ≤ 800 };
+
+    fn as_slice(&self) -> &[i64] {
+        self.rows
+    }
+}
+
+impl<'a> KindIndex for ByKind<'a> {
+    fn kinds(&self) -> &[u16; 3680] {
+        self.table
+    }
+}
+
+// The rows of a kind.
+#[derive(Drop)]
+pub struct KindChain<'a> {
+    rows: ByKind<'a>,
+    kind: Kind,
+}
+
+impl<'a> Model for KindChain<'a> {
+    ghost use Rattle.std.specs.Prelude.{List, ℤ, ℕ};
+    ghost use Rattle.rows.specs.Kinds.{kind_number};
+
+    ghost Value = { List ℤ × ℕ };
+
+    ghost view = { λ s. (s.rows, kind_number s.kind) };
+}
+
+impl<'a> Chain for KindChain<'a> {
+    ghost use Rattle.rows.specs.Cells.{row_count};
+    ghost use Rattle.sheet.specs.Places.{of_kind};
+
+    ghost test = { λ s. of_kind s.0 s.1 };
+
+    ghost end = { λ s. row_count s.0 };
+
+    fn end_place(&self) -> usize {
+        self.rows.row_count()
+    }
+
+    fn first_place(&self) -> usize {
+        crate::first_of(self.rows.rows, self.rows.table, self.kind.number() as usize)
+    }
+
+    fn next_place(&self, i: usize) -> usize {
+        crate::next_of(self.rows.rows, self.rows.table, self.kind.number() as usize, i)
+    }
+}
+
+// The rows of a kind that have a number in column 1.
+#[derive(Drop)]
+pub struct NamedChain<'a> {
+    rows: ByKind<'a>,
+    kind: Kind,
+    id: u64,
+}
+
+impl<'a> Model for NamedChain<'a> {
+    ghost use Rattle.std.specs.Prelude.{List, ℤ, ℕ};
+    ghost use Rattle.rows.specs.Kinds.{kind_number};
+
+    ghost Value = { List ℤ × ℕ × ℕ };
+
+    ghost view = { λ s. (s.rows, kind_number s.kind, s.id) };
+}
+
+impl<'a> Chain for NamedChain<'a> {
+    ghost use Rattle.rows.specs.Cells.{row_count};
+    ghost use Rattle.sheet.specs.Places.{named};
+
+    ghost test = { λ s. named s.0 s.1 s.2 };
+
+    ghost end = { λ s. row_count s.0 };
+
+    fn end_place(&self) -> usize {
+        self.rows.row_count()
+    }
+
+    fn first_place(&self) -> usize {
+        crate::first_named(self.rows.rows, self.rows.table, self.kind.number() as usize, self.id)
+    }
+
+    fn next_place(&self, i: usize) -> usize {
+        crate::next_named(self.rows.rows, self.rows.table, self.kind.number() as usize, self.id, i)
+    }
+}
