@@ -2,7 +2,7 @@
 use Prim.Native.Nat.{ℕ, ◌-◌, ◌<◌}
 use mathlib.Core.Path.{◌≡◌, refl, ap, ap₂, sym, ◌∙◌}
 use mathlib.Core.Bool.{Bool, true, false}
-use mathlib.Core.List.{List, [], ◌++◌}
+use mathlib.Core.List.{List, [], ◌++◌, foldl}
 use Rattle.std.specs.Prelude.{Option, None, Some}
 use native.Mathlib.Omega.{arith}
 use lib.Dec.{ltb}
@@ -16,7 +16,9 @@ use Rattle.findings.specs.declared.Violation.{Violation}
 use Rattle.loops.specs.Range.{collect}
 use Rattle.loops.proofs.ListLaws.{each_collect}
 use Rattle.loops.proofs.NumberLaws.{gap}
-use Rattle.findings.specs.inner.Sink.{Sink, emit}
+use Rattle.findings.specs.inner.Told.{Told, tell, telling}
+use Rattle.findings.proofs.Reporting.{tell_places}
+use Rattle.chains.specs.Places.{places}
 use Rattle.rows.specs.Cells.{row_count, num, is}
 use Rattle.sheet.specs.Places.{of_kind}
 use Rattle.model.specs.Sheet.{sheet}
@@ -73,15 +75,16 @@ module _ (rows : List ℤ) (k : ℕ) where
   unfolding each check_deadline late_at
   deadline_found h = rw (task_row rows k h) (reported (task_completion_time clock (sheet rows) (num rows k 1)) (maybe_at rows k 2) (deadline_miss 8 (num rows k 1)))
 
-  pub deadline_told : {b : Bool} {id : ℕ} (s : Sink) {s' : Sink} → is rows k 0 1 ≡ true → b ≡ late_at rows k → id ≡ num rows k 1
-      → s' ≡ emit s (given b (deadline_miss 8 id)) → s' ≡ emit s (each (check_deadline clock (sheet rows)) (task_at (sheet rows) k))
-  deadline_told s h e i q = q ∙ ap (emit s) (ap₂ (λ x y. given x (deadline_miss 8 y)) e i ∙ sym (deadline_found h))
+-- what is told of row k
+abbrev pub deadline_at : List ℤ → ℕ → List Violation
+deadline_at rows k = each (check_deadline clock (sheet rows)) (task_at (sheet rows) k)
 
-pub deadline_silent : (rows : List ℤ) → Silent (of_kind rows 1) (λ k. each (check_deadline clock (sheet rows)) (task_at (sheet rows) k))
+pub deadline_silent : (rows : List ℤ) → Silent (of_kind rows 1) (deadline_at rows)
 unfolding each of_kind
 deadline_silent rows = record { still = λ k h. rw (task_none rows k h) }
 
-pub deadlines_told : (rows : List ℤ) (s : Sink) {s' : Sink} → s' ≡ emit s (collect (λ k. each (check_deadline clock (sheet rows)) (task_at (sheet rows) k)) (row_count rows))
-    → s' ≡ emit s (check_deadlines clock (sheet rows))
+pub deadlines_told : (rows : List ℤ) (t : Told) → foldl (telling (deadline_at rows)) t (places (of_kind rows 1) (row_count rows)) ≡ tell t (check_deadlines clock (sheet rows))
 unfolding check_deadlines tasks
-deadlines_told rows s e = e ∙ ap (emit s) (sym (each_collect (check_deadline clock (sheet rows)) (task_at (sheet rows)) (row_count rows)))
+deadlines_told rows t =
+    tell_places (of_kind rows 1) (deadline_at rows) (row_count rows) t (deadline_silent rows)
+    ∙ ap (tell t) (sym (each_collect (check_deadline clock (sheet rows)) (task_at (sheet rows)) (row_count rows)))
