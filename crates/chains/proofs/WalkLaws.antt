@@ -1,13 +1,15 @@
 -- Methods of iterators over a walk along a chain: what they make of the list of its places. Assumes nothing.
-use Prim.Native.Nat.{ℕ}
+use Prim.Native.Nat.{ℕ, zero, suc, ◌≤◌}
 use mathlib.Core.Path.{◌≡◌, refl, ap, subst, sym, ◌∙◌}
 use mathlib.Core.Bool.{Bool, true, false}
 use mathlib.Core.List.{List, [], ◌∷◌, foldl}
 use denote.Param.Members.{Mut, Called}
-use Rattle.std.specs.Prelude.{Option, None, Some}
+use lib.ListN.{length}
+use native.Mathlib.Omega.{arith}
+use Rattle.std.specs.Prelude.{Option, None, Some, slice_get}
 use Rattle.std.specs.Option.{MatchOption}
 use Rattle.std.specs.List.{FoldsTo}
-use Rattle.std.specs.Iterator.{YieldsFirst, YieldsThen, ChecksAny, FoldsItems, FoldTurn}
+use Rattle.std.specs.Iterator.{YieldsFirst, YieldsThen, ChecksAny, FoldsItems, FoldTurn, SkipsThenYields}
 use Rattle.loops.specs.Lists.{any_of}
 
 -- the steps of a walk
@@ -48,3 +50,16 @@ module _ {F B : Type 0} (g : Mut F (B × (ℕ × Unit {0})) B) (f : F) (step : B
 
   pub walk_fold : {s : List ℕ} {e r : B} → FoldsItems taken g s f e r → r ≡ foldl step e s
   walk_fold {s} {e} {r} c = rw (drained s c.0 c.2.0 c.2.1) (folds e r c.0 f c.1 refl c.3)
+
+nth_ran : (s xs u : List ℕ) (n : ℕ) (r : Option ℕ) → YieldsThen taken s xs r u → MatchOption r (length xs ≤ n) (λ _. length xs ≡ n) → r ≡ slice_get s n
+nth_ran s [] u n None y m = rw (y.1 ∙ y.2.0)
+nth_ran s [] u zero (Some x) y m = rw (y.1 ∙ y.2)
+nth_ran s [] u (suc n) (Some x) y m = absurd (omega (arith, m))
+nth_ran s (x ∷ xs) u zero None y m = absurd (omega (arith, m))
+nth_ran s (x ∷ xs) u (suc n) None y m = rw y.1.1 (nth_ran y.1.0 xs u n None (y.0, y.1.2, y.2) (omega (arith, m)))
+nth_ran s (x ∷ xs) u zero (Some z) y m = absurd (omega (arith, m))
+nth_ran s (x ∷ xs) u (suc n) (Some z) y m = rw y.1.1 (nth_ran y.1.0 xs u n (Some z) (y.0, y.1.2, y.2) (omega (arith, m)))
+
+-- the place that is number n, from 0, of those that are left
+pub walk_nth : {s : List ℕ} {r : Option ℕ} (n : ℕ) (u : List ℕ) → SkipsThenYields taken s n r u → r ≡ slice_get s n
+walk_nth {s} {r} n u c = nth_ran s c.0 u n r c.1 c.2

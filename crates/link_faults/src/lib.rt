@@ -16,6 +16,7 @@ ghost use Rattle.sheet.specs.inner.Groups.{repeated_by};
 use owners::Owner;
 use refusals::{Reason, Verdict};
 use rows::Kind;
+use sheet::{ByKind, KindIndex, Rows};
 
 // ---- 4
 
@@ -66,44 +67,36 @@ pub fn owner_fault(rows: &[i64], links: &[u16; 1600], k: usize) -> Verdict
 
 // ---- 5
 
-// An earlier row than k is of that kind, with that id.
-fn has_earlier(rows: &[i64], kinds: &[u16; 3680], kind: Kind, id: u64, k: usize) -> bool
-    requires { Kinds rows.now kinds.now × (k ≤ row_count rows.now) }
-    ensures { result ≡ any_below (named rows.now (kind_number kind) id) k }
-{
-    sheet::first_named(rows, kinds, kind.number() as usize, id) < k
-}
-
 // Row k repeats an earlier row. A speed and a fixed timing repeat one another.
-fn is_repeat(rows: &[i64], kinds: &[u16; 3680], k: usize) -> bool
-    requires { Kinds rows.now kinds.now × (k ≤ row_count rows.now) }
+fn is_repeat(rows: &ByKind, k: usize) -> bool
+    requires { k ≤ row_count rows.now }
     ensures { result ≡ repeated_by rows.now k }
 {
-    let Some(kind) = rows::kind_at(rows, k) else {
+    let Some(kind) = rows.kind_at(k) else {
         return false;
     };
-    let id = rows::num_at(rows, k, 1);
-    let other = rows::num_at(rows, k, 2);
+    let id = rows.num(k, 1);
+    let other = rows.num(k, 2);
     match kind {
         Kind::Task | Kind::Activity | Kind::Overlap | Kind::Split | Kind::Resource => {
-            has_earlier(rows, kinds, kind, id, k)
+            rows.has_earlier(kind, id, k)
         }
         Kind::Speed | Kind::FixedTiming => {
-            sheet::has_earlier_pair(rows, kinds, 9, id, other, k)
-                || sheet::has_earlier_pair(rows, kinds, 10, id, other, k)
+            rows.has_earlier_pair(Kind::Speed, id, other, k)
+                || rows.has_earlier_pair(Kind::FixedTiming, id, other, k)
         }
-        Kind::Transport => sheet::has_earlier_pair(rows, kinds, 14, id, other, k),
+        Kind::Transport => rows.has_earlier_pair(Kind::Transport, id, other, k),
         _ => false,
     }
 }
 
 // Refusal 5 of row k.
 #[tactic(auto, using(crate::proofs::Repeats::repeat_read), unfolding(sheet::specs::Refusals::repeat_fault))]
-pub fn repeat_fault(rows: &[i64], kinds: &[u16; 3680], k: usize) -> Verdict
-    requires { Kinds rows.now kinds.now × (k ≤ row_count rows.now) }
+pub fn repeat_fault(rows: &ByKind, k: usize) -> Verdict
+    requires { k ≤ row_count rows.now }
     ensures { verdict_of result ≡ repeat_fault rows.now k }
 {
-    if is_repeat(rows, kinds, k) {
+    if is_repeat(rows, k) {
         return Err(Reason::Twice.at(k));
     }
     Ok(())

@@ -14,18 +14,16 @@ use lib.IntN.{ℤ}
 use mir.Syntax.{w64}
 use mir.Val.{Fits}
 use borrow.Author.Tests.{eq-eqb, ne_eqb}
-use Rattle.loops.specs.Search.{first_place, count_below}
-use Rattle.loops.specs.inner.Chain.{First, Stands}
+use Rattle.loops.specs.Search.{count_below}
 use Rattle.loops.proofs.SearchLaws.{count_le, counted_le}
-use Rattle.loops.proofs.PlaceLaws.{or_none_lem, count_next}
-use Rattle.loops.proofs.Walks.{itself, seek_hit, seek_next}
+use Rattle.loops.proofs.PlaceLaws.{or_none_lem}
 use Rattle.owners.specs.declared.Owner.{Owner}
 use Rattle.owners.specs.declared.Owner.TheVariants.{TaskRow, ActivityRow, RequirementRow, ResourceRow, ConstraintRow}
 use Rattle.rows.specs.Cells.{row_count, num, is}
-use Rattle.sheet.specs.Places.{named, place_of, is_nth, nth_place, is_constraint, requirement_place, constraint_place}
-use Rattle.sheet.specs.inner.Index.{or_end}
-use Rattle.sheet.proofs.Lookups.{is_nth_lem, nth_here, nth_other, nth_blind, nth_at, nth_step, too_few, placed}
-use Rattle.sheet.proofs.Stored.{below, named_below, nth_below}
+use Rattle.sheet.specs.Places.{named, place_of, nth_place, is_constraint, constraint_place}
+use Rattle.sheet.specs.inner.Index.{or_end, stored_place}
+use Rattle.sheet.proofs.Lookups.{is_nth_lem, nth_at, nth_step, too_few, placed}
+use Rattle.sheet.proofs.Stored.{below, named_below, stored}
 use Rattle.owners.specs.inner.Owners.{owner_kind, owner_of, owner_place, own_place, res_place, owned_key, Numbered, Linked}
 
 -- ---- how large the entries are
@@ -74,11 +72,9 @@ module _ (rows : List ℤ) (k : ℕ) {r : ℕ} where
   owned_below e l = omega (arith, own_below rows k)
 
 module _ (rows : List ℤ) {t : List ℕ} where
-  pub number_at : (m : ℕ) → Numbered rows t → m < 800 → get_or t m 0 ≡ or_end rows (constraint_place rows m)
-  number_at m h l = h.number m l
-
-  pub number_fits : {m : ℕ} → Numbered rows t → m < 800 → Fits w64 (get_or t m 0)
-  number_fits {m} h l = record { fits = omega (arith, h.short, h.number m l, nth_below rows (is_constraint rows) m) }
+  pub number_read : {m i : ℕ} {x : Option ℕ} → Numbered rows t → m < 800 → i ≡ get_or t m 0 → x ≡ stored_place rows i → x ≡ constraint_place rows m
+  number_read {m} h l e q =
+      q ∙ stored rows (constraint_place rows m) (e ∙ h.number m l) (λ k r. (nth_at (is_constraint rows) m (row_count rows) k r).0)
 
   pub own_entry : (k : ℕ) → Linked rows t → k < row_count rows → get_or t k 0 ≡ own_place rows k
   own_entry k h l = h.own k l
@@ -152,9 +148,8 @@ numbering_end rows k seen n t h a b e s = record {
 }
 
 -- a number that no constraint has
-pub past_end : (rows : List ℤ) (m n : ℕ) → n ≡ row_count rows → row_count rows ≤ 800 → 800 ≤ m → n ≡ or_end rows (constraint_place rows m)
-unfolding or_end
-past_end rows m n e s l = rw (too_few (is_constraint rows) m (row_count rows) (omega (arith, count_le (is_constraint rows) (row_count rows)))) e
+pub past_end : (rows : List ℤ) (m : ℕ) → row_count rows ≤ 800 → 800 ≤ m → None ≡ constraint_place rows m
+past_end rows m s l = sym (too_few (is_constraint rows) m (row_count rows) (omega (arith, count_le (is_constraint rows) (row_count rows))))
 
 -- ---- the links
 
@@ -204,58 +199,8 @@ filling_end rows n k t l u e s h = record {
   past = λ j z w. let r = h.rest j (omega arith) w in (r.0 ∙ e, r.1 ∙ e);
 }
 
--- ---- the row that a row belongs to, by the kind of its owner
-
-module _ (rows : List ℤ) (k : ℕ) {kind : ℕ} {x : Option Owner} (e : kind ≡ num rows k 0) (q : x ≡ owner_kind kind) where
-  pub own_at : (v : Option Owner) → x ≡ v → or_end rows (owner_of rows v k) ≡ own_place rows k
-  unfolding own_place owner_place
-  own_at v r = ap (λ y. or_end rows (owner_of rows y k)) (sym r ∙ q ∙ ap owner_kind e)
-
-  pub own_none : x ≡ None → row_count rows ≡ own_place rows k
-  unfolding owner_of or_end
-  own_none w = own_at None w
-
-  pub own_task : {v r : ℕ} {f : Option ℕ} → x ≡ Some TaskRow → v ≡ num rows k 2 → f ≡ place_of rows 1 v → r ≡ or_end rows f → r ≡ own_place rows k
-  unfolding owner_of
-  own_task w v f r = r ∙ ap (or_end rows) (rw v at f) ∙ own_at (Some TaskRow) w
-
-  pub own_activity : {v r : ℕ} {f : Option ℕ} → x ≡ Some ActivityRow → v ≡ num rows k 1 → f ≡ place_of rows 2 v → r ≡ or_end rows f → r ≡ own_place rows k
-  unfolding owner_of
-  own_activity w v f r = r ∙ ap (or_end rows) (rw v at f) ∙ own_at (Some ActivityRow) w
-
-  pub own_resource : {v r : ℕ} {f : Option ℕ} → x ≡ Some ResourceRow → v ≡ num rows k 1 → f ≡ place_of rows 11 v → r ≡ or_end rows f → r ≡ own_place rows k
-  unfolding owner_of
-  own_resource w v f r = r ∙ ap (or_end rows) (rw v at f) ∙ own_at (Some ResourceRow) w
-
-  pub own_requirement : {a m r : ℕ} {f : Option ℕ} → x ≡ Some RequirementRow → a ≡ num rows k 1 → m ≡ num rows k 2 → f ≡ requirement_place rows a m → r ≡ or_end rows f → r ≡ own_place rows k
-  unfolding owner_of
-  own_requirement w a m f r = r ∙ ap (or_end rows) (rw (a, m) at f) ∙ own_at (Some RequirementRow) w
-
-  pub own_constraint : {m r : ℕ} → x ≡ Some ConstraintRow → m ≡ num rows k 1 → r ≡ or_end rows (constraint_place rows m) → r ≡ own_place rows k
-  unfolding owner_of
-  own_constraint w m r = (rw m at r) ∙ own_at (Some ConstraintRow) w
-
--- the row of a booking's resource
-module _ (rows : List ℤ) (k : ℕ) {b : Bool} (e : b ≡ is rows k 0 23) where
-  pub res_found : {v r : ℕ} {f : Option ℕ} → b ≡ true → v ≡ num rows k 3 → f ≡ place_of rows 11 v → r ≡ or_end rows f → r ≡ res_place rows k
-  unfolding res_place
-  res_found q v f r = rw (sym e ∙ q, ← v, ← f) r
-
-  pub res_none : {n : ℕ} → b ≡ false → n ≡ row_count rows → n ≡ res_place rows k
-  unfolding res_place
-  res_none q r = rw (sym e ∙ q) r
-
--- the place of number m of the rows that pass a test, along the chain of these rows
-module _ {q : ℕ → Bool} {n N i seen : ℕ} (l : i < N) (z : N ≡ n) (s : Stands q n i) (e : seen ≡ count_below q i) where
-  pub nth_fits : n ≤ 800 → Fits w64 (seen + 1)
-  nth_fits u = record { fits = omega (arith, counted_le q i e) }
-
-  pub nth_found : {m : ℕ} → first_place (is_nth q m) i ≡ None → seen ≡ m → Some i ≡ nth_place q m n
-  unfolding nth_place
-  nth_found f r = seek_hit _ n N i l z f (nth_here _ _ _ e (s.here (omega arith)) r)
-
-  pub nth_counted : {j : ℕ} → First q (suc i) n j → seen + 1 ≡ count_below q j
-  nth_counted f = count_next _ f (itself _) e (rw (s.here (omega arith)))
-
-  pub nth_passed : {m j : ℕ} → First q (suc i) n j → first_place (is_nth q m) i ≡ None → (seen ≡ m → ⊥) → first_place (is_nth q m) j ≡ None
-  nth_passed f g r = seek_next _ f (nth_blind _ (itself _)) g (nth_other _ _ _ e (s.here (omega arith)) r)
+-- the row that a row belongs to, by the kind of its owner
+pub own_at : (rows : List ℤ) (k : ℕ) {kind : ℕ} {x : Option Owner} → kind ≡ num rows k 0 → x ≡ owner_kind kind → (v : Option Owner) → x ≡ v
+    → or_end rows (owner_of rows v k) ≡ own_place rows k
+unfolding own_place owner_place
+own_at rows k e q v r = ap (λ y. or_end rows (owner_of rows y k)) (sym r ∙ q ∙ ap owner_kind e)

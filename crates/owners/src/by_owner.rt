@@ -24,7 +24,8 @@ pub trait LinkIndex: Rows {
         requires { (k < row_count (Self.rows self.now)) × (owner_kind (num (Self.rows self.now) k 0) ≡ Some Owner.ActivityRow) }
         ensures { found_of result ≡ activity_place (Self.rows self.now) (num (Self.rows self.now) k 1) }
     {
-        crate::activity_of(self.as_slice(), self.links(), k)
+        let rows = self.as_slice();
+        Found::from(sheet::stored_place(rows, crate::owner_of(rows, self.links(), k)))
     }
 
     // The row of the task that activity k is of.
@@ -32,7 +33,8 @@ pub trait LinkIndex: Rows {
         requires { (k < row_count (Self.rows self.now)) × (is (Self.rows self.now) k 0 2 ≡ true) }
         ensures { result ≡ task_place (Self.rows self.now) (num (Self.rows self.now) k 2) }
     {
-        crate::task_of(self.as_slice(), self.links(), k).or_none()
+        let rows = self.as_slice();
+        sheet::stored_place(rows, crate::owner_of(rows, self.links(), k))
     }
 
     // The row of the resource that booking k names.
@@ -40,7 +42,8 @@ pub trait LinkIndex: Rows {
         requires { (k < row_count (Self.rows self.now)) × (is (Self.rows self.now) k 0 23 ≡ true) }
         ensures { found_of result ≡ resource_place (Self.rows self.now) (num (Self.rows self.now) k 3) }
     {
-        crate::booked_resource(self.as_slice(), self.links(), k)
+        let rows = self.as_slice();
+        Found::from(sheet::stored_place(rows, crate::resource_of(rows, self.links(), k)))
     }
 }
 
@@ -95,11 +98,12 @@ pub trait OwnerIndex: Rows {
     }
 
     // Whether a row of a kind belongs to row o.
+    #[tactic(auto, using(crate::proofs::Owning::some_first))]
     fn has_owned(&self, o: usize, kind: Kind) -> bool
         requires { o ≤ row_count (Self.rows self.now) }
         ensures { result ≡ any_below (owned_by (Self.rows self.now) o (kind_number kind)) (row_count (Self.rows self.now)) }
     {
-        crate::has_owned(self.as_slice(), self.owned(), o, kind.number() as usize)
+        self.find_owned(o, kind).is_some()
     }
 }
 

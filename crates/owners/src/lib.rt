@@ -9,32 +9,21 @@ ghost use Rattle.rows.specs.Cells.{row_count, num, is};
 ghost use Rattle.sheet.specs.Places.{task_place, activity_place, resource_place, requirement_place, is_constraint, constraint_place};
 ghost use Rattle.sheet.specs.inner.Found.{found_of};
 ghost use Rattle.sheet.specs.inner.Index.{or_end, Kinds};
-ghost use Rattle.owners.specs.inner.Owners.{owner_kind, own_place, res_place, owned_by, owned_key, Numbered, Linked, Owned};
+ghost use Rattle.owners.specs.inner.Owners.{owner_kind, owner_place, own_place, res_place, owned_by, owned_key, Numbered, Linked, Owned};
 
 pub mod by_owner;
 
 pub use by_owner::{ByOwner, LinkIndex, OwnerIndex, Owners};
 use rows::Kind;
-use sheet::Found;
+use sheet::{ByKind, KindIndex, Rows};
 
 // ---- a row by its number: among the requirements of an activity, or among the constraints
 
 // Requirement m, from 0, of an activity.
-fn find_requirement(rows: &[i64], kinds: &[u16; 3680], activity: u64, m: u64) -> Found
-    requires { Kinds rows.now kinds.now }
-    ensures { found_of result ≡ requirement_place rows.now activity m }
+fn find_requirement(rows: &ByKind, activity: u64, m: u64) -> Option<usize>
+    ensures { result ≡ requirement_place rows.now activity m }
 {
-    let n = rows::row_count(rows);
-    let mut seen: u64 = 0;
-    let mut i = sheet::first_named(rows, kinds, 5, activity);
-    while i < n {
-        if seen == m {
-            return Found::At(i);
-        }
-        seen += 1;
-        i = sheet::next_named(rows, kinds, 5, activity, i);
-    }
-    Found::Nothing
+    rows.named(Kind::Requirement, activity).nth(m as usize)
 }
 
 fn is_constraint(rows: &[i64], k: usize) -> bool
@@ -44,22 +33,17 @@ fn is_constraint(rows: &[i64], k: usize) -> bool
     17 <= kind && kind <= 21
 }
 
-// One more where the test holds.
-fn more(n: u64, yes: bool) -> u64
-    requires { n < 18446744073709551615 }
-    ensures { result ≡ n + cond yes 1 0 }
+// Row k at the next number, if it is a constraint; and the number after it.
+fn number_row(t: &mut [u16; 800], next: usize, k: usize, yes: bool) -> usize
+    requires { (k < 800) × (next ≤ k) }
+    ensures table { t.new ≡ cond yes (set t.old next k) t.old }
+    ensures value { result ≡ next + cond yes 1 0 }
 {
-    if yes { n + 1 } else { n }
-}
-
-// Row k at the next number, if it is a constraint.
-fn number_row(t: &mut [u16; 800], seen: usize, k: usize, yes: bool)
-    requires { (k < 800) × (seen ≤ k) }
-    ensures { t.new ≡ cond yes (set t.old seen k) t.old }
-{
-    if yes {
-        t[seen] = k as u16;
+    if !yes {
+        return next;
     }
+    t[next] = k as u16;
+    next + 1
 }
 
 // The row of constraint place m at place m.
@@ -69,26 +53,23 @@ fn numbers_of(rows: &[i64]) -> [u16; 800]
 {
     let n = rows::row_count(rows);
     let mut t = [n as u16; 800];
-    let mut seen: u64 = 0;
-    let mut k = 0;
-    while k < n {
-        let yes = is_constraint(rows, k);
-        number_row(&mut t, seen as usize, k, yes);
-        seen = more(seen, yes);
-        k += 1;
+    let mut next = 0;
+    for k in 0..n {
+        next = number_row(&mut t, next, k, is_constraint(rows, k));
     }
     t
 }
 
 // The row of constraint place m.
-fn constraint_at(rows: &[i64], numbers: &[u16; 800], m: u64) -> usize
+#[tactic(auto, using(crate::proofs::Tables::number_read, crate::proofs::Tables::past_end))]
+fn constraint_at(rows: &[i64], numbers: &[u16; 800], m: u64) -> Option<usize>
     requires { Numbered rows.now numbers.now }
-    ensures { result ≡ or_end rows.now (constraint_place rows.now m) }
+    ensures { result ≡ constraint_place rows.now m }
 {
     if m < 800 {
-        return numbers[m as usize] as usize;
+        return sheet::stored_place(rows, usize::from(numbers[m as usize]));
     }
-    rows::row_count(rows)
+    None
 }
 
 // ---- the row that a row belongs to
@@ -128,44 +109,39 @@ pub fn owner_kind(kind: u64) -> Option<Owner>
     }
 }
 
-fn own_place(rows: &[i64], kinds: &[u16; 3680], numbers: &[u16; 800], k: usize) -> usize
-    requires { Kinds rows.now kinds.now × Numbered rows.now numbers.now }
-    ensures { result ≡ own_place rows.now k }
+// The row that row k belongs to.
+#[tactic(auto, unfolding(crate::specs::inner::Owners::owner_place, crate::specs::inner::Owners::owner_of))]
+fn owner_place(rows: &ByKind, numbers: &[u16; 800], k: usize) -> Option<usize>
+    requires { Numbered rows.now numbers.now }
+    ensures { result ≡ owner_place rows.now k }
 {
-    match owner_kind(rows::num_at(rows, k, 0)) {
-        Some(Owner::TaskRow) => {
-            let task = rows::num_at(rows, k, 2);
-            sheet::or_end(rows, sheet::find_task(rows, kinds, task))
-        }
-        Some(Owner::ActivityRow) => {
-            let activity = rows::num_at(rows, k, 1);
-            sheet::or_end(rows, sheet::find_activity(rows, kinds, activity))
-        }
-        Some(Owner::RequirementRow) => {
-            let activity = rows::num_at(rows, k, 1);
-            let m = rows::num_at(rows, k, 2);
-            sheet::or_end(rows, find_requirement(rows, kinds, activity, m))
-        }
-        Some(Owner::ResourceRow) => {
-            let resource = rows::num_at(rows, k, 1);
-            sheet::or_end(rows, sheet::find_resource(rows, kinds, resource))
-        }
-        Some(Owner::ConstraintRow) => constraint_at(rows, numbers, rows::num_at(rows, k, 1)),
-        None => rows::row_count(rows),
+    match owner_kind(rows.num(k, 0))? {
+        Owner::TaskRow => rows.find_task(rows.num(k, 2)),
+        Owner::ActivityRow => rows.find_activity(rows.num(k, 1)).or_none(),
+        Owner::RequirementRow => find_requirement(rows, rows.num(k, 1), rows.num(k, 2)),
+        Owner::ResourceRow => rows.find_resource(rows.num(k, 1)).or_none(),
+        Owner::ConstraintRow => constraint_at(rows.as_slice(), numbers, rows.num(k, 1)),
     }
 }
 
-fn res_place(rows: &[i64], kinds: &[u16; 3680], k: usize) -> usize
-    requires { Kinds rows.now kinds.now }
+// The same as a number, the number of rows for none.
+#[tactic(auto, unfolding(crate::specs::inner::Owners::own_place))]
+fn own_place(rows: &ByKind, numbers: &[u16; 800], k: usize) -> usize
+    requires { Numbered rows.now numbers.now }
+    ensures { result ≡ own_place rows.now k }
+{
+    sheet::or_end(rows.as_slice(), owner_place(rows, numbers, k))
+}
+
+#[tactic(auto, unfolding(crate::specs::inner::Owners::res_place))]
+fn res_place(rows: &ByKind, k: usize) -> usize
     ensures { result ≡ res_place rows.now k }
 {
-    if rows::is_at(rows, k, 0, 23) {
-        return sheet::or_end(
-            rows,
-            sheet::find_resource(rows, kinds, rows::num_at(rows, k, 3)),
-        );
+    if rows.is_of_kind(k, Kind::Booking) {
+        let resource = rows.find_resource(rows.num(k, 3));
+        return sheet::or_end(rows.as_slice(), resource.or_none());
     }
-    rows::row_count(rows)
+    rows.row_count()
 }
 
 fn set_links(t: &mut [u16; 1600], k: usize, own: usize, res: usize)
@@ -177,19 +153,15 @@ fn set_links(t: &mut [u16; 1600], k: usize, own: usize, res: usize)
 }
 
 // Fills the table of owners: the row that row k belongs to at place k, the row of a booking's resource at place 800 + k.
-pub fn links_into(rows: &[i64], kinds: &[u16; 3680], t: &mut [u16; 1600])
-    requires { Kinds rows.now kinds.now × (length t.old ≡ 1600) }
+pub fn links_into(rows: &ByKind, t: &mut [u16; 1600])
+    requires { length t.old ≡ 1600 }
     ensures { Linked rows.now t.new }
 {
-    let n = rows::row_count(rows);
-    let numbers = numbers_of(rows);
-    sheet::clear_table(t, n as u16);
-    let mut k = 0;
-    while k < n {
-        let own = own_place(rows, kinds, &numbers, k);
-        let res = res_place(rows, kinds, k);
-        set_links(t, k, own, res);
-        k += 1;
+    let n = rows.row_count();
+    let numbers = numbers_of(rows.as_slice());
+    t.fill(n as u16);
+    for k in 0..n {
+        set_links(t, k, own_place(rows, &numbers, k), res_place(rows, k));
     }
 }
 
@@ -207,30 +179,6 @@ fn resource_of(rows: &[i64], links: &[u16; 1600], k: usize) -> usize
     ensures { result ≡ res_place rows.now k }
 {
     links[800 + k] as usize
-}
-
-// The row of the activity that row k, a booking or a time-only span, names.
-pub fn activity_of(rows: &[i64], links: &[u16; 1600], k: usize) -> Found
-    requires { Linked rows.now links.now × (k < row_count rows.now) × (owner_kind (num rows.now k 0) ≡ Some Owner.ActivityRow) }
-    ensures { found_of result ≡ activity_place rows.now (num rows.now k 1) }
-{
-    sheet::found_at(rows, owner_of(rows, links, k))
-}
-
-// The row of the task that activity k is of.
-pub fn task_of(rows: &[i64], links: &[u16; 1600], k: usize) -> Found
-    requires { Linked rows.now links.now × (k < row_count rows.now) × (is rows.now k 0 2 ≡ true) }
-    ensures { found_of result ≡ task_place rows.now (num rows.now k 2) }
-{
-    sheet::found_at(rows, owner_of(rows, links, k))
-}
-
-// The row of the resource that booking k names.
-pub fn booked_resource(rows: &[i64], links: &[u16; 1600], k: usize) -> Found
-    requires { Linked rows.now links.now × (k < row_count rows.now) × (is rows.now k 0 23 ≡ true) }
-    ensures { found_of result ≡ resource_place rows.now (num rows.now k 3) }
-{
-    sheet::found_at(rows, resource_of(rows, links, k))
 }
 
 // ---- the rows that belong to a row
@@ -260,15 +208,14 @@ pub fn owned_into(rows: &[i64], links: &[u16; 1600], t: &mut [u16; 8810])
     ensures { Owned rows.now t.new }
 {
     let n = rows::row_count(rows);
-    sheet::clear_table(t, n as u16);
-    let mut i = n;
-    while 0 < i {
-        i -= 1;
+    t.fill(n as u16);
+    for i in (0..n).rev() {
         link_owned(t, owned_key(rows, links, i), i);
     }
 }
 
-// The first row of kind x from row j on, along the chain of owner o. Two kinds may share a chain.
+// The first row of kind x from row j on, along the chain of owner o. Two kinds may share a chain. A loop by hand: it goes along the
+// table, while the walks go along what it finds.
 fn skip_to(rows: &[i64], owned: &[u16; 8810], o: usize, x: usize, j: usize) -> usize
     requires { Owned rows.now owned.now × Stands (same (owned_key rows.now) (o * 10 + x % 10)) (row_count rows.now) j }
     ensures { First (owned_by rows.now o x) j (row_count rows.now) result }
@@ -285,7 +232,7 @@ fn skip_to(rows: &[i64], owned: &[u16; 8810], o: usize, x: usize, j: usize) -> u
 }
 
 // The first row of kind x that belongs to row o.
-pub fn first_owned(rows: &[i64], owned: &[u16; 8810], o: usize, x: usize) -> usize
+fn first_owned(rows: &[i64], owned: &[u16; 8810], o: usize, x: usize) -> usize
     requires { Owned rows.now owned.now × (o ≤ row_count rows.now) }
     ensures { First (owned_by rows.now o x) 0 (row_count rows.now) result }
 {
@@ -294,26 +241,10 @@ pub fn first_owned(rows: &[i64], owned: &[u16; 8810], o: usize, x: usize) -> usi
 }
 
 // The next row of kind x that belongs to row o, after row i.
-pub fn next_owned(rows: &[i64], owned: &[u16; 8810], o: usize, x: usize, i: usize) -> usize
+fn next_owned(rows: &[i64], owned: &[u16; 8810], o: usize, x: usize, i: usize) -> usize
     requires { Owned rows.now owned.now × Stands (owned_by rows.now o x) (row_count rows.now) i × (i < row_count rows.now) }
     ensures { First (owned_by rows.now o x) (suc i) (row_count rows.now) result }
 {
     let j = owned[i] as usize;
     skip_to(rows, owned, o, x, j)
-}
-
-// The first row of kind x that belongs to row o, if there is one.
-pub fn find_owned(rows: &[i64], owned: &[u16; 8810], o: usize, x: usize) -> Found
-    requires { Owned rows.now owned.now × (o ≤ row_count rows.now) }
-    ensures { found_of result ≡ first_place (owned_by rows.now o x) (row_count rows.now) }
-{
-    sheet::found_at(rows, first_owned(rows, owned, o, x))
-}
-
-// Whether a row of kind x belongs to row o.
-pub fn has_owned(rows: &[i64], owned: &[u16; 8810], o: usize, x: usize) -> bool
-    requires { Owned rows.now owned.now × (o ≤ row_count rows.now) }
-    ensures { result ≡ any_below (owned_by rows.now o x) (row_count rows.now) }
-{
-    first_owned(rows, owned, o, x) < rows::row_count(rows)
 }

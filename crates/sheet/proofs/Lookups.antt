@@ -1,18 +1,21 @@
 -- Laws of the lookups: a row by kind and id, and number m of the rows that pass a test. Assumes nothing.
 use Prim.Native.Nat.{ℕ, zero, suc, ◌+◌, ◌<◌, ◌≤◌}
-use mathlib.Core.Path.{◌≡◌, refl, sym, ap, ◌∙◌}
+use mathlib.Core.Path.{◌≡◌, refl, sym, ap, ap₂, ◌∙◌}
 use mathlib.Core.Bool.{Bool, true, false, cond, ◌&&◌}
-use mathlib.Core.List.{List}
-use Rattle.std.specs.Prelude.{Option, None, Some}
+use mathlib.Core.List.{List, [], ◌∷◌, ◌++◌, append-nil}
+use Rattle.std.specs.Prelude.{Option, None, Some, slice_get}
 use native.Mathlib.Omega.{arith}
-use lib.Dec.{eqb}
+use lib.Dec.{eqb, eqb-suc-suc, eqb-zero-suc}
+use lib.ListN.{length, length-append}
 use lib.IntN.{ℤ}
 use borrow.Author.Tests.{eqb-true, eq-eqb, ne_eqb}
-use Rattle.loops.specs.Lists.{option}
+use Rattle.loops.specs.Lists.{given, option}
+use Rattle.loops.specs.Range.{collect}
 use Rattle.loops.specs.Search.{or_else, some_if, first_place, count_below}
 use Rattle.loops.specs.inner.Chain.{Blind}
 use Rattle.loops.proofs.BoolLaws.{and_left, and_right}
-use Rattle.loops.proofs.PlaceLaws.{found_at}
+use Rattle.loops.proofs.PlaceLaws.{found_at, or_none_lem}
+use Rattle.chains.specs.Places.{places}
 use Rattle.rows.specs.Cells.{row_count, num, is}
 use Rattle.sheet.specs.Places.{named, place_of, is_nth, nth_place}
 use Rattle.sheet.specs.declared.Found.{Found}
@@ -94,6 +97,31 @@ module _ (q : ℕ → Bool) (m : ℕ) where
   pub nth_step : (k : ℕ) → nth_place q m (suc k) ≡ or_else (nth_place q m k) (some_if (is_nth q m k) k)
   unfolding nth_place first_place
   nth_step k = refl
+
+get_last : (l : List ℕ) (n m : ℕ) → slice_get (l ++ n ∷ []) m ≡ or_else (slice_get l m) (some_if (eqb (length l) m) n)
+get_last [] n zero = refl
+get_last [] n (suc m) = ap (λ b. some_if b n) (sym (eqb-zero-suc m))
+get_last (x ∷ l) n zero = refl
+get_last (x ∷ l) n (suc m) = get_last l n m ∙ ap (λ b. or_else (slice_get l m) (some_if b n)) (sym (eqb-suc-suc (length l) m))
+
+counted : (p : ℕ → Bool) (n : ℕ) → length (places p n) ≡ count_below p n
+unfolding places collect count_below
+counted p zero = refl
+counted p (suc n) = go (p n) (counted p n)
+  where
+    go : (b : Bool) → length (places p n) ≡ count_below p n → length (places p n ++ given b n) ≡ count_below p n + cond b 1 0
+    go true e = length-append (places p n) (n ∷ []) ∙ ap (λ x. x + 1) e
+    go false e = length-append (places p n) [] ∙ ap (λ x. x + 0) e
+
+-- number m of the places that pass, as a list
+pub nth_places : (p : ℕ → Bool) (m n : ℕ) → slice_get (places p n) m ≡ nth_place p m n
+unfolding places collect nth_place first_place is_nth
+nth_places p m zero = refl
+nth_places p m (suc n) = go (p n) (nth_places p m n)
+  where
+    go : (b : Bool) → slice_get (places p n) m ≡ nth_place p m n → slice_get (places p n ++ given b n) m ≡ or_else (nth_place p m n) (some_if (b && eqb (count_below p n) m) n)
+    go true e = get_last (places p n) n m ∙ ap₂ or_else e (ap (λ c. some_if (eqb c m) n) (counted p n))
+    go false e = ap (λ l. slice_get l m) (append-nil (places p n)) ∙ e ∙ sym (or_none_lem (nth_place p m n))
 
 -- ---- a row that was found
 

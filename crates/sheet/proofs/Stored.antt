@@ -15,9 +15,6 @@ use Rattle.loops.proofs.TableLaws.{first_found, first_absent}
 use Rattle.rows.specs.Cells.{row_count}
 use Rattle.sheet.specs.Places.{place_of, nth_place}
 use Rattle.sheet.specs.inner.Index.{or_end, stored_place}
-use Rattle.sheet.specs.declared.Found.{Found}
-use Rattle.sheet.specs.declared.Found.TheVariants.{Nothing}
-use Rattle.sheet.specs.inner.Found.{found_of}
 use Rattle.sheet.proofs.Lookups.{nth_at, placed}
 
 -- ---- it is at most the number of rows
@@ -44,10 +41,6 @@ module _ (rows : List ℤ) {n : ℕ} (e : n ≡ row_count rows) where
   pub stored_none : {k : ℕ} → n ≤ k → None ≡ stored_place rows k
   unfolding stored_place
   stored_none {k} l = rw (le-ltb k (row_count rows) (rw e at l))
-
-  pub end_none : {f : Found} → f ≡ Nothing → n ≡ or_end rows (found_of f)
-  unfolding or_end
-  end_none q = rw q e
 
 module _ (rows : List ℤ) where
   -- a place that was stored names the row that it was found at

@@ -3,15 +3,15 @@ ghost use Rattle.std.specs.Prelude.{◌≡◌, ◌<◌, ◌≤◌};
 ghost use Rattle.rows.specs.Cells.{row_count};
 ghost use Rattle.sheet.specs.inner.Index.{Kinds};
 
-use chains::{Chain, Walk};
 use crate::Found;
+use chains::{Chain, Walk};
 use rows::Kind;
 use std::marker::Model;
 
 // What holds the rows of a sheet.
 pub trait Rows {
     ghost use Rattle.std.specs.Prelude.{◌≡◌, ◌<◌, ◌≤◌, List, ℤ};
-    ghost use Rattle.rows.specs.Kinds.{kind_number};
+    ghost use Rattle.rows.specs.Kinds.{kind_of, kind_number};
     ghost use Rattle.rows.specs.Cells.{row_count, cell, num, is};
     ghost use Rattle.rows.specs.Ranges.{is_none};
 
@@ -52,6 +52,13 @@ pub trait Rows {
         rows::is_at(self.as_slice(), k, c, v)
     }
 
+    // The kind of row k, if its number stands for one.
+    fn kind_at(&self, k: usize) -> Option<Kind>
+        ensures { result ≡ kind_of (num (rows self.now) k 0) }
+    {
+        rows::kind_at(self.as_slice(), k)
+    }
+
     fn is_of_kind(&self, k: usize, kind: Kind) -> bool
         ensures { result ≡ is (rows self.now) k 0 (kind_number kind) }
     {
@@ -73,7 +80,9 @@ pub trait KindIndex: Rows {
     ghost use Rattle.rows.specs.Kinds.{kind_number};
     ghost use Rattle.rows.specs.Cells.{row_count};
     ghost use Rattle.sheet.specs.Places.{of_kind, named, place_of, task_place, activity_place, resource_place};
+    ghost use Rattle.loops.specs.Search.{any_below};
     ghost use Rattle.sheet.specs.inner.Found.{found_of};
+    ghost use Rattle.sheet.specs.inner.Groups.{named_pair};
     ghost use Rattle.sheet.specs.inner.Index.{Kinds};
 
     fn kinds(&self) -> &[u16; 3680]
@@ -84,7 +93,10 @@ pub trait KindIndex: Rows {
         ensures places { result ≡ places (of_kind (Self.rows self.now) (kind_number kind)) (row_count (Self.rows self.now)) }
         ensures known { Self.known (Self.rows self.now) }
     {
-        Walk::new(KindChain { rows: ByKind::new(self.as_slice(), self.kinds()), kind })
+        Walk::new(KindChain {
+            rows: ByKind::new(self.as_slice(), self.kinds()),
+            kind,
+        })
     }
 
     // The rows of a kind with that number in column 1.
@@ -92,7 +104,11 @@ pub trait KindIndex: Rows {
         ensures places { result ≡ places (named (Self.rows self.now) (kind_number kind) id) (row_count (Self.rows self.now)) }
         ensures known { Self.known (Self.rows self.now) }
     {
-        Walk::new(NamedChain { rows: ByKind::new(self.as_slice(), self.kinds()), kind, id })
+        Walk::new(NamedChain {
+            rows: ByKind::new(self.as_slice(), self.kinds()),
+            kind,
+            id,
+        })
     }
 
     // Those above row k.
@@ -101,7 +117,30 @@ pub trait KindIndex: Rows {
         ensures places { result ≡ places (named (Self.rows self.now) (kind_number kind) id) k }
         ensures known { Self.known (Self.rows self.now) }
     {
-        Walk::below(NamedChain { rows: ByKind::new(self.as_slice(), self.kinds()), kind, id }, k)
+        Walk::below(
+            NamedChain {
+                rows: ByKind::new(self.as_slice(), self.kinds()),
+                kind,
+                id,
+            },
+            k,
+        )
+    }
+
+    // Whether an earlier row than k is of a kind, with that id.
+    fn has_earlier(&self, kind: Kind, id: u64, k: usize) -> bool
+        requires { k ≤ row_count (Self.rows self.now) }
+        ensures { result ≡ any_below (named (Self.rows self.now) (kind_number kind) id) k }
+    {
+        crate::first_named(self.as_slice(), self.kinds(), kind.number() as usize, id) < k
+    }
+
+    // Whether one of those has that number in column 2.
+    fn has_earlier_pair(&self, kind: Kind, id: u64, other: u64, k: usize) -> bool
+        requires { k ≤ row_count (Self.rows self.now) }
+        ensures { result ≡ any_below (named_pair (Self.rows self.now) (kind_number kind) id other) k }
+    {
+        self.named_above(kind, id, k).any(|i| self.has(i, 2, other))
     }
 
     // The first row of a kind with that id.
@@ -210,7 +249,12 @@ impl<'a> Chain for KindChain<'a> {
     }
 
     fn next_place(&self, i: usize) -> usize {
-        crate::next_of(self.rows.rows, self.rows.table, self.kind.number() as usize, i)
+        crate::next_of(
+            self.rows.rows,
+            self.rows.table,
+            self.kind.number() as usize,
+            i,
+        )
     }
 }
 
@@ -244,10 +288,21 @@ impl<'a> Chain for NamedChain<'a> {
     }
 
     fn first_place(&self) -> usize {
-        crate::first_named(self.rows.rows, self.rows.table, self.kind.number() as usize, self.id)
+        crate::first_named(
+            self.rows.rows,
+            self.rows.table,
+            self.kind.number() as usize,
+            self.id,
+        )
     }
 
     fn next_place(&self, i: usize) -> usize {
-        crate::next_named(self.rows.rows, self.rows.table, self.kind.number() as usize, self.id, i)
+        crate::next_named(
+            self.rows.rows,
+            self.rows.table,
+            self.kind.number() as usize,
+            self.id,
+            i,
+        )
     }
 }

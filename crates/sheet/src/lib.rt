@@ -16,7 +16,7 @@ pub mod by_kind;
 
 pub use by_kind::{ByKind, KindIndex, Rows};
 
-// What a lookup answers.
+// What a lookup of an activity or a resource answers.
 #[derive(Clone, Copy)]
 pub enum Found {
     At(usize),
@@ -51,36 +51,22 @@ impl Found {
 
 // ---- tables of places
 
-// Every place of a table says n.
-pub fn clear_table(t: &mut [u16], n: u16)
-    ensures { t.new ≡ replicate (length t.old) n }
-{
-    let end = t.len();
-    let mut j = 0;
-    while j < end {
-        t[j] = n;
-        j += 1;
-    }
-}
-
 // A place as a number, the number of rows for none: tables of places hold it so, and only who fills or reads one asks for it.
-pub fn or_end(rows: &[i64], f: Found) -> usize
-    ensures { result ≡ or_end rows.now (found_of f) }
+#[tactic(auto, unfolding(crate::specs::inner::Index::or_end))]
+pub fn or_end(rows: &[i64], place: Option<usize>) -> usize
+    ensures { result ≡ or_end rows.now place }
 {
-    match f {
-        Found::At(k) => k,
-        Found::Nothing => rows::row_count(rows),
-    }
+    place.unwrap_or(rows::row_count(rows))
 }
 
 // The row that a stored place names.
-pub fn found_at(rows: &[i64], i: usize) -> Found
-    ensures { found_of result ≡ stored_place rows.now i }
+pub fn stored_place(rows: &[i64], i: usize) -> Option<usize>
+    ensures { result ≡ stored_place rows.now i }
 {
     if i < rows::row_count(rows) {
-        return Found::At(i);
+        return Some(i);
     }
-    Found::Nothing
+    None
 }
 
 // ---- rows by kind
@@ -120,10 +106,8 @@ pub fn kinds_into(rows: &[i64], t: &mut [u16; 3680])
     ensures { Kinds rows.now t.new }
 {
     let n = rows::row_count(rows);
-    clear_table(t, n as u16);
-    let mut i = n;
-    while 0 < i {
-        i -= 1;
+    t.fill(n as u16);
+    for i in (0..n).rev() {
         let x = rows::num_at(rows, i, 0);
         link_kind(t, x as usize, i);
         link_name(t, name_key(x as usize, rows::num_at(rows, i, 1)), i);
@@ -131,7 +115,7 @@ pub fn kinds_into(rows: &[i64], t: &mut [u16; 3680])
 }
 
 // The first row of kind k.
-pub fn first_of(rows: &[i64], kinds: &[u16; 3680], k: usize) -> usize
+fn first_of(rows: &[i64], kinds: &[u16; 3680], k: usize) -> usize
     requires { Kinds rows.now kinds.now × (k < 32) }
     ensures { First (of_kind rows.now k) 0 (row_count rows.now) result }
 {
@@ -139,7 +123,7 @@ pub fn first_of(rows: &[i64], kinds: &[u16; 3680], k: usize) -> usize
 }
 
 // The next row of kind k after row i of that kind.
-pub fn next_of(rows: &[i64], kinds: &[u16; 3680], k: usize, i: usize) -> usize
+fn next_of(rows: &[i64], kinds: &[u16; 3680], k: usize, i: usize) -> usize
     requires { Kinds rows.now kinds.now × Stands (of_kind rows.now k) (row_count rows.now) i × (i < row_count rows.now) }
     ensures { First (of_kind rows.now k) (suc i) (row_count rows.now) result }
 {
@@ -173,7 +157,7 @@ fn next_hashed(rows: &[i64], kinds: &[u16; 3680], x: usize, id: u64, i: usize) -
     kinds[832 + i] as usize
 }
 
-// The first row of kind x with that number in column 1 from row j on, along their chain.
+// The first row of kind x with that number in column 1 from row j on, along their chain. A loop by hand: it goes along the table, while the walks go along what it finds.
 fn skip_named(rows: &[i64], kinds: &[u16; 3680], x: usize, id: u64, j: usize) -> usize
     requires { Kinds rows.now kinds.now × Stands (same (name_key rows.now) (name_hash x id)) (row_count rows.now) j }
     ensures { First (named rows.now x id) j (row_count rows.now) result }
@@ -190,7 +174,7 @@ fn skip_named(rows: &[i64], kinds: &[u16; 3680], x: usize, id: u64, j: usize) ->
 }
 
 // The first row of kind x with that number in column 1.
-pub fn first_named(rows: &[i64], kinds: &[u16; 3680], x: usize, id: u64) -> usize
+fn first_named(rows: &[i64], kinds: &[u16; 3680], x: usize, id: u64) -> usize
     requires { Kinds rows.now kinds.now × (x < 32) }
     ensures { First (named rows.now x id) 0 (row_count rows.now) result }
 {
@@ -198,72 +182,11 @@ pub fn first_named(rows: &[i64], kinds: &[u16; 3680], x: usize, id: u64) -> usiz
 }
 
 // The next such row after row i, which is one.
-pub fn next_named(rows: &[i64], kinds: &[u16; 3680], x: usize, id: u64, i: usize) -> usize
+fn next_named(rows: &[i64], kinds: &[u16; 3680], x: usize, id: u64, i: usize) -> usize
     requires { Kinds rows.now kinds.now × Stands (named rows.now x id) (row_count rows.now) i × (i < row_count rows.now) }
     ensures { First (named rows.now x id) (suc i) (row_count rows.now) result }
 {
     skip_named(rows, kinds, x, id, next_hashed(rows, kinds, x, id, i))
-}
-
-// Column 2 first: of the rows of one name only that number tells them apart.
-fn is_pair(rows: &[i64], x: usize, id: u64, other: u64, i: usize) -> bool
-    ensures { result ≡ named_pair rows.now x id other i }
-{
-    if !rows::is_at(rows, i, 2, other) {
-        return false;
-    }
-    is_named(rows, x, id, i)
-}
-
-// An earlier row than k is of kind x with that id and that number in column 2.
-pub fn has_earlier_pair(
-    rows: &[i64],
-    kinds: &[u16; 3680],
-    x: usize,
-    id: u64,
-    other: u64,
-    k: usize,
-) -> bool
-    requires { Kinds rows.now kinds.now × (x < 32) × (k ≤ row_count rows.now) }
-    ensures { result ≡ any_below (named_pair rows.now x id other) k }
-{
-    let mut i = first_hashed(rows, kinds, x, id);
-    while i < k {
-        if is_pair(rows, x, id, other, i) {
-            return true;
-        }
-        i = next_hashed(rows, kinds, x, id, i);
-    }
-    false
-}
-
-// The first row of kind x with that id.
-pub fn find_named(rows: &[i64], kinds: &[u16; 3680], x: usize, id: u64) -> Found
-    requires { Kinds rows.now kinds.now × (x < 32) }
-    ensures { found_of result ≡ place_of rows.now x id }
-{
-    found_at(rows, first_named(rows, kinds, x, id))
-}
-
-pub fn find_task(rows: &[i64], kinds: &[u16; 3680], id: u64) -> Found
-    requires { Kinds rows.now kinds.now }
-    ensures { found_of result ≡ task_place rows.now id }
-{
-    find_named(rows, kinds, 1, id)
-}
-
-pub fn find_activity(rows: &[i64], kinds: &[u16; 3680], id: u64) -> Found
-    requires { Kinds rows.now kinds.now }
-    ensures { found_of result ≡ activity_place rows.now id }
-{
-    find_named(rows, kinds, 2, id)
-}
-
-pub fn find_resource(rows: &[i64], kinds: &[u16; 3680], id: u64) -> Found
-    requires { Kinds rows.now kinds.now }
-    ensures { found_of result ≡ resource_place rows.now id }
-{
-    find_named(rows, kinds, 11, id)
 }
 
 // ---- places that a caller keeps, one for each row
@@ -276,23 +199,17 @@ fn set_place(t: &mut [u16; 800], k: usize, i: usize)
 }
 
 // Keeps what was found for row k.
-pub fn keep_place(rows: &[i64], t: &mut [u16; 800], k: usize, f: Found)
-    requires { (row_count rows.now ≤ 800) × (k < 800) × IsRow rows.now (found_of f) }
-    ensures { t.new ≡ set t.old k (or_end rows.now (found_of f)) }
+pub fn keep_place(rows: &[i64], t: &mut [u16; 800], k: usize, place: Option<usize>)
+    requires { (row_count rows.now ≤ 800) × (k < 800) × IsRow rows.now place }
+    ensures { t.new ≡ set t.old k (or_end rows.now place) }
 {
-    set_place(t, k, or_end(rows, f));
-}
-
-fn wide(x: u16) -> usize
-    ensures { result ≡ x }
-{
-    x as usize
+    set_place(t, k, or_end(rows, place));
 }
 
 // What was kept for row k.
-pub fn kept_place(rows: &[i64], t: &[u16; 800], k: usize) -> Found
+pub fn kept_place(rows: &[i64], t: &[u16; 800], k: usize) -> Option<usize>
     requires { k < 800 }
-    ensures { found_of result ≡ stored_place rows.now (get_or t.now k 0) }
+    ensures { result ≡ stored_place rows.now (get_or t.now k 0) }
 {
-    found_at(rows, wide(t[k]))
+    stored_place(rows, usize::from(t[k]))
 }

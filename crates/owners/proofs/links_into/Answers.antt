@@ -1,4 +1,4 @@
-use borrow.Author.Rules.{rules}
+use Rattle.std.proofs.Common.{rules}
 use Rattle.owners.proofs.Tables.{filling_start, filling_turn, filling_end, own_read, res_read}
 use Rattle.owners.proofs.links_into.Goals as goal
 
@@ -9,7 +9,7 @@ pub set_links-requires : goal.set_links-requires
 set_links-requires c = search (rules, own_read, res_read)
 
 pub loop-k-preserved : goal.loop-k-preserved
-loop-k-preserved c = (search rules, search filling_turn)
+loop-k-preserved c = search (rules, filling_turn)
 
 pub returns : goal.returns
 returns c = search (rules, filling_end)
