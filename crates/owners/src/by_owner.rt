@@ -179,6 +179,13 @@ impl<'a> Owners<'a> {
     {
         Owners { rows, links, owned }
     }
+
+    // The rows by owner alone.
+    pub fn by_owner(&self) -> ByOwner<'a>
+        ensures { result ≡ self.now }
+    {
+        ByOwner::new(self.rows, self.owned)
+    }
 }
 
 impl<'a> Rows for Owners<'a> {

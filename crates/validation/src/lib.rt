@@ -1,16 +1,17 @@
 // Refusals 1 to 5 of a sheet: the first that applies, with its place, and the index of a sheet that none of them refuses.
 #![tactic(auto)]
 
-ghost use Rattle.std.specs.Prelude.{◌≡◌, length};
+ghost use Rattle.std.specs.Prelude.{ℕ, ◌≡◌, ◌<◌, length, Option};
 ghost use Rattle.loops.specs.Search.{first};
 ghost use Rattle.rows.specs.Cells.{row_count};
-ghost use Rattle.sheet.specs.inner.Index.{Kinds};
 ghost use Rattle.owners.specs.inner.Owners.{Linked};
+ghost use Rattle.refusals.specs.declared.Refusal.{Refusal};
 ghost use Rattle.refusals.specs.Refusals.{verdict_of};
 ghost use Rattle.sheet.specs.Refusals.{misshapen, column_fault, owner_fault, repeat_fault, refusal_of};
-ghost use Rattle.validation.specs.inner.Answer.{shape_refusal, link_refusal, Indexing};
+ghost use Rattle.validation.specs.inner.Answer.{shape_refusal, link_refusal, Tells, Indexing};
 
 use refusals::{Reason, Verdict};
+use sheet::{ByKind, Rows};
 
 // ---- 1 to 3, of the rows by themselves
 
@@ -20,12 +21,13 @@ fn is_misshapen(n: usize) -> bool
     n % 10 != 0 || 8000 < n
 }
 
-// The first row that 2 or 3 refuses.
-fn first_column_fault(rows: &[i64]) -> Verdict
-    ensures { verdict_of result ≡ first (column_fault rows.now) (row_count rows.now) }
+// What a test says of the first of so many rows that it refuses.
+fn first_fault<F: Fn(usize) -> Verdict>(count: usize, fault: F) -> Verdict
+    requires { (k : ℕ) → k < count → F.pre fault k }
+    ensures { (f : ℕ → Option Refusal) → Tells f count (F.post fault) → verdict_of result ≡ first f count }
 {
-    for k in 0..rows::row_count(rows) {
-        column_faults::column_fault(rows, k)?;
+    for k in 0..count {
+        fault(k)?;
     }
     Ok(())
 }
@@ -37,40 +39,25 @@ fn shape_fault(rows: &[i64]) -> Verdict
     if is_misshapen(rows.len()) {
         return Err(Reason::Misshapen.at(0));
     }
-    first_column_fault(rows)
+    first_fault(
+        rows::row_count(rows),
+        |k| column_faults::column_fault(rows, k),
+    )
 }
 
 // ---- 4 and 5, of the rows beside one another
 
-// The first row that 4 refuses.
-fn first_owner_fault(rows: &[i64], links: &[u16; 1600]) -> Verdict
-    requires { Linked rows.now links.now }
-    ensures { verdict_of result ≡ first (owner_fault rows.now) (row_count rows.now) }
-{
-    for k in 0..rows::row_count(rows) {
-        link_faults::owner_fault(rows, links, k)?;
-    }
-    Ok(())
-}
-
-// The first row that 5 refuses.
-fn first_repeat_fault(rows: &[i64], kinds: &[u16; 3680]) -> Verdict
-    requires { Kinds rows.now kinds.now }
-    ensures { verdict_of result ≡ first (repeat_fault rows.now) (row_count rows.now) }
-{
-    for k in 0..rows::row_count(rows) {
-        link_faults::repeat_fault(rows, kinds, k)?;
-    }
-    Ok(())
-}
-
 // Refusals 4 and 5.
-fn link_fault(rows: &[i64], kinds: &[u16; 3680], links: &[u16; 1600]) -> Verdict
-    requires { Kinds rows.now kinds.now × Linked rows.now links.now }
+fn link_fault(rows: &ByKind, links: &[u16; 1600]) -> Verdict
+    requires { Linked rows.now links.now }
     ensures { verdict_of result ≡ link_refusal rows.now }
 {
-    first_owner_fault(rows, links)?;
-    first_repeat_fault(rows, kinds)
+    let count = rows.row_count();
+    first_fault(
+        count,
+        |k| link_faults::owner_fault(rows.as_slice(), links, k),
+    )?;
+    first_fault(count, |k| link_faults::repeat_fault(rows, k))
 }
 
 // ---- the sheet
@@ -87,9 +74,10 @@ pub fn index(
 {
     shape_fault(rows)?;
     sheet::kinds_into(rows, kinds);
-    owners::links_into(rows, kinds, links);
+    let by_kind = ByKind::new(rows, kinds);
+    owners::links_into(&by_kind, links);
     owners::owned_into(rows, links, owned);
-    link_fault(rows, kinds, links)
+    link_fault(&by_kind, links)
 }
 
 // Whether refusals 1 to 5 refuse a sheet.

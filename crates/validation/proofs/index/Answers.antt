@@ -9,4 +9,4 @@ pub kinds_into-requires : goal.kinds_into-requires
 kinds_into-requires c = search (rules, shaped)
 
 pub returns : goal.returns
-returns c = indexed _ _ _ _ _ _ _ _ (search rules) (search rules) (search rules) c.shape_fault.ensures (search rules) c.link_fault.ensures
+returns c = indexed _ _ _ _ _ _ _ _ (search rules) (search rules) (search rules) c.shape_fault.ensures (search rules) (rw c.new-by_kind.ensures at c.link_fault.ensures)

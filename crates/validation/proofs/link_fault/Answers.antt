@@ -1,12 +1,20 @@
-use borrow.Author.Rules.{rules}
+use mathlib.Core.Path.{ap, ◌∙◌}
+use Rattle.std.proofs.Common.{rules}
+use Rattle.loops.specs.Search.{first}
+use Rattle.sheet.specs.Refusals.{owner_fault, repeat_fault}
 use Rattle.validation.specs.inner.Answer.{link_refusal}
 use Rattle.validation.proofs.Order.{ends, goes_on}
 use Rattle.validation.proofs.link_fault.Goals as goal
 
-pub returns-in_err-first_owner_fault : goal.returns-in_err-first_owner_fault
+pub returns-in_err-first_fault : goal.returns-in_err-first_fault
 unfolding link_refusal
-returns-in_err-first_owner_fault c = search (rules, ends)
+returns-in_err-first_fault c =
+    let e = c.first_fault.ensures (owner_fault c.args.rows.now) (λ k v l p. search (rules, p)) ∙ ap (first (owner_fault c.args.rows.now)) c.row_count-count.ensures in
+    search (rules, ends, e)
 
 pub returns : goal.returns
 unfolding link_refusal
-returns c = search (rules, goes_on)
+returns c =
+    let e = c.first_fault.ensures (owner_fault c.args.rows.now) (λ k v l p. search (rules, p)) ∙ ap (first (owner_fault c.args.rows.now)) c.row_count-count.ensures in
+    let f = c.first_fault-2.ensures (repeat_fault c.args.rows.now) (λ k v l p. search (rules, p)) ∙ ap (first (repeat_fault c.args.rows.now)) c.row_count-count.ensures in
+    goes_on (search rules) e f

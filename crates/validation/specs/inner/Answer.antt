@@ -1,6 +1,6 @@
 -- What the validation of a sheet answers. Assumes nothing.
 use Rattle.std.specs.Prelude.{Result}
-use Rattle.std.specs.Prelude.{ℕ, ◌≡◌, List, ℤ, length}
+use Rattle.std.specs.Prelude.{ℕ, ◌<◌, ◌≡◌, List, ℤ, length}
 use Rattle.std.specs.Prelude.{Option, None}
 use Rattle.loops.specs.Search.{or_else, first}
 use Rattle.rows.specs.Cells.{row_count}
@@ -24,6 +24,10 @@ shape_refusal rows = or_else (refuse (misshapen (length rows)) Misshapen 0) (fir
 
 unfoldable pub link_refusal : List ℤ → Option Refusal
 link_refusal rows = or_else (first (owner_fault rows) (row_count rows)) (first (repeat_fault rows) (row_count rows))
+
+-- what a test may answer of each of so many rows is what f says
+abbrev pub Tells : (ℕ → Option Refusal) → ℕ → (ℕ → Result Unit Refusal → Type 0) → Type 0
+Tells f count may = (k : ℕ) (v : Result Unit Refusal) → k < count → may k v → verdict_of v ≡ f k
 
 -- what `index` answers and leaves: the verdict; the tables of the rows, if none of 1 to 3 refuses the sheet, and else what was lent
 pub record Indexing (rows : List ℤ) (k₀ l₀ o₀ : List ℕ) (v : Result Unit Refusal) (k l o : List ℕ) : Type 0 where
