@@ -10,7 +10,10 @@ use Rattle.std.specs.Prelude.{Option, None, Some, slice_get}
 use Rattle.std.specs.Option.{MatchOption}
 use Rattle.std.specs.List.{FoldsTo}
 use Rattle.std.specs.Iterator.{YieldsFirst, YieldsThen, ChecksAny, FoldsItems, FoldTurn, SkipsThenYields}
-use Rattle.loops.specs.Lists.{any_of}
+use Rattle.loops.specs.Lists.{any_of, is_some}
+use Rattle.loops.specs.Search.{first_place, any_below}
+use Rattle.chains.specs.Places.{places}
+use Rattle.chains.proofs.PlaceLaws.{next_none, next_some, any_first}
 
 -- the steps of a walk
 abbrev pub taken : List ℕ → Option ℕ → List ℕ → Type 0
@@ -63,3 +66,13 @@ nth_ran s (x ∷ xs) u (suc n) (Some z) y m = rw y.1.1 (nth_ran y.1.0 xs u n (So
 -- the place that is number n, from 0, of those that are left
 pub walk_nth : {s : List ℕ} {r : Option ℕ} (n : ℕ) (u : List ℕ) → SkipsThenYields taken s n r u → r ≡ slice_get s n
 walk_nth {s} {r} n u c = nth_ran s c.0 u n r c.1 c.2
+
+module _ (p : ℕ → Bool) (n : ℕ) where
+  -- the first step of a walk
+  pub walk_next : (o : Option ℕ) {s : List ℕ} (u : List ℕ) → s ≡ places p n → taken s o u → o ≡ first_place p n
+  walk_next None u e y = next_none p n e y.0
+  walk_next (Some k) u e y = next_some p n k e y
+
+  -- tells whether it has any
+  pub walk_some : (o : Option ℕ) {s : List ℕ} (u : List ℕ) → s ≡ places p n → taken s o u → is_some o ≡ any_below p n
+  walk_some o u e y = ap is_some (walk_next o u e y) ∙ any_first p n
