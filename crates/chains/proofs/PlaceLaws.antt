@@ -8,12 +8,12 @@ use native.Mathlib.Decide.{dec_lt}
 use lib.ListN.{length, length-append}
 use borrow.Author.Tests.{le-leb, lt-leb}
 use Rattle.std.specs.Prelude.{Option, None, Some}
-use Rattle.loops.specs.Lists.{given, each, any_of, head}
+use Rattle.loops.specs.Lists.{given, keep, each, any_of, head}
 use Rattle.loops.specs.Range.{fold, collect}
 use Rattle.loops.specs.Search.{any_below, first, first_place, or_else}
 use Rattle.loops.specs.inner.Chain.{First, Stands, Silent, Quiet, only_at}
 use Rattle.loops.proofs.RangeLaws.{collect_ext, fold_ext}
-use Rattle.loops.proofs.ListLaws.{each_collect, foldl_collect, any_collect, head_collect, head_given}
+use Rattle.loops.proofs.ListLaws.{keep_collect, each_collect, foldl_collect, any_collect, head_collect, head_given}
 use Rattle.loops.proofs.SearchLaws.{place_first}
 use Rattle.chains.specs.Places.{places}
 use Rattle.chains.specs.inner.Left.{from, front, Left}
@@ -23,7 +23,8 @@ unfolding places collect
 places_none p zero h = refl
 places_none p (suc n) h = ap₂ ◌++◌ (places_none p n (λ k l. h k (omega arith))) (ap (λ b. given b n) (h n (omega arith)))
 
-places_ext : (p q : ℕ → Bool) (n : ℕ) → ((k : ℕ) → k < n → p k ≡ q k) → places p n ≡ places q n
+-- the same test, the same places
+pub places_ext : (p q : ℕ → Bool) (n : ℕ) → ((k : ℕ) → k < n → p k ≡ q k) → places p n ≡ places q n
 unfolding places
 places_ext p q n h = collect_ext _ _ n (λ k l. ap (λ b. given b k) (h k l))
 
@@ -233,3 +234,12 @@ next_none p n e h = sym (ap head h) ∙ ap head e ∙ head_places p n
 
 pub next_some : (p : ℕ → Bool) (n k : ℕ) {l l' : List ℕ} → l ≡ places p n → l ≡ k ∷ l' → Some k ≡ first_place p n
 next_some p n k e h = sym (ap head h) ∙ ap head e ∙ head_places p n
+
+-- the places that pass one test more
+pub keep_places : (p q : ℕ → Bool) (n : ℕ) → keep q (places p n) ≡ places (λ k. p k && q k) n
+unfolding places keep
+keep_places p q n = keep_collect q (λ k. given (p k) k) n ∙ collect_ext _ _ n (λ k l. go k (p k))
+  where
+    go : (k : ℕ) (b : Bool) → keep q (given b k) ≡ given (b && q k) k
+    go k true = append-nil (given (q k) k)
+    go k false = refl
