@@ -1,7 +1,7 @@
 -- Laws of the chains by owner and kind: two kinds may share a chain, and the reader passes over the rows of the other kind. Assumes nothing.
-use Prim.Native.Nat.{ℕ, zero, suc, ◌+◌, ◌-◌, ◌*◌, ◌%◌, ◌<◌, ◌≤◌}
+use Prim.Native.Nat.{ℕ, suc, ◌+◌, ◌-◌, ◌*◌, ◌%◌, ◌<◌, ◌≤◌}
 use mathlib.Core.Path.{◌≡◌, refl, sym, ap, ◌∙◌}
-use mathlib.Core.Bool.{Bool, true, false, true≢false, ◌||◌}
+use mathlib.Core.Bool.{Bool, true, false, true≢false}
 use mathlib.Core.List.{List}
 use native.Mathlib.Omega.{arith}
 use native.Mathlib.Decide.{dec_lt}
@@ -11,8 +11,6 @@ use lib.ListN.{get_or, set, replicate}
 use borrow.Author.Tests.{eqb-true, eq-eqb}
 use mir.Syntax.{w64}
 use mir.Val.{Fits}
-use Rattle.std.specs.Prelude.{Option, None, Some, is_some}
-use Rattle.loops.specs.Search.{any_below, first_place, or_else, some_if}
 use Rattle.loops.specs.inner.Chain.{same, First, Links, Stands, Blind}
 use Rattle.loops.proofs.BoolLaws.{and_left, and_right}
 use Rattle.loops.proofs.ChainLaws.{links_start, links_again, links_next, fits}
@@ -36,17 +34,6 @@ module _ (rows : List ℤ) {n : ℕ} (e : n ≡ row_count rows) (u : row_count r
   owned_again {i} {k} {t} {t'} z l q h s = links_again (owned_key rows) 8010 n i k t t' z l (omega arith) q (owned_below rows _ refl u) h s
 
 -- ---- what is read
-
--- whether there is one
-pub some_first : (p : ℕ → Bool) (n : ℕ) → is_some (first_place p n) ≡ any_below p n
-unfolding first_place any_below
-some_first p zero = refl
-some_first p (suc n) = go (first_place p n) (p n) (some_first p n)
-  where
-    go : (x : Option ℕ) (b : Bool) → is_some x ≡ any_below p n → is_some (or_else x (some_if b n)) ≡ (any_below p n || b)
-    go None true e = rw (← e)
-    go None false e = rw (← e)
-    go (Some k) b e = rw (← e)
 
 module _ (rows : List ℤ) (o x : ℕ) where
   abbrev key : ℕ

@@ -98,7 +98,6 @@ pub trait OwnerIndex: Rows {
     }
 
     // Whether a row of a kind belongs to row o.
-    #[tactic(auto, using(crate::proofs::Owning::some_first))]
     fn has_owned(&self, o: usize, kind: Kind) -> bool
         requires { o ≤ row_count (Self.rows self.now) }
         ensures { result ≡ any_below (owned_by (Self.rows self.now) o (kind_number kind)) (row_count (Self.rows self.now)) }

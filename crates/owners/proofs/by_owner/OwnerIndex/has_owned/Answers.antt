@@ -1,7 +1,7 @@
 use mathlib.Core.Path.{ap, ◌∙◌}
-use Rattle.std.specs.Prelude.{is_some}
-use Rattle.owners.proofs.Owning.{some_first}
+use Rattle.loops.specs.Lists.{is_some}
+use Rattle.chains.proofs.PlaceLaws.{any_first}
 use Rattle.owners.proofs.by_owner.OwnerIndex.has_owned.Goals as goal
 
 pub returns : goal.returns
-returns g c = c.is_some.ensures ∙ ap is_some c.find_owned.ensures ∙ some_first _ _
+returns g c = c.is_some.ensures ∙ ap is_some c.find_owned.ensures ∙ any_first _ _
