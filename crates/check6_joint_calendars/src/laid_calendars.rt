@@ -4,9 +4,8 @@
 ghost use Rattle.std.specs.Prelude.{◌≡◌, ◌≤◌, ◌<◌, ◌+◌, [], ◌∷◌, ◌++◌, length};
 
 use calendar::{Calendars, Places, TimeWindow};
-use owners::{ByOwner, OwnerIndex};
+use owners::ByOwner;
 use rows::Kind;
-use sheet::Rows;
 use window_rows::WindowList;
 
 // What stands in room before a calendar is laid out there.
@@ -56,13 +55,7 @@ impl<'a> LaidCalendars<'a> {
         ensures { Added (windows (sheet rows.now) (kind_number kind) (num rows.now o 1)) (count_below (owned_by rows.now o (kind_number kind)) (row_count rows.now)) self.old self.new }
     {
         let from = self.windows.len();
-        window_rows::gather_windows(
-            rows.as_slice(),
-            rows.owned(),
-            o,
-            kind.number() as usize,
-            &mut self.windows,
-        );
+        window_rows::gather_windows(rows, o, kind, &mut self.windows);
         let to = self.windows.len();
         self.places[self.count] = Places { from, to };
         self.count += 1;
