@@ -234,27 +234,31 @@ next_none p n e h = sym (ap head h) ∙ ap head e ∙ head_places p n
 pub next_some : (p : ℕ → Bool) (n k : ℕ) {l l' : List ℕ} → l ≡ places p n → l ≡ k ∷ l' → Some k ≡ first_place p n
 next_some p n k e h = sym (ap head h) ∙ ap head e ∙ head_places p n
 
+-- the places that pass one test more
+pub keep_places : (p q : ℕ → Bool) (n : ℕ) → keep q (places p n) ≡ places (λ k. p k && q k) n
+unfolding places keep
+keep_places p q n = keep_collect q (λ k. given (p k) k) n ∙ collect_ext _ _ n (λ k l. go k (p k))
+  where
+    go : (k : ℕ) (b : Bool) → keep q (given b k) ≡ given (b && q k) k
+    go k true = append-nil (given (q k) k)
+    go k false = refl
+
 -- ---- a test that fails where the chain's does: a walk comes to all that pass it
 
-pub keep_places : {p : ℕ → Bool} (q : ℕ → Bool) (n : ℕ) → Blind p q → keep q (places p n) ≡ places q n
-unfolding places keep
-keep_places {p} q n h = keep_collect q (λ k. given (p k) k) n ∙ collect_ext _ _ n (λ k l. go k (p k) refl)
+both_blind : {p q : ℕ → Bool} → Blind p q → (k : ℕ) → (p k && q k) ≡ q k
+both_blind {p} {q} h k = go (p k) refl
   where
-    go : (k : ℕ) (b : Bool) → p k ≡ b → keep q (given (p k) k) ≡ given (q k) k
-    go k true t = rw t (append-nil (given (q k) k))
-    go k false t = rw (t, h.still k t)
+    go : (b : Bool) → p k ≡ b → (p k && q k) ≡ q k
+    go true t = rw t
+    go false t = rw (t, h.still k t)
 
 -- the first that passes it
 pub first_kept : {p : ℕ → Bool} (q : ℕ → Bool) (n : ℕ) → Blind p q → head (keep q (places p n)) ≡ first_place q n
-first_kept q n h = ap head (keep_places q n h) ∙ head_places q n
+first_kept {p} q n h = ap head (keep_places p q n ∙ places_ext _ _ n (λ k l. both_blind h k)) ∙ head_places q n
 
 -- whether any does
 pub any_blind : {p : ℕ → Bool} (q : ℕ → Bool) (n : ℕ) → Blind p q → any_of q (places p n) ≡ any_below q n
-any_blind {p} q n h = any_places p q n ∙ any_ext _ _ n (λ k. go k (p k) refl)
-  where
-    go : (k : ℕ) (b : Bool) → p k ≡ b → (p k && q k) ≡ q k
-    go k true t = rw t
-    go k false t = rw (t, h.still k t)
+any_blind {p} q n h = any_places p q n ∙ any_ext _ _ n (both_blind h)
 
 -- whether there is a place at all
 pub any_first : (p : ℕ → Bool) (n : ℕ) → is_some (first_place p n) ≡ any_below p n
