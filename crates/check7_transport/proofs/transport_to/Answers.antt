@@ -8,7 +8,7 @@ pub returns-in_default : goal.returns-in_default
 returns-in_default c = search (rules, unmoved)
 
 pub find_naming-requires : goal.find_naming-requires
-find_naming-requires c = search (rules, found_low, moves_blind)
+find_naming-requires c = rw c.as_slice.ensures.rows (search (rules, found_low, moves_blind))
 
 pub returns-in_default-find_naming : goal.returns-in_default-find_naming
 returns-in_default-find_naming c = search (rules, no_move)
