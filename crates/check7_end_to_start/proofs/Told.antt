@@ -2,13 +2,10 @@
 use Prim.Native.Nat.{ℕ, ◌<◌}
 use mathlib.Core.Path.{◌≡◌, refl, sym, ap, ◌∙◌}
 use mathlib.Core.Bool.{Bool, true, false, true≢false}
-use mathlib.Core.List.{List, [], ◌∷◌, ◌++◌, append-nil, foldl}
+use mathlib.Core.List.{List, [], ◌++◌, append-nil, foldl}
 use Rattle.std.specs.Prelude.{Option, None, Some}
 use lib.Dec.{eqb}
 use lib.IntN.{ℤ, pos}
-use mir.Syntax.{w64}
-use mir.Val.{SFits, to_z, of_z}
-use mir.Facts.{to_z-of_z}
 use Rattle.loops.specs.Lists.{given, each, keep, option}
 use Rattle.loops.specs.inner.Chain.{Silent}
 use Rattle.loops.proofs.ListLaws.{each_collect, keep_collect}
@@ -36,29 +33,11 @@ use Rattle.model.proofs.ConstraintLaws.{precedence_row, by_constraint}
 use Rattle.definition.specs.ActivitySpan as page
 use Rattle.definition.specs.ActivitySpan.{activity_span}
 use Rattle.definition.specs.CheckPrecedence.{end_to_start, check_precedence_constraint}
-use Rattle.spans.specs.declared.ActivitySpan.{ActivitySpan}
-use Rattle.spans.specs.declared.ActivitySpan.TheVariants.{Between, Nowhere}
-use Rattle.spans.specs.inner.Activities.{span_meant}
 use Rattle.check7_end_to_start.specs.inner.Early.{starts_early}
 
 -- ---- the test
 
 module _ (rows : List ℤ) (before after : ℕ) (delay : ℤ) where
-  pub no_first : {x : ActivitySpan} → span_meant x ≡ activity_span clock (sheet rows) before → x ≡ Nowhere → false ≡ starts_early rows before after delay
-  unfolding starts_early
-  no_first q z = rw (← q, z)
-
-  pub no_second : {x y : ActivitySpan} {a e : ℕ} → span_meant x ≡ activity_span clock (sheet rows) before → x ≡ Between a e
-      → span_meant y ≡ activity_span clock (sheet rows) after → y ≡ Nowhere → false ≡ starts_early rows before after delay
-  unfolding starts_early
-  no_second q z r w = rw (← q, z, ← r, w)
-
-  pub both_run : {x y : ActivitySpan} {a e b f : ℕ} {t : Bool} → span_meant x ≡ activity_span clock (sheet rows) before → x ≡ Between a e
-      → span_meant y ≡ activity_span clock (sheet rows) after → y ≡ Between b f → SFits w64 delay
-      → t ≡ clock.before (pos b) (clock.plus (pos e) (to_z w64 (of_z w64 delay))) → t ≡ starts_early rows before after delay
-  unfolding starts_early
-  both_run q z r w m h = rw (← q, z, ← r, w) (rw (to_z-of_z m) at h)
-
   pub early_found : end_to_start clock (sheet rows) before after delay ≡ given (starts_early rows before after delay) (precedence_violation 7 after)
   unfolding end_to_start starts_early
   early_found = go (activity_span clock (sheet rows) before) (activity_span clock (sheet rows) after)

@@ -19,9 +19,9 @@ use findings::{Findings, Violation, ViolationKind};
 use owners::{ByOwner, OwnerIndex};
 use rows::Kind;
 use sheet::{ByKind, KindIndex, Rows};
-use spans::ActivitySpan;
 
 // Whether an instant is before another and a signed delay.
+#[tactic(auto, using(loops::proofs::IntegerLaws::sum_mag))]
 pub fn is_before(start: u64, end: u64, delay: i64) -> bool
     requires { (start ≤ 4000000000000) × (end ≤ 4000000000000) × (nat_abs delay ≤ 8000000000000) }
     ensures { result ≡ lt_z (pos start) (pos end +ℤ delay) }
@@ -30,19 +30,18 @@ pub fn is_before(start: u64, end: u64, delay: i64) -> bool
 }
 
 // Whether `after` starts before `delay` after `before` ends.
+#[tactic(auto, unfolding(crate::specs::inner::Early::starts_early))]
 fn starts_early(rows: &ByKind, before: u64, after: u64, delay: i64) -> bool
     requires { Accepted rows.now × (nat_abs delay ≤ 8000000000000) }
     ensures { result ≡ starts_early rows.now before after delay }
 {
-    let first = spans::activity_span(rows.as_slice(), rows.kinds(), before);
-    let ActivitySpan::Between(_, end) = first else {
+    let Some(first) = spans::activity_span(rows, before) else {
         return false;
     };
-    let second = spans::activity_span(rows.as_slice(), rows.kinds(), after);
-    let ActivitySpan::Between(start, _) = second else {
+    let Some(second) = spans::activity_span(rows, after) else {
         return false;
     };
-    is_before(start, end, delay)
+    is_before(second.start, first.end, delay)
 }
 
 #[tactic(auto, using(crate::proofs::Told::early_found))]
@@ -81,7 +80,7 @@ pub fn check_all_predecessors(rows: &ByKind, owners: &ByOwner, t: usize, found: 
 }
 
 // The precedence constraint of row k.
-#[tactic(auto, using(crate::proofs::Told::constraint_found))]
+#[tactic(auto, using(crate::proofs::Told::constraint_found, crate::proofs::Bounds::delay_most))]
 fn check_precedence_constraint(rows: &ByKind, k: usize, found: &mut Findings)
     requires { Accepted rows.now × (is rows.now k 0 17 ≡ true) }
     ensures { so_far found.new ≡ tell (so_far found.old) (each (check_precedence_constraint clock (sheet rows.now)) (constraint_at (sheet rows.now) k)) }
