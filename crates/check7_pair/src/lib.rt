@@ -42,6 +42,7 @@ fn report_early(rows: &Sheet, before: usize, after: usize, from: u64, found: &mu
 }
 
 // Whether the activity of row `after` ends before an instant and the move to where it runs.
+#[tactic(auto, unfolding(crate::specs::inner::Tests::ends_early))]
 fn ends_early(rows: &Sheet, before: usize, after: usize, earliest: i64) -> bool
     requires { Accepted rows.now × (before < row_count rows.now) × (is rows.now before 0 2 ≡ true) × (after < row_count rows.now) × (is rows.now after 0 2 ≡ true) × (nat_abs earliest ≤ 8000000000000) }
     ensures { result ≡ ends_early rows.now (num rows.now before 1) (num rows.now after 1) earliest }
@@ -65,7 +66,6 @@ fn report_end(rows: &Sheet, before: usize, after: usize, earliest: i64, found: &
 }
 
 // The activity of row `after` against that of row `before`, which runs for the span `previous`, where row k is its overlap.
-#[tactic(auto, using(findings::proofs::Reporting::tell_append))]
 fn check_overlapping(
     rows: &Sheet,
     before: usize,
