@@ -58,24 +58,21 @@ module _ (rows : List ℤ) (before after : ℕ) where
 
   -- ---- the definition, case by case
 
-  module _ (t : Told) {x : Option Span} {id : ℕ} (q : span_meant x ≡ activity_span clock (sheet rows) id) (i : id ≡ num rows before 1) where
-    span_is : (y : Option Span) → x ≡ y → activity_span clock (sheet rows) (num rows before 1) ≡ span_meant y
-    span_is y z = ap (activity_span clock (sheet rows)) (sym i) ∙ sym q ∙ ap span_meant z
-
+  module _ (t : Told) {x : Option Span} (q : span_meant x ≡ activity_span clock (sheet rows) (num rows before 1)) where
     pub no_previous : x ≡ None → t ≡ tell t pair
     unfolding check_pair
-    no_previous z = rw (span_is None z) (sym (tell_none t))
+    no_previous z = rw (← q, z) (sym (tell_none t))
 
     module _ {s : Span} {t' : Told} (z : x ≡ Some s) where
       pub in_order_lem : t' ≡ tell t (starts (pos s.end)) → overlap (sheet rows) (num rows after 1) ≡ None → t' ≡ tell t pair
       unfolding check_pair starts_early
-      in_order_lem h o = rw (span_is (Some s) z, o) (h ∙ ap (tell t) (sym (append-nil (starts (pos s.end)))))
+      in_order_lem h o = rw (← q, z, o) (h ∙ ap (tell t) (sym (append-nil (starts (pos s.end)))))
 
       pub overlapping : {o : Overlap} → t' ≡ tell t (starts (earliest_start clock o (pos s.start) (pos s.end)) ++ ends (earliest_end clock o (pos s.end)))
           → overlap (sheet rows) (num rows after 1) ≡ Some o → t' ≡ tell t pair
       unfolding check_pair starts_early ends_early
       overlapping {o} h w =
-          rw (span_is (Some s) z, w)
+          rw (← q, z, w)
           (h ∙ ap (λ l. tell t (starts (earliest_start clock o (pos s.start) (pos s.end)) ++ l)) (sym (told_end (activity_span clock (sheet rows) (num rows after 1)))))
         where
           late : page.Span ℤ → Bool

@@ -11,7 +11,9 @@ ghost use Rattle.overlap.specs.Bounds.{overlap_of, earliest_start, earliest_end}
 ghost use Rattle.model.specs.Sheet.{sheet};
 ghost use Rattle.model.specs.inner.Records.{activity_of};
 ghost use Rattle.model.specs.Schedule.{precedence_violation};
+ghost use Rattle.definition.specs.ActivitySpan.{activity_span};
 ghost use Rattle.definition.specs.CheckPrecedence.{check_pair};
+ghost use Rattle.spans.specs.inner.Activities.{span_meant};
 ghost use Rattle.check7_pair.specs.inner.Tests.{starts_early, ends_early};
 
 use findings::{Findings, Violation, ViolationKind};
@@ -21,6 +23,13 @@ use owners::OwnerIndex;
 use rows::Kind;
 use sheet::Rows;
 use spans::Span;
+
+// When the activity of row k runs.
+fn span_of(rows: &Sheet, k: usize) -> Option<Span>
+    ensures { span_meant result ≡ activity_span clock (sheet rows.now) (num rows.now k 1) }
+{
+    spans::activity_span(&rows.by_kind(), rows.num(k, 1))
+}
 
 // The one finding of a piece of the activity of row `after` that starts before the work, done at `from`, reaches it.
 #[tactic(auto, unfolding(crate::specs::inner::Tests::starts_early))]
@@ -47,7 +56,7 @@ fn ends_early(rows: &Sheet, before: usize, after: usize, earliest: i64) -> bool
     requires { Accepted rows.now × (before < row_count rows.now) × (is rows.now before 0 2 ≡ true) × (after < row_count rows.now) × (is rows.now after 0 2 ≡ true) × (nat_abs earliest ≤ 8000000000000) }
     ensures { result ≡ ends_early rows.now (num rows.now before 1) (num rows.now after 1) earliest }
 {
-    let Some(span) = spans::activity_span(&rows.by_kind(), rows.num(after, 1)) else {
+    let Some(span) = span_of(rows, after) else {
         return false;
     };
     let moved = check7_transport::moved_between(&rows.owners(), before, after);
@@ -89,7 +98,7 @@ pub fn check_pair(rows: &Sheet, before: usize, after: usize, found: &mut Finding
     requires { (before < row_count rows.now) × (is rows.now before 0 2 ≡ true) × (after < row_count rows.now) × (is rows.now after 0 2 ≡ true) }
     ensures { so_far found.new ≡ tell (so_far found.old) (check_pair clock (sheet rows.now) (activity_of rows.now before) (activity_of rows.now after)) }
 {
-    let Some(previous) = spans::activity_span(&rows.by_kind(), rows.num(before, 1)) else {
+    let Some(previous) = span_of(rows, before) else {
         return;
     };
     // a walk, which says that the sheet is an accepted one
