@@ -10,11 +10,12 @@ ghost use Rattle.model.specs.Sheet.{sheet};
 ghost use Rattle.model.specs.Resource.{transport_to, transport_between};
 ghost use Rattle.definition.specs.CheckPrecedence.{runs_on_all};
 
-use owners::{LinkIndex, OwnerIndex, Owners};
+use owners::{ByOwner, LinkIndex, OwnerIndex, Owners};
 use rows::Kind;
 use sheet::{Found, Rows};
 
 // The time to move work from the resource of booking i to resource b, 0 where none is given.
+#[tactic(auto, using(crate::proofs::Moves::unmoved, crate::proofs::Moves::no_move, crate::proofs::Moves::move_is, crate::proofs::Moves::move_most))]
 fn transport_to(rows: &Owners, i: usize, b: u64) -> u64
     requires { Accepted rows.now × (i < row_count rows.now) × (is rows.now i 0 23 ≡ true) }
     ensures value { result ≡ transport_to (sheet rows.now) (num rows.now i 3) b }
@@ -23,8 +24,8 @@ fn transport_to(rows: &Owners, i: usize, b: u64) -> u64
     let Found::At(o) = rows.booked_resource(i) else {
         return 0;
     };
-    let a = rows.num(i, 3);
-    let Found::At(k) = pieces::find_naming(rows.as_slice(), rows.owned(), o, 14, a, b) else {
+    let by_owner = ByOwner::new(rows.as_slice(), rows.owned());
+    let Some(k) = pieces::find_naming(&by_owner, o, Kind::Transport, rows.num(i, 3), b) else {
         return 0;
     };
     rows.num(k, 3)
