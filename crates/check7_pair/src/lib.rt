@@ -75,6 +75,7 @@ fn report_end(rows: &Sheet, before: usize, after: usize, earliest: i64, found: &
 }
 
 // The activity of row `after` against that of row `before`, which runs for the span `previous`, where row k is its overlap.
+#[tactic(auto, using(crate::proofs::Overlapping::lag_most))]
 fn check_overlapping(
     rows: &Sheet,
     before: usize,
