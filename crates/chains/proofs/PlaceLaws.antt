@@ -8,12 +8,12 @@ use native.Mathlib.Decide.{dec_lt}
 use lib.ListN.{length, length-append}
 use borrow.Author.Tests.{le-leb, lt-leb}
 use Rattle.std.specs.Prelude.{Option, None, Some}
-use Rattle.loops.specs.Lists.{given, each, any_of, head}
+use Rattle.loops.specs.Lists.{given, keep, each, any_of, head, is_some}
 use Rattle.loops.specs.Range.{fold, collect}
-use Rattle.loops.specs.Search.{any_below, first, first_place, or_else}
-use Rattle.loops.specs.inner.Chain.{First, Stands, Silent, Quiet, only_at, only}
+use Rattle.loops.specs.Search.{any_below, first, first_place, or_else, some_if}
+use Rattle.loops.specs.inner.Chain.{First, Stands, Silent, Quiet, Blind, only_at, only}
 use Rattle.loops.proofs.RangeLaws.{collect_ext, fold_ext}
-use Rattle.loops.proofs.ListLaws.{each_collect, foldl_collect, any_collect, head_collect, head_given}
+use Rattle.loops.proofs.ListLaws.{keep_collect, each_collect, foldl_collect, any_collect, head_collect, head_given}
 use Rattle.loops.proofs.SearchLaws.{place_first}
 use Rattle.chains.specs.Places.{places}
 use Rattle.chains.specs.inner.Left.{from, front, Left}
@@ -242,3 +242,40 @@ each_only p f n = each_collect f (λ k. given (p k) k) n ∙ collect_ext _ _ n (
     go : (k : ℕ) (b : Bool) → each f (given b k) ≡ cond b (f k) []
     go k true = append-nil (f k)
     go k false = refl
+
+-- the places that pass one test more
+pub keep_places : (p q : ℕ → Bool) (n : ℕ) → keep q (places p n) ≡ places (λ k. p k && q k) n
+unfolding places keep
+keep_places p q n = keep_collect q (λ k. given (p k) k) n ∙ collect_ext _ _ n (λ k l. go k (p k))
+  where
+    go : (k : ℕ) (b : Bool) → keep q (given b k) ≡ given (b && q k) k
+    go k true = append-nil (given (q k) k)
+    go k false = refl
+
+-- ---- a test that fails where the chain's does: a walk comes to all that pass it
+
+both_blind : {p q : ℕ → Bool} → Blind p q → (k : ℕ) → (p k && q k) ≡ q k
+both_blind {p} {q} h k = go (p k) refl
+  where
+    go : (b : Bool) → p k ≡ b → (p k && q k) ≡ q k
+    go true t = rw t
+    go false t = rw (t, h.still k t)
+
+-- the first that passes it
+pub first_kept : {p : ℕ → Bool} (q : ℕ → Bool) (n : ℕ) → Blind p q → head (keep q (places p n)) ≡ first_place q n
+first_kept {p} q n h = ap head (keep_places p q n ∙ places_ext _ _ n (λ k l. both_blind h k)) ∙ head_places q n
+
+-- whether any does
+pub any_blind : {p : ℕ → Bool} (q : ℕ → Bool) (n : ℕ) → Blind p q → any_of q (places p n) ≡ any_below q n
+any_blind {p} q n h = any_places p q n ∙ any_ext _ _ n (both_blind h)
+
+-- whether there is a place at all
+pub any_first : (p : ℕ → Bool) (n : ℕ) → is_some (first_place p n) ≡ any_below p n
+unfolding first_place any_below
+any_first p zero = refl
+any_first p (suc n) = go (first_place p n) (p n) ∙ ap (λ b. b || p n) (any_first p n)
+  where
+    go : (x : Option ℕ) (b : Bool) → is_some (or_else x (some_if b n)) ≡ (is_some x || b)
+    go None true = refl
+    go None false = refl
+    go (Some k) b = refl

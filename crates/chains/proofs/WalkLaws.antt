@@ -8,7 +8,10 @@ use Rattle.std.specs.Prelude.{Option, None, Some}
 use Rattle.std.specs.Option.{MatchOption}
 use Rattle.std.specs.List.{FoldsTo}
 use Rattle.std.specs.Iterator.{YieldsFirst, YieldsThen, ChecksAny, FoldsItems, FoldTurn}
-use Rattle.loops.specs.Lists.{any_of}
+use Rattle.loops.specs.Lists.{any_of, is_some}
+use Rattle.loops.specs.Search.{first_place, any_below}
+use Rattle.chains.specs.Places.{places}
+use Rattle.chains.proofs.PlaceLaws.{next_none, next_some, any_first}
 
 -- the steps of a walk
 abbrev pub taken : List ℕ → Option ℕ → List ℕ → Type 0
@@ -48,3 +51,13 @@ module _ {F B : Type 0} (g : Mut F (B × (ℕ × Unit {0})) B) (f : F) (step : B
 
   pub walk_fold : {s : List ℕ} {e r : B} → FoldsItems taken g s f e r → r ≡ foldl step e s
   walk_fold {s} {e} {r} c = rw (drained s c.0 c.2.0 c.2.1) (folds e r c.0 f c.1 refl c.3)
+
+module _ (p : ℕ → Bool) (n : ℕ) where
+  -- the first step of a walk
+  pub walk_next : (o : Option ℕ) {s : List ℕ} (u : List ℕ) → s ≡ places p n → taken s o u → o ≡ first_place p n
+  walk_next None u e y = next_none p n e y.0
+  walk_next (Some k) u e y = next_some p n k e y
+
+  -- tells whether it has any
+  pub walk_some : (o : Option ℕ) {s : List ℕ} (u : List ℕ) → s ≡ places p n → taken s o u → is_some o ≡ any_below p n
+  walk_some o u e y = ap is_some (walk_next o u e y) ∙ any_first p n

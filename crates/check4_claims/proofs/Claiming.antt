@@ -1,37 +1,85 @@
--- What a requirement claims of a list, row by row: marks in place of a list that gets shorter. Assumes nothing.
+-- What a requirement claims of the bookings from one on: marks in place of a list that gets shorter. Assumes nothing.
 use Prim.Native.Nat.{ℕ, zero, suc, ◌+◌, ◌-◌, ◌<◌, ◌≤◌}
 use mathlib.Core.Path.{◌≡◌, refl, ap, ap₂, sym, ◌∙◌}
 use mathlib.Core.Bool.{Bool, true, false, cond, ◌&&◌}
-use mathlib.Core.List.{List, [], ◌∷◌, ◌++◌, append_assoc, append-nil}
+use mathlib.Core.List.{List, [], ◌∷◌, ◌++◌, append_assoc, foldl}
+use Rattle.std.specs.Prelude.{⊤}
 use native.Mathlib.Omega.{arith}
-use native.Mathlib.Nat.{add-zero}
-use native.Mathlib.Decide.{ℕ_discrete, dec_lt}
-use lib.ListN.{length, get_or, set, replicate, length-set, length-append, length-replicate}
+use native.Mathlib.Decide.{dec_lt}
+use lib.ListN.{length, get_or, set, replicate, length-set, length-replicate}
 use lib.Seq.{get_or-set_same, get_or-set_other}
 use lib.Dec.{eqb, ltb}
 use lib.IntN.{ℤ}
 use borrow.Author.Tests.{lt-ltb, le-ltb}
 use Rattle.loops.specs.Lists.{given, each}
-use Rattle.loops.specs.Range.{collect}
-use Rattle.loops.specs.inner.Chain.{First, Stands, only}
+use Rattle.loops.specs.inner.Chain.{First, only}
 use Rattle.loops.proofs.BoolLaws.{bit}
 use Rattle.loops.proofs.RangeLaws.{collect_ext}
-use Rattle.loops.proofs.ListLaws.{each_append}
-use Rattle.loops.proofs.Walks.{collect_first, collect_next, silent_only, stands_end, only_here}
+use Rattle.chains.specs.Places.{places}
+use Rattle.chains.specs.inner.Left.{Left, front}
+use Rattle.chains.proofs.PlaceLaws.{left_all}
 use Rattle.findings.specs.declared.Violation.{Violation}
-use Rattle.findings.specs.inner.Sink.{Sink, sink, emit}
-use Rattle.findings.proofs.SinkLaws.{emit_none, emit_then, kept}
+use Rattle.findings.specs.inner.Told.{Told, tell}
+use Rattle.findings.proofs.Reporting.{tell_append}
 use Rattle.rows.specs.Cells.{row_count, num}
 use Rattle.owners.specs.inner.Owners.{owned_by}
 use Rattle.model.specs.Schedule.{requirement_unfilled}
-use Rattle.definition.specs.CheckRequirements.{Claim, claim, claiming, passing}
+use Rattle.definition.specs.CheckRequirements.{Claim, claim, claiming}
 use Rattle.check4_pieces.specs.inner.OfPiece.{free_in}
-use Rattle.check4_claims.specs.inner.Claims.{candidate_of, lacking_of, claim_of, filled, claims_of, marked_at, unclaimed_of, claimable, takes, requirement_rows, free_at, runs_on_in, Free}
+use Rattle.check4_pieces.proofs.Along.{only_places}
+use Rattle.check4_claims.specs.inner.Claims.{candidate_of, lacking_of, claim_of, filled, marked_at, unclaimed_of, claimable, takes, requirement_rows, free_at, runs_on_in}
 
--- ---- a list in two parts
+-- ---- the marks of the bookings from one on
 
-abbrev joined : Claim → Claim → Claim
-joined a b = record { claimed = a.claimed ++ b.claimed; unclaimed = a.unclaimed ++ b.unclaimed }
+-- each place of the list is behind k
+Behind : ℕ → List ℕ → Type 0
+Behind k [] = ⊤
+Behind k (j ∷ l) = (k < j) × Behind k l
+
+behind : (p : ℕ → Bool) (n : ℕ) (l : List ℕ) (k i : ℕ) → k ≤ i → First p (suc i) n (front n l) → Left p n l → Behind k l
+unfolding Behind
+behind p n [] k i e f h = tt
+behind p n (j ∷ l) k i e f h = (omega (arith, f.low), behind p n l k j (omega (arith, f.low)) h.2 h.3)
+
+module _ (rows : List ℤ) where
+  each_kept : (free : List ℕ) (k v : ℕ) (l : List ℕ) → Behind k l → each (marked_at rows (set free k v)) l ≡ each (marked_at rows free) l
+  unfolding each marked_at Behind
+  each_kept free k v [] h = refl
+  each_kept free k v (j ∷ l) h =
+      ap₂ ◌++◌ (ap (λ x. given (eqb x 1) (num rows j 3)) (get_or-set_other free k j v 0 (λ e. omega (arith, h.0)))) (each_kept free k v l h.1)
+
+  -- ---- those that may be claimed
+
+  -- booking k, marked where it may be claimed
+  abbrev pub mark_free : ℕ → List ℕ → ℕ → List ℕ
+  mark_free p free k = set free k (cond (free_in rows p k) 1 0)
+
+  free_kept : (p k : ℕ) (l : List ℕ) (free : List ℕ) → Behind k l → get_or (foldl (mark_free p) free l) k 0 ≡ get_or free k 0
+  unfolding Behind
+  free_kept p k [] free h = refl
+  free_kept p k (j ∷ l) free h = free_kept p k l (mark_free p free j) h.1 ∙ get_or-set_other free j k (cond (free_in rows p j) 1 0) 0 (λ e. omega (arith, h.0))
+
+  free_from : (q : ℕ → Bool) (n p : ℕ) → n ≤ 800 → (l : List ℕ) → Left q n l → (free : List ℕ) → length free ≡ 800 → each (marked_at rows (foldl (mark_free p) free l)) l ≡ each (free_at rows p) l
+  unfolding each marked_at free_at
+  free_from q n p s [] h free z = refl
+  free_from q n p s (k ∷ l) h free z =
+      ap₂ ◌++◌
+      (ap (λ x. given (eqb x 1) (num rows k 3)) (free_kept p k l (mark_free p free k) (behind q n l k k (omega arith) h.2 h.3) ∙ get_or-set_same free k (cond (free_in rows p k) 1 0) 0 (omega (arith, h.0)))
+      ∙ ap (λ b. given b (num rows k 3)) (bit (free_in rows p k)))
+      (free_from q n p s l h.3 (mark_free p free k) (length-set free k (cond (free_in rows p k) 1 0) ∙ z))
+
+  pub free_all : (o p : ℕ) → row_count rows ≤ 800
+      → unclaimed_of rows o (foldl (mark_free p) (replicate 800 0) (places (owned_by rows o 23) (row_count rows))) ≡ runs_on_in rows o p
+  free_all o p s =
+      sym (only_places (owned_by rows o 23) (marked_at rows (foldl (mark_free p) (replicate 800 0) (places (owned_by rows o 23) (row_count rows)))) (row_count rows))
+      ∙ free_from (owned_by rows o 23) (row_count rows) p s (places (owned_by rows o 23) (row_count rows)) (left_all (owned_by rows o 23) (row_count rows)) (replicate 800 0) (length-replicate {A = ℕ} 800 0)
+      ∙ only_places (owned_by rows o 23) (free_at rows p) (row_count rows)
+
+-- ---- a claim, resource by resource
+
+-- a resource that is passed over, where it is free
+abbrev passed : Bool → ℕ → Claim → Claim
+passed b x c = record { claimed = c.claimed; unclaimed = given b x ++ c.unclaimed }
 
 module _ (f : ℕ → Bool) where
   claim_nil : (n : ℕ) → claim f n [] ≡ record { claimed = []; unclaimed = [] }
@@ -39,33 +87,12 @@ module _ (f : ℕ → Bool) where
   claim_nil zero = refl
   claim_nil (suc n) = refl
 
-  claim_append : (n : ℕ) (l m : List ℕ) → claim f n (l ++ m) ≡ joined (claim f n l) (claim f (n - length (claim f n l).claimed) m)
+  claim_next : (d : ℕ) (b : Bool) (x : ℕ) (m : List ℕ)
+      → claim f d (given b x ++ m) ≡ cond (ltb 0 d && (b && f x)) (claiming x (claim f (d - 1) m)) (passed b x (claim f d m))
   unfolding claim
-  claim_append zero l m = refl
-  claim_append (suc n) [] m = let e : suc n - 0 ≡ suc n = omega arith in ap (λ d. joined (claim f (suc n) []) (claim f d m)) (sym e)
-  claim_append (suc n) (r ∷ l) m = go (f r) (claim_append n l m) (claim_append (suc n) l m)
-    where
-      go : (b : Bool) → claim f n (l ++ m) ≡ joined (claim f n l) (claim f (n - length (claim f n l).claimed) m)
-          → claim f (suc n) (l ++ m) ≡ joined (claim f (suc n) l) (claim f (suc n - length (claim f (suc n) l).claimed) m)
-          → cond b (claiming r (claim f n (l ++ m))) (passing r (claim f (suc n) (l ++ m)))
-          ≡ joined (cond b (claiming r (claim f n l)) (passing r (claim f (suc n) l)))
-          (claim f (suc n - length (cond b (claiming r (claim f n l)) (passing r (claim f (suc n) l))).claimed) m)
-      go true p q =
-          let e : suc n - suc (length (claim f n l).claimed) ≡ n - length (claim f n l).claimed = omega arith in
-          rw e (ap (claiming r) p)
-      go false p q = ap (passing r) q
-
-  claim_one : (d : ℕ) (b : Bool) (x : ℕ)
-      → claim f d (given b x) ≡ cond (ltb 0 d && (b && f x)) (record { claimed = x ∷ []; unclaimed = [] }) (record { claimed = []; unclaimed = given b x })
-  unfolding claim
-  claim_one zero b x = refl
-  claim_one (suc d) false x = rw (lt-ltb 0 (suc d) (omega arith))
-  claim_one (suc d) true x = rw (lt-ltb 0 (suc d) (omega arith), claim_nil d) (go (f x))
-    where
-      go : (b : Bool) → cond b (claiming x (record { claimed = []; unclaimed = [] })) (passing x (record { claimed = []; unclaimed = [] }))
-          ≡ cond b (record { claimed = x ∷ []; unclaimed = [] }) (record { claimed = []; unclaimed = x ∷ [] })
-      go true = refl
-      go false = refl
+  claim_next zero b x m = refl
+  claim_next (suc d) false x m = rw (lt-ltb 0 (suc d) (omega arith)) refl
+  claim_next (suc d) true x m = let e : suc d - 1 ≡ d = omega arith in rw (lt-ltb 0 (suc d) (omega arith), e) refl
 
 above : (q u : ℕ) → ltb 0 (q - u) ≡ ltb u q
 above q u = go (dec_lt u q)
@@ -74,208 +101,134 @@ above q u = go (dec_lt u q)
     go (yes h) = rw (lt-ltb 0 (q - u) (omega arith), lt-ltb u q h)
     go (no h) = rw (le-ltb 0 (q - u) (omega arith), le-ltb u q (omega arith))
 
--- ---- the loop over the bookings
+-- ---- what the requirement at row q claims of the bookings from one on
 
-module _ (rows : List ℤ) (o q : ℕ) where
-  own : ℕ → Bool
-  own = owned_by rows o 23
+module _ (rows : List ℤ) (q : ℕ) where
+  -- the marks and the units that booking k leaves
+  abbrev pub marks_after : List ℕ → ℕ → ℕ → List ℕ
+  marks_after free units k = cond (takes rows q free units k) (set free k 0) free
 
-  abbrev seen : List ℕ → ℕ → List ℕ
-  seen free i = collect (only (owned_by rows o 23) (marked_at rows free)) i
+  abbrev pub units_after : List ℕ → ℕ → ℕ → ℕ
+  units_after free units k = units + cond (takes rows q free units k) 1 0
 
-  -- what it knows at row i
-  pub record Claiming (free₀ : List ℕ) (s₀ : Sink) (i : ℕ) (free : List ℕ) (units : ℕ) (s : Sink) : Type 0 where
-    pub size : length free ≡ 800
-    pub later : (k : ℕ) → i ≤ k → get_or free k 0 ≡ get_or free₀ k 0
-    pub left : seen free i ≡ (claim_of rows q (seen free₀ i)).unclaimed
-    pub count : units ≡ length (claim_of rows q (seen free₀ i)).claimed
-    pub wrote : s ≡ emit s₀ (each (lacking_of rows q) (claim_of rows q (seen free₀ i)).claimed)
+  -- the marks that all of them leave
+  unfoldable pub marks_from : List ℕ → ℕ → List ℕ → List ℕ
+  marks_from free units [] = free
+  marks_from free units (k ∷ l) = marks_from (marks_after free units k) (units_after free units k) l
 
-  pub claiming_start : (free : List ℕ) (s : Sink) {n k : ℕ} → First (owned_by rows o 23) 0 n k → length free ≡ 800 → Claiming free s k free 0 s
-  claiming_start free s {n} {k} a h =
-      let e : seen free k ≡ [] = collect_first (only (owned_by rows o 23) (marked_at rows free)) a (silent_only (owned_by rows o 23) (marked_at rows free)) in
-      let c : claim_of rows q (seen free k) ≡ record { claimed = []; unclaimed = [] } = ap (claim_of rows q) e ∙ claim_nil (candidate_of rows q) (num rows q 3) in
-      record {
-        size = h;
-        later = λ j _. refl;
-        left = e ∙ sym (ap (λ x. x.unclaimed) c);
-        count = sym (ap (λ x. length x.claimed) c);
-        wrote = sym (ap (λ x. emit s (each (lacking_of rows q) x.claimed)) c ∙ (unfold each in emit_none s));
-      }
+  -- what is told of them, and of the requirement
+  unfoldable pub told_from : ℕ → List ℕ → ℕ → List ℕ → List Violation
+  told_from activity free units [] = given (ltb units (num rows q 3)) (requirement_unfilled 4 activity)
+  told_from activity free units (k ∷ l) =
+      cond (takes rows q free units k) (lacking_of rows q (num rows k 3)) [] ++ told_from activity (marks_after free units k) (units_after free units k) l
 
-  pub claiming_kept : {free₀ free : List ℕ} {out₀ out out' : List ℤ} {n₀ n n' i units : ℕ} (fs : List Violation) → Claiming free₀ (sink out₀ n₀) i free units (sink out n)
-      → sink out' n' ≡ emit (sink out n) fs → length out' ≡ length out₀
-  claiming_kept fs h w = kept _ _ fs w ∙ kept _ _ _ h.wrote
+  abbrev claim_from : List ℕ → ℕ → List ℕ → Claim
+  claim_from free units l = claim (candidate_of rows q) (num rows q 3 - units) (each (marked_at rows free) l)
 
-  module _ (free₀ : List ℕ) (s₀ : Sink) {n N i j : ℕ} (free : List ℕ) (units : ℕ) (s : Sink) (h : Claiming free₀ s₀ i free units s)
-      (x : First (owned_by rows o 23) (suc i) n j) (l : i < N) (z : N ≡ n) (a : Stands (owned_by rows o 23) n i) where
-    -- booking i is looked at
-    next_seen : (m : List ℕ) → seen m j ≡ seen m i ++ marked_at rows m i
-    next_seen m =
-        collect_next (only (owned_by rows o 23) (marked_at rows m)) x (silent_only (owned_by rows o 23) (marked_at rows m))
-        ∙ ap (λ y. seen m i ++ y) (only_here (owned_by rows o 23) (marked_at rows m) l z a)
-
-    mark_is : (m : List ℕ) → marked_at rows m i ≡ given (eqb (get_or m i 0) 1) (num rows i 3)
-    unfolding marked_at
-    mark_is m = refl
-
-    same_mark : marked_at rows free₀ i ≡ given (eqb (get_or free i 0) 1) (num rows i 3)
-    unfolding marked_at
-    same_mark = ap (λ y. given (eqb y 1) (num rows i 3)) (sym (h.later i (omega arith)))
-
-    next_claim : claim_of rows q (seen free₀ j)
-        ≡ joined (claim_of rows q (seen free₀ i))
-        (cond (takes rows q free units i) (record { claimed = num rows i 3 ∷ []; unclaimed = [] })
-        (record { claimed = []; unclaimed = given (eqb (get_or free i 0) 1) (num rows i 3) }))
-    unfolding takes claimable
-    next_claim =
-        ap (claim_of rows q) (next_seen free₀ ∙ ap (λ y. seen free₀ i ++ y) same_mark)
-        ∙ claim_append (candidate_of rows q) (num rows q 3) (seen free₀ i) (given (eqb (get_or free i 0) 1) (num rows i 3))
-        ∙ ap (joined (claim_of rows q (seen free₀ i)))
-        (claim_one (candidate_of rows q) (num rows q 3 - length (claim_of rows q (seen free₀ i)).claimed) (eqb (get_or free i 0) 1) (num rows i 3)
-        ∙ ap (λ b. cond (b && (eqb (get_or free i 0) 1 && candidate_of rows q (num rows i 3))) (record { claimed = num rows i 3 ∷ []; unclaimed = [] })
-        (record { claimed = []; unclaimed = given (eqb (get_or free i 0) 1) (num rows i 3) }))
-        (above (num rows q 3) (length (claim_of rows q (seen free₀ i)).claimed) ∙ ap (λ u. ltb u (num rows q 3)) (sym h.count)))
-
-    -- the marks of the rows above do not change
-    same_seen : (v : ℕ) → seen (set free i v) i ≡ seen free i
-    unfolding only marked_at
-    same_seen v = collect_ext _ _ i (λ k m. ap (λ y. cond (owned_by rows o 23 k) (given (eqb y 1) (num rows k 3)) []) (get_or-set_other free i k v 0 (λ w. omega arith)))
-
-    pub claiming_turn : {free' : List ℕ} {units' : ℕ} {s' : Sink} → n ≤ 800
-        → s' ≡ emit s (cond (takes rows q free units i) (lacking_of rows q (num rows i 3)) [])
-        → units' ≡ units + cond (takes rows q free units i) 1 0
-        → free' ≡ cond (takes rows q free units i) (set free i 0) free
-        → Claiming free₀ s₀ j free' units' s'
-    unfolding each
-    claiming_turn {free'} {units'} {s'} small = go (takes rows q free units i) next_claim
-      where
-        C : Claim
-        C = claim_of rows q (seen free₀ i)
-
-        go : (b : Bool)
-            → claim_of rows q (seen free₀ j)
-            ≡ joined C (cond b (record { claimed = num rows i 3 ∷ []; unclaimed = [] }) (record { claimed = []; unclaimed = given (eqb (get_or free i 0) 1) (num rows i 3) }))
-            → s' ≡ emit s (cond b (lacking_of rows q (num rows i 3)) []) → units' ≡ units + cond b 1 0 → free' ≡ cond b (set free i 0) free
-            → Claiming free₀ s₀ j free' units' s'
-        go true c w u m = record {
-          size = ap length m ∙ length-set free i 0 ∙ h.size;
-          later = λ k e. ap (λ t. get_or t k 0) m ∙ get_or-set_other free i k 0 0 (λ y. omega (arith, x.low)) ∙ h.later k (omega (arith, x.low));
-          left = ap (λ t. seen t j) m ∙ next_seen (set free i 0)
-              ∙ ap₂ ◌++◌ (same_seen 0 ∙ h.left) (mark_is (set free i 0) ∙ ap (λ y. given (eqb y 1) (num rows i 3)) (get_or-set_same free i 0 0 (omega (arith, h.size))))
-              ∙ sym (ap (λ y. y.unclaimed) c);
-          count = u ∙ ap (λ y. y + 1) h.count ∙ sym (ap (λ y. length y.claimed) c ∙ length-append C.claimed (num rows i 3 ∷ []));
-          wrote = emit_then _ _ s₀ h.wrote w
-              ∙ sym (ap (λ y. emit s₀ (each (lacking_of rows q) y.claimed)) c
-              ∙ ap (emit s₀) (each_append (lacking_of rows q) C.claimed (num rows i 3 ∷ []) ∙ ap (λ y. each (lacking_of rows q) C.claimed ++ y) (append-nil (lacking_of rows q (num rows i 3)))));
-        }
-        go false c w u m = record {
-          size = ap length m ∙ h.size;
-          later = λ k e. ap (λ t. get_or t k 0) m ∙ h.later k (omega (arith, x.low));
-          left = ap (λ t. seen t j) m ∙ next_seen free ∙ ap₂ ◌++◌ h.left (mark_is free) ∙ sym (ap (λ y. y.unclaimed) c);
-          count = u ∙ add-zero units ∙ h.count ∙ sym (ap (λ y. length y.claimed) c ∙ ap length (append-nil C.claimed));
-          wrote = w ∙ emit_none s ∙ h.wrote ∙ sym (ap (λ y. emit s₀ (each (lacking_of rows q) y.claimed)) c ∙ ap (λ y. emit s₀ (each (lacking_of rows q) y)) (append-nil C.claimed));
-        }
-
-  module _ (free₀ : List ℕ) (s₀ : Sink) {N i : ℕ} {free : List ℕ} {units : ℕ} {s : Sink} (h : Claiming free₀ s₀ i free units s)
-      (l : N ≤ i) (z : N ≡ row_count rows) (a : Stands (owned_by rows o 23) (row_count rows) i) where
-    at_end : i ≡ row_count rows
-    at_end = stands_end a l z
-
-    pub claiming_left : unclaimed_of rows o free ≡ (claim_of rows q (unclaimed_of rows o free₀)).unclaimed
-    claiming_left = rw at_end at h.left
-
-    pub claiming_wrote : (activity : ℕ) {s' : Sink} {u : ℕ} → u ≡ num rows q 3
-        → s' ≡ emit s (given (ltb units u) (requirement_unfilled 4 activity)) → s' ≡ emit s₀ (filled rows activity q (unclaimed_of rows o free₀))
-    unfolding filled
-    claiming_wrote activity f w =
-        emit_then _ _ s₀ h.wrote w
-        ∙ ap (emit s₀) (ap₂ (λ k b. each (lacking_of rows q) (claim_of rows q (seen free₀ k)).claimed ++ given b (requirement_unfilled 4 activity)) at_end
-        (ap₂ ltb (h.count ∙ ap (λ k. length (claim_of rows q (seen free₀ k)).claimed) at_end) f))
-
--- ---- the loop over the requirements
-
-module _ (rows : List ℤ) (activity : ℕ) where
-  -- what the requirements leave
-  pub leaves : List ℕ → List ℕ → List ℕ
-  leaves [] l = l
-  leaves (q ∷ m) l = leaves m (claim_of rows q l).unclaimed
-
-  leaves_more : (a : List ℕ) (q : ℕ) (l : List ℕ) → leaves (a ++ q ∷ []) l ≡ (claim_of rows q (leaves a l)).unclaimed
-  unfolding leaves
-  leaves_more [] q l = refl
-  leaves_more (r ∷ a) q l = leaves_more a q (claim_of rows r l).unclaimed
-
-  claims_more : (a : List ℕ) (q : ℕ) (l : List ℕ) → claims_of rows activity (a ++ q ∷ []) l ≡ claims_of rows activity a l ++ filled rows activity q (leaves a l)
-  unfolding claims_of leaves
-  claims_more [] q l = append-nil (filled rows activity q l)
-  claims_more (r ∷ a) q l =
-      ap (λ y. filled rows activity r l ++ y) (claims_more a q (claim_of rows r l).unclaimed)
-      ∙ sym (append_assoc (filled rows activity r l) (claims_of rows activity a (claim_of rows r l).unclaimed) (filled rows activity q (leaves a (claim_of rows r l).unclaimed)))
-
-  module _ (o p : ℕ) where
-    abbrev asked : ℕ → List ℕ
-    asked i = collect (only (owned_by rows o 5) (λ q. q ∷ [])) i
-
-    pub record Filling (s₀ : Sink) (i : ℕ) (free : List ℕ) (s : Sink) : Type 0 where
-      pub size : length free ≡ 800
-      pub left : unclaimed_of rows o free ≡ leaves (asked i) (runs_on_in rows o p)
-      pub wrote : s ≡ emit s₀ (claims_of rows activity (asked i) (runs_on_in rows o p))
-
-    pub filling_start : (s : Sink) {i : ℕ} {free : List ℕ} → First (owned_by rows o 5) 0 (row_count rows) i → Free rows o p (row_count rows) free → Filling s i free s
-    unfolding claims_of leaves
-    filling_start s {i} a f =
-        let e : asked i ≡ [] = collect_first (only (owned_by rows o 5) (λ q. q ∷ [])) a (silent_only (owned_by rows o 5) (λ q. q ∷ [])) in
-        record {
-          size = f.size;
-          left = collect_ext _ _ (row_count rows) f.at ∙ sym (ap (λ y. leaves y (runs_on_in rows o p)) e);
-          wrote = sym (ap (λ y. emit s (claims_of rows activity y (runs_on_in rows o p))) e ∙ emit_none s);
-        }
-
-    pub filling_turn : (s₀ : Sink) {N i j : ℕ} {free free' : List ℕ} {s s' : Sink} → Filling s₀ i free s → First (owned_by rows o 5) (suc i) (row_count rows) j → i < N → N ≡ row_count rows
-        → Stands (owned_by rows o 5) (row_count rows) i
-        → s' ≡ emit s (filled rows activity i (unclaimed_of rows o free))
-        → unclaimed_of rows o free' ≡ (claim_of rows i (unclaimed_of rows o free)).unclaimed → length free' ≡ 800 → Filling s₀ j free' s'
-    filling_turn s₀ {N} {i} {j} {free} {free'} {s} {s'} h x l z a w m k =
-        let e : asked j ≡ asked i ++ (i ∷ []) =
-        collect_next (only (owned_by rows o 5) (λ q. q ∷ [])) x (silent_only (owned_by rows o 5) (λ q. q ∷ []))
-        ∙ ap (λ y. asked i ++ y) (only_here (owned_by rows o 5) (λ q. q ∷ []) l z a) in
-        record {
-          size = k;
-          left = m ∙ ap (λ y. (claim_of rows i y).unclaimed) h.left ∙ sym (ap (λ y. leaves y (runs_on_in rows o p)) e ∙ leaves_more (asked i) i (runs_on_in rows o p));
-          wrote = emit_then _ _ s₀ h.wrote w
-              ∙ ap (emit s₀) (ap (λ y. claims_of rows activity (asked i) (runs_on_in rows o p) ++ filled rows activity i y) h.left
-              ∙ sym (ap (λ y. claims_of rows activity y (runs_on_in rows o p)) e ∙ claims_more (asked i) i (runs_on_in rows o p)));
-        }
-
-    pub filling_end : (s₀ : Sink) {N i : ℕ} {free : List ℕ} {s : Sink} → N ≤ i → N ≡ row_count rows → Stands (owned_by rows o 5) (row_count rows) i → Filling s₀ i free s
-        → s ≡ emit s₀ (claims_of rows activity (requirement_rows rows o) (runs_on_in rows o p))
-    filling_end s₀ l z a h = h.wrote ∙ ap (λ k. emit s₀ (claims_of rows activity (asked k) (runs_on_in rows o p))) (stands_end a l z)
-
--- ---- the marks
-
-module _ (rows : List ℤ) (o p : ℕ) where
-  pub free_start : {n k : ℕ} → First (owned_by rows o 23) 0 n k → Free rows o p k (replicate 800 0)
-  unfolding only
-  free_start a = record {
-    size = length-replicate {A = ℕ} 800 0;
-    at = λ j l. rw (a.none j (omega arith) l);
-  }
-
-  pub free_turn : {n N i j : ℕ} {free free' : List ℕ} {b : Bool} → First (owned_by rows o 23) (suc i) n j → i < N → N ≡ n → n ≤ 800 → Stands (owned_by rows o 23) n i
-      → Free rows o p i free → b ≡ free_in rows p i → free' ≡ set free i (cond b 1 0) → Free rows o p j free'
-  unfolding only marked_at free_at
-  free_turn {n} {N} {i} {j} {free} {free'} {b} x l z short a f e m = rw m (record {
-    size = length-set free i (cond b 1 0) ∙ f.size;
-    at = λ k h. go k h (ℕ_discrete k i) (dec_lt k i);
-  })
+  claim_turn : (free : List ℕ) (units k : ℕ) (l : List ℕ) → Behind k l
+      → claim_from free units (k ∷ l)
+      ≡ cond (takes rows q free units k) (claiming (num rows k 3) (claim_from (marks_after free units k) (units_after free units k) l))
+      (passed (eqb (get_or free k 0) 1) (num rows k 3) (claim_from (marks_after free units k) (units_after free units k) l))
+  unfolding each marked_at takes claimable
+  claim_turn free units k l h =
+      claim_next (candidate_of rows q) (num rows q 3 - units) (eqb (get_or free k 0) 1) (num rows k 3) (each (marked_at rows free) l)
+      ∙ ap (λ b. cond (b && (eqb (get_or free k 0) 1 && candidate_of rows q (num rows k 3)))
+      (claiming (num rows k 3) (claim (candidate_of rows q) (num rows q 3 - units - 1) (each (marked_at rows free) l)))
+      (passed (eqb (get_or free k 0) 1) (num rows k 3) (claim_from free units l))) (above (num rows q 3) units)
+      ∙ go (ltb units (num rows q 3) && (eqb (get_or free k 0) 1 && candidate_of rows q (num rows k 3)))
     where
-      go : (k : ℕ) → k < j → Dec (k ≡ i) → Dec (k < i)
-          → cond (owned_by rows o 23 k) (given (eqb (get_or (set free i (cond b 1 0)) k 0) 1) (num rows k 3)) []
-          ≡ cond (owned_by rows o 23 k) (given (free_in rows p k) (num rows k 3)) []
-      go k h (yes w) d = rw (w, get_or-set_same free i (cond b 1 0) 0 (omega (arith, f.size)), bit b, e)
-      go k h (no w) (yes d) = rw (get_or-set_other free i k (cond b 1 0) 0 w) (f.at k d)
-      go k h (no w) (no d) = rw (x.none k (omega arith) h)
+      go : (b : Bool) → cond b (claiming (num rows k 3) (claim (candidate_of rows q) (num rows q 3 - units - 1) (each (marked_at rows free) l)))
+          (passed (eqb (get_or free k 0) 1) (num rows k 3) (claim_from free units l))
+          ≡ cond b (claiming (num rows k 3) (claim_from (cond b (set free k 0) free) (units + cond b 1 0) l))
+          (passed (eqb (get_or free k 0) 1) (num rows k 3) (claim_from (cond b (set free k 0) free) (units + cond b 1 0) l))
+      go true =
+          let e : num rows q 3 - units - 1 ≡ num rows q 3 - (units + 1) = omega arith in
+          ap₂ (λ d m. claiming (num rows k 3) (claim (candidate_of rows q) d m)) e (sym (each_kept rows free k 0 l h))
+      go false = let e : units + 0 ≡ units = omega arith in rw e
 
-  pub free_end : {N i : ℕ} {free : List ℕ} → N ≤ i → N ≡ row_count rows → Stands (owned_by rows o 23) (row_count rows) i → Free rows o p i free → Free rows o p (row_count rows) free
-  free_end {N} {i} {free} l z a f = rw (stands_end a l z) at f
+  told_is : (p : ℕ → Bool) (n activity : ℕ) (l : List ℕ) → Left p n l → (free : List ℕ) (units : ℕ)
+      → told_from activity free units l
+      ≡ each (lacking_of rows q) (claim_from free units l).claimed
+      ++ given (ltb (units + length (claim_from free units l).claimed) (num rows q 3)) (requirement_unfilled 4 activity)
+  unfolding told_from each
+  told_is p n activity [] h free units =
+      rw (claim_nil (candidate_of rows q) (num rows q 3 - units)) (let e : units + 0 ≡ units = omega arith in rw e)
+  told_is p n activity (k ∷ l) h free units =
+      ap (λ t. cond (takes rows q free units k) (lacking_of rows q (num rows k 3)) [] ++ t) (told_is p n activity l h.3 (marks_after free units k) (units_after free units k))
+      ∙ go (takes rows q free units k) (claim_from (marks_after free units k) (units_after free units k) l)
+      ∙ ap (λ c. each (lacking_of rows q) c.claimed ++ given (ltb (units + length c.claimed) (num rows q 3)) (requirement_unfilled 4 activity))
+      (sym (claim_turn free units k l (behind p n l k k (omega arith) h.2 h.3)))
+    where
+      go : (b : Bool) (c : Claim)
+          → cond b (lacking_of rows q (num rows k 3)) [] ++ (each (lacking_of rows q) c.claimed ++ given (ltb ((units + cond b 1 0) + length c.claimed) (num rows q 3)) (requirement_unfilled 4 activity))
+          ≡ (let d = cond b (claiming (num rows k 3) c) (passed (eqb (get_or free k 0) 1) (num rows k 3) c) in
+          each (lacking_of rows q) d.claimed ++ given (ltb (units + length d.claimed) (num rows q 3)) (requirement_unfilled 4 activity))
+      go true c = let e : (units + 1) + length c.claimed ≡ units + suc (length c.claimed) = omega arith in
+          rw e (sym (append_assoc (lacking_of rows q (num rows k 3)) (each (lacking_of rows q) c.claimed) _))
+      go false c = let e : (units + 0) + length c.claimed ≡ units + length c.claimed = omega arith in rw e
+
+  -- the bookings behind do not touch the mark
+  marks_kept : (k : ℕ) (l : List ℕ) (free : List ℕ) (units : ℕ) → Behind k l → get_or (marks_from free units l) k 0 ≡ get_or free k 0
+  unfolding Behind marks_from
+  marks_kept k [] free units h = refl
+  marks_kept k (j ∷ l) free units h = marks_kept k l (marks_after free units j) (units_after free units j) h.1 ∙ go (takes rows q free units j)
+    where
+      go : (b : Bool) → get_or (cond b (set free j 0) free) k 0 ≡ get_or free k 0
+      go true = get_or-set_other free j k 0 0 (λ e. omega (arith, h.0))
+      go false = refl
+
+  left_is : (p : ℕ → Bool) (n : ℕ) → n ≤ 800 → (l : List ℕ) → Left p n l → (free : List ℕ) (units : ℕ) → length free ≡ 800
+      → each (marked_at rows (marks_from free units l)) l ≡ (claim_from free units l).unclaimed
+  unfolding marks_from each marked_at
+  left_is p n s [] h free units z = rw (claim_nil (candidate_of rows q) (num rows q 3 - units))
+  left_is p n s (k ∷ l) h free units z =
+      ap₂ (λ x m. given (eqb x 1) (num rows k 3) ++ m)
+      (marks_kept k l (marks_after free units k) (units_after free units k) (behind p n l k k (omega arith) h.2 h.3))
+      (left_is p n s l h.3 (marks_after free units k) (units_after free units k) (size (takes rows q free units k)))
+      ∙ go (takes rows q free units k) (claim_from (marks_after free units k) (units_after free units k) l)
+      ∙ ap (λ c. c.unclaimed) (sym (claim_turn free units k l (behind p n l k k (omega arith) h.2 h.3)))
+    where
+      size : (b : Bool) → length (cond b (set free k 0) free) ≡ 800
+      size true = length-set free k 0 ∙ z
+      size false = z
+
+      go : (b : Bool) (c : Claim) → given (eqb (get_or (cond b (set free k 0) free) k 0) 1) (num rows k 3) ++ c.unclaimed
+          ≡ (cond b (claiming (num rows k 3) c) (passed (eqb (get_or free k 0) 1) (num rows k 3) c)).unclaimed
+      go true c = rw (get_or-set_same free k 0 0 (omega (arith, h.0)))
+      go false c = refl
+
+  module _ (o : ℕ) (free : List ℕ) where
+    claim_all : claim_from free 0 (places (owned_by rows o 23) (row_count rows)) ≡ claim_of rows q (unclaimed_of rows o free)
+    claim_all =
+        let e : num rows q 3 - 0 ≡ num rows q 3 = omega arith in
+        ap₂ (λ d l. claim (candidate_of rows q) d l) e (only_places (owned_by rows o 23) (marked_at rows free) (row_count rows))
+
+    pub fill_left : length free ≡ 800 → row_count rows ≤ 800
+        → unclaimed_of rows o (marks_from free 0 (places (owned_by rows o 23) (row_count rows))) ≡ (claim_of rows q (unclaimed_of rows o free)).unclaimed
+    fill_left z s =
+        sym (only_places (owned_by rows o 23) (marked_at rows (marks_from free 0 (places (owned_by rows o 23) (row_count rows)))) (row_count rows))
+        ∙ left_is (owned_by rows o 23) (row_count rows) s (places (owned_by rows o 23) (row_count rows)) (left_all (owned_by rows o 23) (row_count rows)) free 0 z
+        ∙ ap (λ c. c.unclaimed) claim_all
+
+    pub fill_told : (t : Told) (activity : ℕ)
+        → tell t (told_from activity free 0 (places (owned_by rows o 23) (row_count rows))) ≡ tell t (filled rows activity q (unclaimed_of rows o free))
+    unfolding filled
+    fill_told t activity =
+        ap (tell t) (told_is (owned_by rows o 23) (row_count rows) activity (places (owned_by rows o 23) (row_count rows)) (left_all (owned_by rows o 23) (row_count rows)) free 0
+        ∙ ap₂ (λ c d. each (lacking_of rows q) c.claimed ++ given (ltb d (num rows q 3)) (requirement_unfilled 4 activity)) claim_all
+        (let e : 0 + length (claim_from free 0 (places (owned_by rows o 23) (row_count rows))).claimed ≡ length (claim_from free 0 (places (owned_by rows o 23) (row_count rows))).claimed = omega arith in
+        e ∙ ap (λ c. length c.claimed) claim_all))
+
+-- ---- the requirements
+
+-- what is told of one step, and then of those that are left
+pub tell_turn : (t : Told) {t' u : Told} (a b : List Violation) → t' ≡ tell t a → tell t (a ++ b) ≡ u → tell t' b ≡ u
+tell_turn t a b e h = ap (λ x. tell x b) e ∙ tell_append t a b ∙ h
+
+pub asked : (rows : List ℤ) (o : ℕ) → places (owned_by rows o 5) (row_count rows) ≡ requirement_rows rows o
+unfolding places only
+asked rows o = collect_ext _ _ (row_count rows) (λ k l. go k (owned_by rows o 5 k))
+  where
+    go : (k : ℕ) (b : Bool) → given b k ≡ cond b (k ∷ []) []
+    go k true = refl
+    go k false = refl

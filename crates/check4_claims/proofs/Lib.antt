@@ -1,2 +1,1 @@
-pub mod Taking
 pub mod Claiming

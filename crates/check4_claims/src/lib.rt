@@ -2,215 +2,143 @@
 // in place of a list that gets shorter.
 #![tactic(auto)]
 
-ghost use Rattle.std.specs.Prelude.{◌≡◌, true, cond, [], ◌+◌, ◌<◌, ◌≤◌, length, get_or, set, eqb};
+ghost use Rattle.std.specs.Prelude.{◌≡◌, true, cond, [], ◌+◌, ◌<◌, ◌≤◌, length, set};
 ghost use Rattle.std.specs.Prelude.{None, Some};
-ghost use Rattle.findings.specs.inner.Sink.{sink, emit};
+ghost use Rattle.findings.specs.inner.Told.{so_far, tell};
 ghost use Rattle.rows.specs.Cells.{row_count, num, is};
 ghost use Rattle.sheet.specs.Places.{resource_place};
-ghost use Rattle.sheet.specs.inner.Found.{found_of};
-ghost use Rattle.owners.specs.inner.Owners.{Linked, Owned};
 ghost use Rattle.pieces.specs.inner.Held.{Held};
-ghost use Rattle.check4_claims.specs.inner.Claims.{has_skill, candidate_of, lacking_of, claim_of, filled, claims_of, unclaimed_of, claimable, takes, requirement_rows, runs_on_in, Free};
+ghost use Rattle.check4_claims.specs.inner.Claims.{has_skill, candidate_of, lacking_of, claim_of, filled, claims_of, unclaimed_of, claimable, takes, requirement_rows, runs_on_in};
 
-use findings::Violation;
-use sheet::Found;
+use findings::{Findings, Violation, ViolationKind};
+use owners::{ByOwner, LinkIndex, OwnerIndex, Owners};
+use rows::Kind;
+use sheet::Rows;
 
 // 1 at each booking of the piece that may be claimed.
-fn free_in(rows: &[i64], owned: &[u16; 8810], held: &[u8; 800], o: usize, p: u64) -> [u8; 800]
-    requires { Owned rows.now owned.now × (o ≤ row_count rows.now) × Held rows.now held.now }
-    ensures { Free rows.now o p (row_count rows.now) result }
+fn free_in(rows: &Owners, held: &[u8; 800], o: usize, p: u64) -> [u8; 800]
+    requires { (o ≤ row_count rows.now) × Held rows.now held.now }
+    ensures { unclaimed_of rows.now o result ≡ runs_on_in rows.now o p }
 {
-    let n = rows::row_count(rows);
     let mut free = [0u8; 800];
-    let mut k = owners::first_owned(rows, owned, o, 23);
-    while k < n {
-        pieces::mark(&mut free, k, check4_pieces::is_free(rows, held, p, k));
-        k = owners::next_owned(rows, owned, o, 23, k);
+    for k in rows.owned_by(o, Kind::Booking) {
+        free[k] = u8::from(check4_pieces::is_free(rows.as_slice(), held, p, k));
     }
     free
 }
 
 // The row of booking k's resource, if it is a candidate of the requirement at row q.
-fn candidate(rows: &[i64], links: &[u16; 1600], owned: &[u16; 8810], q: usize, k: usize) -> Found
-    requires { Linked rows.now links.now × Owned rows.now owned.now × (q < row_count rows.now) × (is rows.now q 0 5 ≡ true) × (k < row_count rows.now) × (is rows.now k 0 23 ≡ true) }
-    ensures { found_of result ≡ cond (candidate_of rows.now q (num rows.now k 3)) (resource_place rows.now (num rows.now k 3)) None }
+fn candidate(rows: &Owners, q: usize, k: usize) -> Option<usize>
+    requires { (q < row_count rows.now) × (is rows.now q 0 5 ≡ true) × (k < row_count rows.now) × (is rows.now k 0 23 ≡ true) }
+    ensures { result ≡ cond (candidate_of rows.now q (num rows.now k 3)) (resource_place rows.now (num rows.now k 3)) None }
 {
-    let Found::At(r) = owners::booked_resource(rows, links, k) else {
-        return Found::Nothing;
-    };
-    if candidates::is_candidate(rows, owned, q, r) {
-        return Found::At(r);
+    let r = rows.booked_resource(k).or_none()?;
+    if candidates::is_candidate(rows.as_slice(), rows.owned(), q, r) {
+        return Some(r);
     }
-    Found::Nothing
+    None
 }
 
 // `has_skill` of the resource at row r.
-fn has_skill(rows: &[i64], owned: &[u16; 8810], r: usize, skill: u64) -> bool
-    requires { Owned rows.now owned.now × (r ≤ row_count rows.now) }
+fn has_skill(rows: &Owners, r: usize, skill: u64) -> bool
+    requires { r ≤ row_count rows.now }
     ensures { result ≡ has_skill rows.now r skill }
 {
-    let n = rows::row_count(rows);
-    let mut k = owners::first_owned(rows, owned, r, 12);
-    while k < n {
-        if rows::is_at(rows, k, 2, skill) {
-            return true;
-        }
-        k = owners::next_owned(rows, owned, r, 12, k);
-    }
-    false
+    rows.owned_by(r, Kind::Skill).any(|k| rows.has(k, 2, skill))
 }
 
 // The skills that the requirement at row q asks for and the resource x, of row r, lacks.
-fn report_lacking(
-    rows: &[i64],
-    owned: &[u16; 8810],
-    q: usize,
-    r: usize,
-    x: u64,
-    out: &mut [i64],
-    n: usize,
-) -> usize
-    requires { Owned rows.now owned.now × (q < row_count rows.now) × (resource_place rows.now x ≡ Some r) × (x < 9223372036854775808) }
-    ensures { sink out.new result ≡ emit (sink out.old n) (lacking_of rows.now q x) }
+#[tactic(auto, using(chains::proofs::PlaceLaws::left_all, check4_pieces::proofs::Along::tell_only, sheet::proofs::Lookups::place_low), unfolding(crate::specs::inner::Claims::lacking_for))]
+fn report_lacking(rows: &Owners, q: usize, r: usize, x: u64, found: &mut Findings)
+    requires { (q < row_count rows.now) × (resource_place rows.now x ≡ Some r) × (x < 9223372036854775808) }
+    ensures { so_far found.new ≡ tell (so_far found.old) (lacking_of rows.now q x) }
 {
-    let end = rows::row_count(rows);
-    let f = Violation {
-        check: 4,
-        kind: 5,
-        entity: x,
-        severity: 70,
-    };
-    let mut m = n;
-    let mut k = owners::first_owned(rows, owned, q, 7);
-    while k < end {
-        let lacks = !has_skill(rows, owned, r, rows::num_at(rows, k, 3));
-        m = findings::report(out, m, lacks, f);
-        k = owners::next_owned(rows, owned, q, 7, k);
+    for k in rows.owned_by(q, Kind::WantedSkill) {
+        found.report(
+            !has_skill(rows, r, rows.num(k, 3)),
+            Violation::of(4, ViolationKind::SkillMismatch, x),
+        );
     }
-    m
-}
-
-// How many units a requirement has claimed, and the number of findings.
-#[derive(Clone, Copy)]
-struct Claimed {
-    units: u64,
-    n: usize,
-}
-
-fn is_marked(free: &[u8; 800], k: usize) -> bool
-    requires { k < 800 }
-    ensures { result ≡ eqb (get_or free.now k 0) 1 }
-{
-    free[k] == 1
 }
 
 // The row of booking k's resource, if k is marked and the resource is a candidate of the requirement at row q.
-fn claimant(
-    rows: &[i64],
-    links: &[u16; 1600],
-    owned: &[u16; 8810],
-    free: &[u8; 800],
-    q: usize,
-    k: usize,
-) -> Found
-    requires { Linked rows.now links.now × Owned rows.now owned.now × (q < row_count rows.now) × (is rows.now q 0 5 ≡ true) × (k < row_count rows.now) × (is rows.now k 0 23 ≡ true) }
-    ensures { found_of result ≡ cond (claimable rows.now q free.now k) (resource_place rows.now (num rows.now k 3)) None }
+#[tactic(auto, unfolding(crate::specs::inner::Claims::claimable))]
+fn claimant(rows: &Owners, free: &[u8; 800], q: usize, k: usize) -> Option<usize>
+    requires { (q < row_count rows.now) × (is rows.now q 0 5 ≡ true) × (k < row_count rows.now) × (k < 800) × (is rows.now k 0 23 ≡ true) }
+    ensures { result ≡ cond (claimable rows.now q free.now k) (resource_place rows.now (num rows.now k 3)) None }
 {
-    if is_marked(free, k) {
-        return candidate(rows, links, owned, q, k);
+    if free[k] == 1 {
+        return candidate(rows, q, k);
     }
-    Found::Nothing
+    None
 }
 
-// Booking k, claimed where it may be and the requirement at row q is not filled yet.
+// Booking k, claimed where it may be and the requirement at row q is not filled yet; answers how many units that has claimed then.
+#[tactic(auto, using(findings::proofs::SinkLaws::emit_none), unfolding(crate::specs::inner::Claims::takes, crate::specs::inner::Claims::claimable))]
 fn claim_at(
-    rows: &[i64],
-    links: &[u16; 1600],
-    owned: &[u16; 8810],
+    rows: &Owners,
     free: &mut [u8; 800],
     q: usize,
     units: u64,
     k: usize,
-    out: &mut [i64],
-    n: usize,
-) -> Claimed
-    requires { Linked rows.now links.now × Owned rows.now owned.now × (q < row_count rows.now) × (is rows.now q 0 5 ≡ true) × (k < row_count rows.now) × (is rows.now k 0 23 ≡ true) }
-    ensures wrote { sink out.new result.n ≡ emit (sink out.old n) (cond (takes rows.now q free.old units k) (lacking_of rows.now q (num rows.now k 3)) []) }
-    ensures units { result.units ≡ units + cond (takes rows.now q free.old units k) 1 0 }
+    found: &mut Findings,
+) -> u64
+    requires { (q < row_count rows.now) × (is rows.now q 0 5 ≡ true) × (k < row_count rows.now) × (k < 800) × (is rows.now k 0 23 ≡ true) }
+    ensures wrote { so_far found.new ≡ tell (so_far found.old) (cond (takes rows.now q free.old units k) (lacking_of rows.now q (num rows.now k 3)) []) }
+    ensures units { result ≡ units + cond (takes rows.now q free.old units k) 1 0 }
     ensures marks { free.new ≡ cond (takes rows.now q free.old units k) (set free.old k 0) free.old }
 {
-    if units < rows::num_at(rows, q, 3) {
-        let Found::At(r) = claimant(rows, links, owned, free, q, k) else {
-            return Claimed { units: units, n: n };
-        };
-        pieces::mark(free, k, false);
-        let m = report_lacking(rows, owned, q, r, rows::id_at(rows, k, 3), out, n);
-        return Claimed {
-            units: units + 1,
-            n: m,
-        };
+    if units >= rows.num(q, 3) {
+        return units;
     }
-    Claimed { units: units, n: n }
+    let Some(r) = claimant(rows, free, q, k) else {
+        return units;
+    };
+    free[k] = 0;
+    report_lacking(rows, q, r, rows.num(k, 3), found);
+    units + 1
 }
 
 // What the requirement at row q claims of the bookings that are marked, and whether it is filled.
+#[tactic(auto, using(model::proofs::OwnedLaws::owned_kind), unfolding(crate::proofs::Claiming::marks_from, crate::proofs::Claiming::told_from))]
 fn fill(
-    rows: &[i64],
-    links: &[u16; 1600],
-    owned: &[u16; 8810],
+    rows: &Owners,
     free: &mut [u8; 800],
     o: usize,
     activity: u64,
     q: usize,
-    out: &mut [i64],
-    n: usize,
-) -> usize
-    requires { Linked rows.now links.now × Owned rows.now owned.now × (o ≤ row_count rows.now) × (q < row_count rows.now) × (is rows.now q 0 5 ≡ true) × (activity < 9223372036854775808) × (length free.old ≡ 800) }
-    ensures wrote { sink out.new result ≡ emit (sink out.old n) (filled rows.now activity q (unclaimed_of rows.now o free.old)) }
+    found: &mut Findings,
+)
+    requires { (o ≤ row_count rows.now) × (q < row_count rows.now) × (is rows.now q 0 5 ≡ true) × (activity < 9223372036854775808) × (length free.old ≡ 800) }
+    ensures wrote { so_far found.new ≡ tell (so_far found.old) (filled rows.now activity q (unclaimed_of rows.now o free.old)) }
     ensures left { unclaimed_of rows.now o free.new ≡ (claim_of rows.now q (unclaimed_of rows.now o free.old)).unclaimed }
     ensures size { length free.new ≡ 800 }
 {
-    let end = rows::row_count(rows);
     let mut units: u64 = 0;
-    let mut m = n;
-    let mut k = owners::first_owned(rows, owned, o, 23);
-    while k < end {
-        let c = claim_at(rows, links, owned, free, q, units, k, out, m);
-        units = c.units;
-        m = c.n;
-        k = owners::next_owned(rows, owned, o, 23, k);
+    for k in rows.owned_by(o, Kind::Booking) {
+        units = claim_at(rows, free, q, units, k, found);
     }
-    let f = Violation {
-        check: 4,
-        kind: 6,
-        entity: activity,
-        severity: 95,
-    };
-    findings::report(out, m, units < rows::num_at(rows, q, 3), f)
+    found.report(
+        units < rows.num(q, 3),
+        Violation::of(4, ViolationKind::RequirementUnfilled, activity),
+    );
 }
 
 // The requirements in order, each of what those before it left.
+#[tactic(auto, using(chains::proofs::PlaceLaws::left_all, model::proofs::OwnedLaws::owned_kind, crate::proofs::Claiming::asked, findings::proofs::SinkLaws::emit_none), unfolding(crate::specs::inner::Claims::claims_of))]
 pub fn fill_all(
-    rows: &[i64],
-    links: &[u16; 1600],
-    owned: &[u16; 8810],
+    rows: &Owners,
     held: &[u8; 800],
     o: usize,
     p: u64,
     activity: u64,
-    out: &mut [i64],
-    n: usize,
-) -> usize
-    requires { Linked rows.now links.now × Owned rows.now owned.now × (o ≤ row_count rows.now) × Held rows.now held.now × (activity < 9223372036854775808) }
-    ensures { sink out.new result ≡ emit (sink out.old n) (claims_of rows.now activity (requirement_rows rows.now o) (runs_on_in rows.now o p)) }
+    found: &mut Findings,
+)
+    requires { (o ≤ row_count rows.now) × Held rows.now held.now × (activity < 9223372036854775808) }
+    ensures { so_far found.new ≡ tell (so_far found.old) (claims_of rows.now activity (requirement_rows rows.now o) (runs_on_in rows.now o p)) }
 {
-    let end = rows::row_count(rows);
-    let mut free = free_in(rows, owned, held, o, p);
-    let mut m = n;
-    let mut q = owners::first_owned(rows, owned, o, 5);
-    while q < end {
-        m = fill(rows, links, owned, &mut free, o, activity, q, out, m);
-        q = owners::next_owned(rows, owned, o, 5, q);
+    let mut free = free_in(rows, held, o, p);
+    for q in rows.owned_by(o, Kind::Requirement) {
+        fill(rows, &mut free, o, activity, q, found);
     }
-    m
 }

@@ -1,18 +1,20 @@
 -- The rows that name two things stand in the chain of their owner; a walk along it finds the first. Assumes nothing.
-use Prim.Native.Nat.{ℕ, ◌<◌, ◌≤◌}
+use Prim.Native.Nat.{ℕ, ◌<◌}
 use mathlib.Core.Path.{◌≡◌, refl, sym, ap, ap₂, ◌∙◌}
-use mathlib.Core.Bool.{Bool, true, false, not, ◌&&◌, true≢false, and-false, and-true}
+use mathlib.Core.Bool.{Bool, true, false, not, ◌&&◌, true≢false, and-false}
 use Rattle.std.specs.Prelude.{Option, None, Some}
 use mathlib.Core.List.{List}
-use native.Mathlib.Omega.{arith}
 use lib.Dec.{eqb}
 use lib.IntN.{ℤ}
 use borrow.Author.Tests.{eq-eqb, eqb-true}
-use Rattle.loops.specs.inner.Chain.{Stands, Blind}
+use Rattle.loops.specs.Lists.{any_of}
+use Rattle.loops.specs.inner.Chain.{Blind}
+use Rattle.chains.specs.Places.{places}
+use Rattle.chains.proofs.PlaceLaws.{any_blind}
 use Rattle.loops.specs.Search.{any_below, first_place}
 use Rattle.loops.proofs.BoolLaws.{and_left, and_right}
-use Rattle.loops.proofs.SearchLaws.{any_none, any_hit, none_below, place_hit}
-use Rattle.loops.proofs.PlaceLaws.{found_at, place_none, none_before, any_less}
+use Rattle.loops.proofs.SearchLaws.{any_none, any_hit, none_below}
+use Rattle.loops.proofs.PlaceLaws.{found_at, place_none, none_before}
 use Rattle.rows.specs.Cells.{row_count, num, is}
 use Rattle.sheet.specs.Places.{named, place_of}
 use Rattle.sheet.specs.Refusals.{is_absent, lacks}
@@ -66,10 +68,6 @@ module _ (rows : List ℤ) where
     pub moves_blind : Blind (owned_by rows o 14) (names rows 14 a b)
     moves_blind = resource_blind 14 (unfold owner_kind in refl)
 
-  -- a test of a column against a number that was read
-  pub read_is : (j c : ℕ) {v w : ℕ} {r b : Bool} → v ≡ w → r ≡ is rows j c v → r ≡ b → is rows j c w ≡ b
-  read_is j c e q h = rw (← e) (sym q ∙ h)
-
   pub timings_blind : (x o b : ℕ) {a a' : ℕ} → owner_kind x ≡ Some ActivityRow → a ≡ a' → Some o ≡ place_of rows 2 a' → Blind (owned_by rows o x) (names rows x a b)
   timings_blind x o b k e p = rw e (names_blind x 2 o _ b (λ i h. own_activity rows x i k h) p)
 
@@ -114,28 +112,8 @@ module _ (q : ℕ → Bool) where
       go None f = f
       go (Some i) f = let g = found_at q n i f in absurd (true≢false (sym g.1 ∙ any_none q n i e g.0))
 
-  pub found_here : (n i N : ℕ) → i < N → N ≡ n → any_below q i ≡ false → q i ≡ true → Some i ≡ first_place q n
-  found_here n i N l z e h = sym (place_hit q i n (omega arith) (place_below i e) h)
-
-  pub found_none : {p : ℕ → Bool} (n i N : ℕ) → N ≤ i → N ≡ n → Stands p n i → any_below q i ≡ false → None ≡ first_place q n
-  found_none n i N l z s e = let w : i ≡ n = omega (arith, s.high) in sym (rw w at (place_below i e))
-
   pub place_never : (n : ℕ) → ((k : ℕ) → k < n → q k ≡ false) → first_place q n ≡ None
   place_never n h = place_below n (none_below q n h)
-
-  -- whether there is any, by the search
-  any_found : (n i : ℕ) → Some i ≡ first_place q n → true ≡ any_below q n
-  any_found n i e = let f = found_at q n i (sym e) in any_hit q i n n f.0 refl f.1
-
-  none_found : (n : ℕ) → None ≡ first_place q n → false ≡ any_below q n
-  none_found n e = sym (none_below q n (place_none q n (sym e)))
-
-module _ (rows : List ℤ) (x b n : ℕ) {v a : ℕ} {f : Found} (e : v ≡ a) (p : found_of f ≡ first_place (names rows x v b) n) where
-  pub any_named : {k : ℕ} → f ≡ At k → true ≡ any_below (names rows x a b) n
-  any_named q = rw (← e) (any_found _ n _ (rw q at p))
-
-  pub none_named : f ≡ Nothing → false ≡ any_below (names rows x a b) n
-  none_named q = rw (← e) (none_found _ n (rw q at p))
 
 -- ---- rows that name an owner which is not in the sheet: there are none
 
@@ -234,37 +212,11 @@ module _ (rows : List ℤ) where
   pub same_blind : (k : ℕ) {a : ℕ} → a ≡ num rows k 1 → Blind (named rows 23 a) (same_booking rows k)
   same_blind k e = blind_if _ _ λ j f. piece_named rows k j (same_in_piece k j f) e
 
-  -- ---- what the code's loop over the bookings before k says
-  pub not_first : (k j : ℕ) → j < k → same_booking rows k j ≡ true → false ≡ not (any_below (same_booking rows k) k)
-  not_first k j l e = ap not (any_hit (same_booking rows k) j k k l refl e)
-
-  pub is_first_lem : (k j : ℕ) → k ≤ j → any_below (same_booking rows k) j ≡ false → true ≡ not (any_below (same_booking rows k) k)
-  is_first_lem k j l e = sym (ap not (any_less (same_booking rows k) j k e l))
+  pub firsts_told : (k : ℕ) {a : ℕ} → a ≡ num rows k 1
+      → any_of (first_holds k) (places (named rows 23 a) (row_count rows)) ≡ any_below (holds_for rows k) (row_count rows)
+  firsts_told k e = any_blind (first_holds k) (row_count rows) (first_blind k e) ∙ firsts_enough k
 
 -- a first booking is a booking
 pub first_kind : (rows : List ℤ) (j : ℕ) → first_on rows j ≡ true → is rows j 0 23 ≡ true
 unfolding first_on
 first_kind rows j h = and_left (is rows j 0 23) (not (any_below (same_booking rows j) j)) h
-
--- what the first booking of a resource holds, by its mark
-pub holds_at_first : (rows : List ℤ) (k j : ℕ) {r : Bool} → first_on rows j ≡ true → r ≡ holds_for rows k j → r ≡ (first_on rows j && holds_for rows k j)
-holds_at_first rows k j h e = rw h e
-
-pub holds_past_first : (rows : List ℤ) (k j : ℕ) → first_on rows j ≡ false → false ≡ (first_on rows j && holds_for rows k j)
-holds_past_first rows k j h = rw h
-
--- ---- the three tests of `holds_for`, as they are made: the resource is another, it has the companion, the piece is the same
-
-module _ (rows : List ℤ) (k j : ℕ) {r : ℕ} {b : Bool} (n : r ≡ num rows k 3) (e : b ≡ is rows j 3 r) where
-  pub holds_itself : b ≡ true → false ≡ holds_for rows k j
-  unfolding holds_for
-  holds_itself t = rw (← n, ← e, t) (sym (and-false (in_piece rows k j)))
-
-  module _ {c : Bool} (f : b ≡ false) (g : c ≡ any_below (names rows 13 (num rows j 3) r) (row_count rows)) where
-    pub holds_no_companion : c ≡ false → false ≡ holds_for rows k j
-    unfolding holds_for
-    holds_no_companion t = rw (← n, ← e, f, ← g, t) (sym (and-false (in_piece rows k j)))
-
-    pub holds_companion : {d : Bool} → c ≡ true → d ≡ in_piece rows k j → d ≡ holds_for rows k j
-    unfolding holds_for
-    holds_companion t q = q ∙ rw (← n, ← e, f, ← g, t) (sym (and-true (in_piece rows k j)))

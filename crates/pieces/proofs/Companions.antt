@@ -4,18 +4,15 @@ use mathlib.Core.Path.{◌≡◌, refl, sym, ap, ap₂, ◌∙◌}
 use mathlib.Core.Bool.{Bool, beq, true, false, not, ◌&&◌, cond, true≢false, or-false, and-false}
 use mathlib.Core.List.{List}
 use native.Mathlib.Omega.{arith}
-use native.Mathlib.Decide.{dec_lt}
-use lib.Dec.{eqb, ltb}
+use lib.Dec.{eqb}
 use lib.IntN.{ℤ, pos}
 use lib.ListN.{replicate}
-use borrow.Author.Tests.{lt-ltb, le-ltb}
 use Rattle.loops.specs.Lists.{given, keep, any_of, among}
 use Rattle.loops.specs.Range.{collect}
 use Rattle.loops.specs.Search.{any_below}
-use Rattle.loops.specs.inner.Chain.{First}
 use Rattle.loops.proofs.ListLaws.{any_map, any_keep, any_collect}
 use Rattle.loops.proofs.NumberLaws.{eqb_swap}
-use Rattle.loops.proofs.SearchLaws.{any_hit, any_none, none_below}
+use Rattle.loops.proofs.SearchLaws.{any_none, none_below}
 use Rattle.loops.proofs.PlaceLaws.{any_same}
 use Rattle.loops.proofs.StoreLaws.{filled_start}
 use Rattle.rows.specs.Cells.{row_count, cell, num, is}
@@ -135,17 +132,13 @@ module _ (rows : List ℤ) where
   unfolding held_at any_of
   held_none_lem k h = rw (assignment_none rows k h)
 
-  -- the same, of what the code found
-  pub held_as : Accepted rows → (k : ℕ) {r : Bool} → k < row_count rows → is rows k 0 23 ≡ true → r ≡ any_below (holds_for rows k) (row_count rows) → r ≡ held_at rows k
-  held_as acc k l h e = e ∙ sym (held_booking acc k l h)
-
-  -- a sheet has a row of a kind if its first one is before the end
-  pub any_of_lem : (x : ℕ) {i n : ℕ} → First (of_kind rows x) 0 (row_count rows) i → n ≡ row_count rows → ltb i n ≡ any_below (of_kind rows x) (row_count rows)
-  any_of_lem x {i} {n} f q = go (dec_lt i n)
+  -- as the code tests it
+  pub held_told : Accepted rows → (k : ℕ) → k < row_count rows → held_at rows k ≡ (is rows k 0 23 && any_below (holds_for rows k) (row_count rows))
+  held_told acc k l = go (is rows k 0 23) refl
     where
-      go : Dec (i < n) → ltb i n ≡ any_below (of_kind rows x) (row_count rows)
-      go (yes l) = lt-ltb i n l ∙ any_hit (of_kind rows x) i n (row_count rows) l q (f.here (omega arith))
-      go (no l) = le-ltb i n (omega arith) ∙ sym (none_below (of_kind rows x) (row_count rows) (λ k m. f.none k (omega arith) (omega arith)))
+      go : (b : Bool) → is rows k 0 23 ≡ b → held_at rows k ≡ (is rows k 0 23 && any_below (holds_for rows k) (row_count rows))
+      go true h = rw h (held_booking acc k l h)
+      go false h = rw h (held_none_lem k h)
 
   -- a sheet that names no companions holds nobody
   module _ (acc : Accepted rows) {b : Bool} (e : b ≡ any_below (of_kind rows 13) (row_count rows)) (h : b ≡ false) where

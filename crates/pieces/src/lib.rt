@@ -2,19 +2,20 @@
 // scheduler/feasibility.rs. Each is found along chains of rows; who is held is found once for a sheet.
 #![tactic(auto)]
 
-ghost use Rattle.std.specs.Prelude.{◌≡◌, ◌<◌, ◌≤◌, true, cond, not, ◌&&◌, set};
+ghost use Rattle.std.specs.Prelude.{◌≡◌, ◌<◌, ◌≤◌, true, not, ◌&&◌};
 ghost use Rattle.loops.specs.inner.Chain.{Blind};
 ghost use Rattle.loops.specs.Search.{any_below, first_place};
 ghost use Rattle.rows.specs.Cells.{row_count, num, is};
+ghost use Rattle.rows.specs.Kinds.{kind_number};
 ghost use Rattle.sheet.specs.Places.{of_kind};
-ghost use Rattle.sheet.specs.inner.Found.{found_of};
-ghost use Rattle.sheet.specs.inner.Index.{Kinds};
 ghost use Rattle.sheet.specs.inner.Accepted.{Accepted};
-ghost use Rattle.owners.specs.inner.Owners.{owned_by, Linked, Owned};
+ghost use Rattle.owners.specs.inner.Owners.{owned_by};
 ghost use Rattle.pieces.specs.inner.Bookings.{index_key, key_at, in_piece, same_booking, first_on, Firsts, names, holds_for};
 ghost use Rattle.pieces.specs.inner.Held.{held_at, Held};
 
-use sheet::Found;
+use owners::{ByOwner, LinkIndex, OwnerIndex, Owners};
+use rows::Kind;
+use sheet::{ByKind, Found, KindIndex, Rows};
 
 // A part index as a number: index + 1000001, and 0 for none.
 pub fn index_key(x: i64) -> u64
@@ -37,107 +38,78 @@ pub fn key_at(rows: &[i64], k: usize) -> u64
 }
 
 // Whether row j is a booking of the piece of booking k.
+#[tactic(auto, unfolding(crate::specs::inner::Bookings::in_piece))]
 pub fn in_piece(rows: &[i64], k: usize, j: usize) -> bool
     ensures { result ≡ in_piece rows.now k j }
 {
-    if rows::is_at(rows, j, 0, 23) {
-        if rows::is_at(rows, j, 1, rows::num_at(rows, k, 1)) {
-            return key_at(rows, j) == key_at(rows, k);
-        }
-    }
-    false
+    rows::is_of_kind(rows, j, Kind::Booking)
+        && rows::is_at(rows, j, 1, rows::num_at(rows, k, 1))
+        && key_at(rows, j) == key_at(rows, k)
 }
 
 // ---- rows that name two
 
-fn names_at(rows: &[i64], x: usize, a: u64, b: u64, i: usize) -> bool
-    ensures { result ≡ names rows.now x a b i }
+#[tactic(auto, unfolding(crate::specs::inner::Bookings::names))]
+fn names_at(rows: &[i64], kind: Kind, a: u64, b: u64, i: usize) -> bool
+    ensures { result ≡ names rows.now (kind_number kind) a b i }
 {
-    if rows::is_at(rows, i, 0, x as u64) {
-        if rows::is_at(rows, i, 1, a) {
-            return rows::is_at(rows, i, 2, b);
-        }
-    }
-    false
+    rows::is_of_kind(rows, i, kind) && rows::is_at(rows, i, 1, a) && rows::is_at(rows, i, 2, b)
 }
 
-// The first row of kind x that names a and b, along the chain of the rows that belong to row o.
-pub fn find_naming(rows: &[i64], owned: &[u16; 8810], o: usize, x: usize, a: u64, b: u64) -> Found
-    requires { Owned rows.now owned.now × (o ≤ row_count rows.now) × Blind (owned_by rows.now o x) (names rows.now x a b) }
-    ensures { found_of result ≡ first_place (names rows.now x a b) (row_count rows.now) }
+// The first row of a kind that names a and b, among the rows that belong to row o.
+#[tactic(auto, using(chains::proofs::PlaceLaws::first_kept), unfolding(loops::specs::Lists::keep))]
+pub fn find_naming(rows: &ByOwner, o: usize, kind: Kind, a: u64, b: u64) -> Option<usize>
+    requires { (o ≤ row_count rows.now) × Blind (owned_by rows.now o (kind_number kind)) (names rows.now (kind_number kind) a b) }
+    ensures { result ≡ first_place (names rows.now (kind_number kind) a b) (row_count rows.now) }
 {
-    let n = rows::row_count(rows);
-    let mut i = owners::first_owned(rows, owned, o, x);
-    while i < n {
-        if names_at(rows, x, a, b, i) {
-            return Found::At(i);
+    for k in rows.owned_by(o, kind) {
+        if names_at(rows.as_slice(), kind, a, b, k) {
+            return Some(k);
         }
-        i = owners::next_owned(rows, owned, o, x, i);
     }
-    Found::Nothing
+    None
 }
 
 // ---- the first bookings
 
 // Whether row j is a booking of booking k's piece, on the same resource.
+#[tactic(auto, unfolding(crate::specs::inner::Bookings::same_booking))]
 fn is_same(rows: &[i64], k: usize, j: usize) -> bool
     ensures { result ≡ same_booking rows.now k j }
 {
-    if rows::is_at(rows, j, 3, rows::num_at(rows, k, 3)) {
-        return in_piece(rows, k, j);
-    }
-    false
+    rows::is_at(rows, j, 3, rows::num_at(rows, k, 3)) && in_piece(rows, k, j)
 }
 
 // Whether no booking before booking k is of its piece and on its resource.
-fn is_first(rows: &[i64], kinds: &[u16; 3680], k: usize) -> bool
-    requires { Kinds rows.now kinds.now × (k < row_count rows.now) }
+#[tactic(auto, using(chains::proofs::PlaceLaws::any_blind, crate::proofs::Chains::same_blind), unfolding(loops::specs::Lists::any_of))]
+fn is_first(rows: &ByKind, k: usize) -> bool
+    requires { k < row_count rows.now }
     ensures { result ≡ not (any_below (same_booking rows.now k) k) }
 {
-    let activity = rows::num_at(rows, k, 1);
-    let mut j = sheet::first_named(rows, kinds, 23, activity);
-    while j < k {
-        if is_same(rows, k, j) {
+    for j in rows.named_above(Kind::Booking, rows.num(k, 1), k) {
+        if is_same(rows.as_slice(), k, j) {
             return false;
         }
-        j = sheet::next_named(rows, kinds, 23, activity, j);
     }
     true
 }
 
-fn first_at(rows: &[i64], kinds: &[u16; 3680], k: usize) -> bool
-    requires { Kinds rows.now kinds.now × (k < row_count rows.now) }
+#[tactic(auto, unfolding(crate::specs::inner::Bookings::first_on))]
+fn first_at(rows: &ByKind, k: usize) -> bool
+    requires { k < row_count rows.now }
     ensures { result ≡ first_on rows.now k }
 {
-    if rows::is_at(rows, k, 0, 23) {
-        return is_first(rows, kinds, k);
-    }
-    false
-}
-
-// 1 at row k where the test holds, else 0.
-pub fn mark(marks: &mut [u8; 800], k: usize, yes: bool)
-    requires { k < 800 }
-    ensures { marks.new ≡ set marks.old k (cond yes 1 0) }
-{
-    if yes {
-        marks[k] = 1;
-    } else {
-        marks[k] = 0;
-    }
+    rows.is_of_kind(k, Kind::Booking) && is_first(rows, k)
 }
 
 // 1 at each booking that is the first of its piece on its resource.
-fn firsts_of(rows: &[i64], kinds: &[u16; 3680]) -> [u8; 800]
-    requires { Kinds rows.now kinds.now }
+#[tactic(auto, using(crate::proofs::Marks::marking_start, crate::proofs::Marks::marking_turn, crate::proofs::Marks::firsts_end))]
+fn firsts_of(rows: &ByKind) -> [u8; 800]
     ensures { Firsts rows.now result }
 {
-    let n = rows::row_count(rows);
     let mut firsts = [0u8; 800];
-    let mut k = 0;
-    while k < n {
-        mark(&mut firsts, k, first_at(rows, kinds, k));
-        k += 1;
+    for k in 0..rows::row_count(rows.as_slice()) {
+        firsts[k] = u8::from(first_at(rows, k));
     }
     firsts
 }
@@ -145,135 +117,87 @@ fn firsts_of(rows: &[i64], kinds: &[u16; 3680]) -> [u8; 800]
 // ---- who is held
 
 // Whether r is a companion of the resource of booking j.
-fn is_companion(rows: &[i64], links: &[u16; 1600], owned: &[u16; 8810], j: usize, r: u64) -> bool
-    requires { Accepted rows.now × Linked rows.now links.now × Owned rows.now owned.now × (j < row_count rows.now) × (is rows.now j 0 23 ≡ true) }
+fn is_companion(rows: &Owners, j: usize, r: u64) -> bool
+    requires { Accepted rows.now × (j < row_count rows.now) × (is rows.now j 0 23 ≡ true) }
     ensures { result ≡ any_below (names rows.now 13 (num rows.now j 3) r) (row_count rows.now) }
 {
-    let Found::At(o) = owners::booked_resource(rows, links, j) else {
+    let Found::At(o) = rows.booked_resource(j) else {
         return false;
     };
-    let Found::At(_) = find_naming(rows, owned, o, 13, rows::num_at(rows, j, 3), r) else {
-        return false;
-    };
-    true
+    let by_owner = ByOwner::new(rows.as_slice(), rows.owned());
+    find_naming(&by_owner, o, Kind::Companion, rows.num(j, 3), r).is_some()
 }
 
 // Whether booking j is of booking k's piece, on a resource that k's resource is a companion of.
-fn holds_for(rows: &[i64], links: &[u16; 1600], owned: &[u16; 8810], k: usize, j: usize) -> bool
-    requires { Accepted rows.now × Linked rows.now links.now × Owned rows.now owned.now × (j < row_count rows.now) × (is rows.now j 0 23 ≡ true) }
+#[tactic(auto, unfolding(crate::specs::inner::Bookings::holds_for))]
+fn holds_for(rows: &Owners, k: usize, j: usize) -> bool
+    requires { Accepted rows.now × (j < row_count rows.now) × (is rows.now j 0 23 ≡ true) }
     ensures { result ≡ holds_for rows.now k j }
 {
-    let r = rows::num_at(rows, k, 3);
-    if rows::is_at(rows, j, 3, r) {
-        return false;
-    }
-    if is_companion(rows, links, owned, j, r) {
-        return in_piece(rows, k, j);
-    }
-    false
+    let r = rows.num(k, 3);
+    !rows.has(j, 3, r) && is_companion(rows, j, r) && in_piece(rows.as_slice(), k, j)
 }
 
 // The same, where booking j is the first of its resource: the others hold what it holds.
-fn first_holds(
-    rows: &[i64],
-    links: &[u16; 1600],
-    owned: &[u16; 8810],
-    firsts: &[u8; 800],
-    k: usize,
-    j: usize,
-) -> bool
-    requires { Accepted rows.now × Linked rows.now links.now × Owned rows.now owned.now × Firsts rows.now firsts.now × (j < row_count rows.now) }
+#[tactic(auto, using(crate::proofs::Chains::first_kind, crate::proofs::Marks::marked_first))]
+fn first_holds(rows: &Owners, firsts: &[u8; 800], k: usize, j: usize) -> bool
+    requires { Accepted rows.now × Firsts rows.now firsts.now × (j < row_count rows.now) }
     ensures { result ≡ (first_on rows.now j && holds_for rows.now k j) }
 {
-    if firsts[j] == 1 {
-        return holds_for(rows, links, owned, k, j);
-    }
-    false
+    firsts[j] == 1 && holds_for(rows, k, j)
 }
 
 // Whether a booking of booking k's piece holds k's resource as a companion.
-fn is_held(
-    rows: &[i64],
-    kinds: &[u16; 3680],
-    links: &[u16; 1600],
-    owned: &[u16; 8810],
-    firsts: &[u8; 800],
-    k: usize,
-) -> bool
-    requires { Accepted rows.now × Kinds rows.now kinds.now × Linked rows.now links.now × Owned rows.now owned.now × Firsts rows.now firsts.now }
+#[tactic(auto, using(chains::proofs::PlaceLaws::left_all, crate::proofs::Chains::firsts_told), unfolding(loops::specs::Lists::any_of))]
+fn is_held(rows: &ByKind, owners: &Owners, firsts: &[u8; 800], k: usize) -> bool
+    requires { Accepted rows.now × Firsts rows.now firsts.now × (owners.now ≡ rows.now) }
     ensures { result ≡ any_below (holds_for rows.now k) (row_count rows.now) }
 {
-    let n = rows::row_count(rows);
-    let activity = rows::num_at(rows, k, 1);
-    let mut j = sheet::first_named(rows, kinds, 23, activity);
-    while j < n {
-        if first_holds(rows, links, owned, firsts, k, j) {
+    for j in rows.named(Kind::Booking, rows.num(k, 1)) {
+        if first_holds(owners, firsts, k, j) {
             return true;
         }
-        j = sheet::next_named(rows, kinds, 23, activity, j);
     }
     false
 }
 
 // Whether row k is a booking that is held.
-fn held_at(
-    rows: &[i64],
-    kinds: &[u16; 3680],
-    links: &[u16; 1600],
-    owned: &[u16; 8810],
-    firsts: &[u8; 800],
-    k: usize,
-) -> bool
-    requires { Accepted rows.now × Kinds rows.now kinds.now × Linked rows.now links.now × Owned rows.now owned.now × Firsts rows.now firsts.now × (k < row_count rows.now) }
+#[tactic(auto, using(crate::proofs::Companions::held_told))]
+fn held_at(rows: &ByKind, owners: &Owners, firsts: &[u8; 800], k: usize) -> bool
+    requires { Accepted rows.now × Firsts rows.now firsts.now × (owners.now ≡ rows.now) × (k < row_count rows.now) }
     ensures { result ≡ held_at rows.now k }
 {
-    if rows::is_at(rows, k, 0, 23) {
-        return is_held(rows, kinds, links, owned, firsts, k);
-    }
-    false
+    rows.is_of_kind(k, Kind::Booking) && is_held(rows, owners, firsts, k)
 }
 
 // 1 at each booking that is held, each looked at.
-fn marks_of(
-    rows: &[i64],
-    kinds: &[u16; 3680],
-    links: &[u16; 1600],
-    owned: &[u16; 8810],
-) -> [u8; 800]
-    requires { Accepted rows.now × Kinds rows.now kinds.now × Linked rows.now links.now × Owned rows.now owned.now }
+#[tactic(auto, using(crate::proofs::Marks::marking_start, crate::proofs::Marks::marking_turn, crate::proofs::Marks::held_end))]
+fn marks_of(rows: &ByKind, owners: &Owners) -> [u8; 800]
+    requires { Accepted rows.now × (owners.now ≡ rows.now) }
     ensures { Held rows.now result }
 {
-    let n = rows::row_count(rows);
-    let firsts = firsts_of(rows, kinds);
+    let firsts = firsts_of(rows);
     let mut held = [0u8; 800];
-    let mut k = 0;
-    while k < n {
-        mark(&mut held, k, held_at(rows, kinds, links, owned, &firsts, k));
-        k += 1;
+    for k in 0..rows::row_count(rows.as_slice()) {
+        held[k] = u8::from(held_at(rows, owners, &firsts, k));
     }
     held
 }
 
 // Whether the sheet has a row that names a companion.
-fn names_companions(rows: &[i64], kinds: &[u16; 3680]) -> bool
-    requires { Kinds rows.now kinds.now }
+fn names_companions(rows: &ByKind) -> bool
     ensures { result ≡ any_below (of_kind rows.now 13) (row_count rows.now) }
 {
-    sheet::first_of(rows, kinds, 13) < rows::row_count(rows)
+    rows.of_kind(Kind::Companion).next().is_some()
 }
 
 // 1 at each booking that is held. Where the sheet names no companions that is none.
-pub fn held_of(
-    rows: &[i64],
-    kinds: &[u16; 3680],
-    links: &[u16; 1600],
-    owned: &[u16; 8810],
-) -> [u8; 800]
-    requires { Accepted rows.now × Kinds rows.now kinds.now × Linked rows.now links.now × Owned rows.now owned.now }
+pub fn held_of(rows: &ByKind, owners: &Owners) -> [u8; 800]
+    requires { Accepted rows.now × (owners.now ≡ rows.now) }
     ensures { Held rows.now result }
 {
-    if names_companions(rows, kinds) {
-        return marks_of(rows, kinds, links, owned);
+    if names_companions(rows) {
+        return marks_of(rows, owners);
     }
     [0u8; 800]
 }

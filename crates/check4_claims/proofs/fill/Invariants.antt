@@ -1,13 +1,16 @@
-use Rattle.loops.specs.inner.Chain.{Stands}
+use mathlib.Core.Path.{◌≡◌}
+use lib.ListN.{length}
+use Rattle.chains.specs.inner.Left.{Left}
+use Rattle.findings.specs.inner.Told.{so_far, tell}
 use Rattle.rows.specs.Cells.{row_count}
 use Rattle.owners.specs.inner.Owners.{owned_by}
-use Prim.Native.Nat.{◌-◌}
-use Rattle.findings.specs.inner.Sink.{sink}
-use Rattle.check4_claims.proofs.Claiming.{Claiming}
+use Rattle.check4_claims.specs.inner.Claims.{filled, unclaimed_of, claim_of}
+use Rattle.check4_claims.proofs.Claiming.{marks_from, told_from}
 use Rattle.check4_claims.proofs.fill.Given as goal
 
 abbrev pub invariant-loop-k : goal.invariant-loop-k
-invariant-loop-k l = Stands (owned_by l.rows l.o 23) (row_count l.rows) l.k × Claiming l.rows l.o l.q l.initial.free (sink l.initial.out l.n) l.k l.free l.units (sink l.out l.m)
-
-abbrev pub decreases-loop-k : goal.decreases-loop-k
-decreases-loop-k l = l.end - l.k
+invariant-loop-k l =
+    Left (owned_by l.rows l.o 23) (row_count l.rows) l.k-iterator
+    × (length l.free ≡ 800)
+    × (unclaimed_of l.rows l.o (marks_from l.rows l.q l.free l.units l.k-iterator) ≡ (claim_of l.rows l.q (unclaimed_of l.rows l.o l.initial.free)).unclaimed)
+    × (tell (so_far l.found) (told_from l.rows l.q l.activity l.free l.units l.k-iterator) ≡ tell (so_far l.initial.found) (filled l.rows l.activity l.q (unclaimed_of l.rows l.o l.initial.free)))

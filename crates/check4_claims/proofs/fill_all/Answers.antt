@@ -1,20 +1,12 @@
-use Rattle.model.proofs.Standing.{stands_owned}
-use Rattle.findings.proofs.SinkLaws.{kept}
-use Rattle.check4_claims.proofs.Claiming.{filling_start, filling_turn, filling_end}
-use borrow.Author.Rules.{rules}
+use Rattle.chains.proofs.PlaceLaws.{left_next}
+use Rattle.check4_claims.proofs.Claiming.{tell_turn}
+use Rattle.check4_claims.specs.inner.Claims.{claims_of}
 use Rattle.check4_claims.proofs.fill_all.Goals as goal
 
-pub loop-q-init : goal.loop-q-init
-loop-q-init c = search (rules, filling_start)
-
-pub fill-m-requires : goal.fill-m-requires
-fill-m-requires c = search (rules, stands_owned)
-
 pub loop-q-preserved : goal.loop-q-preserved
-loop-q-preserved c = search (rules, filling_turn)
-
-pub shape_of-out : goal.shape_of-out
-shape_of-out c = search (rules, kept)
-
-pub returns : goal.returns
-returns c = search (rules, filling_end)
+unfolding claims_of
+loop-q-preserved c =
+    let e = c.in-Some.ensures.steps in
+    let i = c.loop-q.invariant in
+    let a = c.fill.ensures in
+    (left_next _ _ e i.0, a.size, rw a.left (tell_turn _ _ _ a.wrote (rw e at i.2)))

@@ -1,13 +1,15 @@
-use Rattle.loops.specs.inner.Chain.{Stands}
+use mathlib.Core.Path.{◌≡◌}
+use lib.ListN.{length}
+use Rattle.chains.specs.inner.Left.{Left}
+use Rattle.findings.specs.inner.Told.{so_far, tell}
 use Rattle.rows.specs.Cells.{row_count}
 use Rattle.owners.specs.inner.Owners.{owned_by}
-use Prim.Native.Nat.{◌-◌}
-use Rattle.findings.specs.inner.Sink.{sink}
-use Rattle.check4_claims.proofs.Claiming.{Filling}
+use Rattle.check4_claims.specs.inner.Claims.{claims_of, unclaimed_of, requirement_rows, runs_on_in}
 use Rattle.check4_claims.proofs.fill_all.Given as goal
 
 abbrev pub invariant-loop-q : goal.invariant-loop-q
-invariant-loop-q l = Stands (owned_by l.rows l.o 5) (row_count l.rows) l.q × Filling l.rows l.activity l.o l.p (sink l.initial.out l.n) l.q l.free (sink l.out l.m)
-
-abbrev pub decreases-loop-q : goal.decreases-loop-q
-decreases-loop-q l = l.end - l.q
+invariant-loop-q l =
+    Left (owned_by l.rows l.o 5) (row_count l.rows) l.q-iterator
+    × (length l.free ≡ 800)
+    × (tell (so_far l.found) (claims_of l.rows l.activity l.q-iterator (unclaimed_of l.rows l.o l.free))
+    ≡ tell (so_far l.initial.found) (claims_of l.rows l.activity (requirement_rows l.rows l.o) (runs_on_in l.rows l.o l.p)))

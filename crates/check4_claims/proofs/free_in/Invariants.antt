@@ -1,12 +1,13 @@
-use Rattle.loops.specs.inner.Chain.{Stands}
+use mathlib.Core.Path.{◌≡◌}
+use mathlib.Core.List.{foldl}
+use Rattle.chains.specs.inner.Left.{Left}
 use Rattle.rows.specs.Cells.{row_count}
 use Rattle.owners.specs.inner.Owners.{owned_by}
-use Prim.Native.Nat.{◌-◌}
-use Rattle.check4_claims.specs.inner.Claims.{Free}
+use Rattle.check4_claims.specs.inner.Claims.{unclaimed_of, runs_on_in}
+use Rattle.check4_claims.proofs.Claiming.{mark_free}
 use Rattle.check4_claims.proofs.free_in.Given as goal
 
 abbrev pub invariant-loop-k : goal.invariant-loop-k
-invariant-loop-k l = Stands (owned_by l.rows l.o 23) (row_count l.rows) l.k × Free l.rows l.o l.p l.k l.free
-
-abbrev pub decreases-loop-k : goal.decreases-loop-k
-decreases-loop-k l = l.n - l.k
+invariant-loop-k l =
+    Left (owned_by l.rows l.o 23) (row_count l.rows) l.k-iterator
+    × (unclaimed_of l.rows l.o (foldl (mark_free l.rows l.p) l.free l.k-iterator) ≡ runs_on_in l.rows l.o l.p)

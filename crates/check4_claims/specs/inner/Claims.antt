@@ -1,6 +1,6 @@
 -- What the requirements of an activity claim of a piece, by rows: o is the row of an activity, q of a requirement, r of a resource; x is the id of
 -- a resource, p the key of a part index. Assumes nothing.
-use Rattle.std.specs.Prelude.{ℕ, ◌<◌, ◌≡◌, Bool, false, not, ◌&&◌, List, [], ◌∷◌, ◌++◌, length, get_or, eqb, ltb, ℤ}
+use Rattle.std.specs.Prelude.{ℕ, Bool, false, not, ◌&&◌, List, [], ◌∷◌, ◌++◌, length, get_or, eqb, ltb, ℤ}
 use Rattle.loops.specs.Lists.{given, option, each}
 use Rattle.loops.specs.Range.{collect}
 use Rattle.loops.specs.Search.{any_below}
@@ -67,8 +67,3 @@ module _ (rows : List ℤ) where
 
   abbrev pub runs_on_in : ℕ → ℕ → List ℕ
   runs_on_in o p = collect (only (owned_by rows o 23) (free_at p)) (row_count rows)
-
--- marks, 1 at each booking of the piece that may be claimed
-pub record Free (rows : List ℤ) (o p n : ℕ) (free : List ℕ) : Type 0 where
-  pub size : length free ≡ 800
-  pub at : (k : ℕ) → k < n → only (owned_by rows o 23) (marked_at rows free) k ≡ only (owned_by rows o 23) (free_at rows p) k

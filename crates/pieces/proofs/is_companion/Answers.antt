@@ -1,5 +1,6 @@
+use Rattle.chains.proofs.PlaceLaws.{any_first}
 use Rattle.sheet.proofs.Lookups.{found_low}
-use Rattle.pieces.proofs.Chains.{companions_blind, no_companions, none_named, any_named}
+use Rattle.pieces.proofs.Chains.{companions_blind, no_companions}
 use borrow.Author.Rules.{rules}
 use Rattle.pieces.proofs.is_companion.Goals as goal
 
@@ -7,10 +8,7 @@ pub returns-in_default : goal.returns-in_default
 returns-in_default c = search (rules, no_companions)
 
 pub find_naming-requires : goal.find_naming-requires
-find_naming-requires c = search (rules, found_low, companions_blind)
-
-pub returns-in_default-find_naming : goal.returns-in_default-find_naming
-returns-in_default-find_naming c = search (rules, none_named)
+find_naming-requires c = rw (c.new-by_owner.ensures, c.as_slice.ensures.rows) (search (rules, found_low), search (rules, companions_blind))
 
 pub returns : goal.returns
-returns c = search (rules, any_named)
+returns c = rw (c.is_some.ensures, c.find_naming.ensures, c.new-by_owner.ensures, c.as_slice.ensures.rows, c.num.ensures.value) (any_first _ _)

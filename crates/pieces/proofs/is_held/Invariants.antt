@@ -1,15 +1,14 @@
-use Rattle.pieces.proofs.Chains.{first_holds}
-use Rattle.sheet.specs.Places.{named}
-use Rattle.rows.specs.Cells.{row_count}
-use Rattle.loops.specs.Search.{any_below}
-use Rattle.loops.specs.inner.Chain.{Stands}
-use mathlib.Core.Bool.{false}
-use Prim.Native.Nat.{◌-◌}
 use mathlib.Core.Path.{◌≡◌}
+use Rattle.loops.specs.Lists.{any_of}
+use Rattle.loops.specs.Search.{any_below}
+use Rattle.chains.specs.inner.Left.{Left}
+use Rattle.rows.specs.Cells.{row_count, num}
+use Rattle.sheet.specs.Places.{named}
+use Rattle.pieces.specs.inner.Bookings.{holds_for}
+use Rattle.pieces.proofs.Chains.{first_holds}
 use Rattle.pieces.proofs.is_held.Given as goal
 
 abbrev pub invariant-loop-j : goal.invariant-loop-j
-invariant-loop-j l = Stands (named l.rows 23 l.activity) (row_count l.rows) l.j × (any_below (first_holds l.rows l.k) l.j ≡ false)
-
-abbrev pub decreases-loop-j : goal.decreases-loop-j
-decreases-loop-j l = l.n - l.j
+invariant-loop-j l =
+    Left (named l.rows 23 (num l.rows l.k 1)) (row_count l.rows) l.j-iterator
+    × (any_of (first_holds l.rows l.k) l.j-iterator ≡ any_below (holds_for l.rows l.k) (row_count l.rows))

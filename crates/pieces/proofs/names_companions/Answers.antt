@@ -1,6 +1,6 @@
-use Rattle.pieces.proofs.Companions.{any_of_lem}
 use borrow.Author.Rules.{rules}
+use Rattle.chains.proofs.WalkLaws.{walk_some}
 use Rattle.pieces.proofs.names_companions.Goals as goal
 
 pub returns : goal.returns
-returns c = search (rules, any_of_lem)
+returns c = search (rules, walk_some)

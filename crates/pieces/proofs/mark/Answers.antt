@@ -1,7 +1,0 @@
-use Rattle.pieces.proofs.mark.Goals as goal
-
-pub returns-then-yes : goal.returns-then-yes
-returns-then-yes c = rw c.if-yes.true
-
-pub returns-else-yes : goal.returns-else-yes
-returns-else-yes c = rw c.if-yes.false
