@@ -33,7 +33,7 @@ fn candidate(rows: &Owners, q: usize, k: usize) -> Option<usize>
     ensures { result ≡ cond (candidate_of rows.now q (num rows.now k 3)) (resource_place rows.now (num rows.now k 3)) None }
 {
     let r = rows.booked_resource(k).or_none()?;
-    if candidates::is_candidate(rows.as_slice(), rows.owned(), q, r) {
+    if candidates::is_candidate(&ByOwner::new(rows.as_slice(), rows.owned()), q, r) {
         return Some(r);
     }
     None

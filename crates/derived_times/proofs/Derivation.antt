@@ -1,5 +1,5 @@
 -- The derived time of a booking as a loop over bookings. Assumes nothing.
-use Prim.Native.Nat.{ℕ, suc, ◌<◌, ◌≤◌}
+use Prim.Native.Nat.{ℕ, ◌<◌}
 use mathlib.Core.Path.{◌≡◌, refl, sym, ap, ◌∙◌}
 use mathlib.Core.Bool.{Bool, true, false, cond, not, ◌&&◌, true≢false}
 use mathlib.Core.List.{List, [], ◌∷◌, ◌++◌, map, foldl}
@@ -7,17 +7,16 @@ use Rattle.std.specs.Prelude.{Option, None, Some}
 use lib.IntN.{ℤ}
 use Rattle.loops.specs.Lists.{keep, each, option}
 use Rattle.loops.specs.Range.{fold, collect}
-use Rattle.loops.specs.Search.{any_below, first_place}
-use Rattle.loops.specs.inner.Chain.{First, Stands, Quiet}
+use Rattle.loops.specs.Search.{any_below}
+use Rattle.loops.specs.inner.Chain.{Quiet}
+use Rattle.loops.proofs.BoolLaws.{and_left}
 use Rattle.loops.proofs.ListLaws.{each_keep, each_collect, foldl_collect}
 use Rattle.loops.proofs.RangeLaws.{fold_rel}
 use Rattle.loops.proofs.PlaceLaws.{any_same}
-use Rattle.loops.proofs.Walks.{fold_first_lem, fold_next, stands_end}
+use Rattle.chains.specs.Places.{places}
+use Rattle.chains.proofs.PlaceLaws.{foldl_places}
 use Rattle.rows.specs.Cells.{row_count, num, is}
 use Rattle.sheet.specs.Places.{place_of}
-use Rattle.sheet.specs.declared.Found.{Found}
-use Rattle.sheet.specs.declared.Found.TheVariants.{At, Nothing}
-use Rattle.sheet.specs.inner.Found.{found_of}
 use Rattle.sheet.specs.inner.Accepted.{Accepted}
 use Rattle.sheet.proofs.Lookups.{placed}
 use Rattle.owners.specs.inner.Owners.{own_place, owned_by}
@@ -38,7 +37,7 @@ use Rattle.pieces.specs.inner.Bookings.{in_piece, names, holds_for}
 use Rattle.pieces.specs.inner.Held.{held_at}
 use Rattle.pieces.proofs.Chains.{piece_activity, piece_kind, piece_owned, pieces_same}
 use Rattle.pieces.proofs.Companions.{of_piece_lem, held_among_lem, held_booking}
-use Rattle.derived_times.specs.inner.Rows.{columns_of, part_at, timed_by, timing_of, timing_place, timed_at}
+use Rattle.derived_times.specs.inner.Rows.{columns_of, part_at, timing_of, timing_place, timed_at}
 use Rattle.derived_times.specs.Times.{derived}
 use Rattle.derived_times.proofs.Finds.{timing_is}
 use Rattle.derived_times.proofs.Parts.{timing_row, row_amounts}
@@ -127,46 +126,39 @@ module _ (rows : List ℤ) where
         go f j z true p = absurd (true≢false (sym (piece_owned rows k o h e j p) ∙ z))
         go f j z false p = unfold timed_at in (rw p)
 
+    pub timed_places : (o : ℕ) → is rows k 0 23 ≡ true → o ≡ own_place rows k
+        → foldl (timed_at rows k piece) start (places (owned_by rows o 23) (row_count rows)) ≡ fold (timed_at rows k piece) start (row_count rows)
+    timed_places o h e = foldl_places (owned_by rows o 23) (timed_at rows k piece) start (row_count rows) (timed_quiet o h e)
+
     -- ---- the code's branches
     module _ (g : TimedSoFar) (j : ℕ) where
-      pub not_of_piece : in_piece rows k j ≡ false → g ≡ timed_at rows k piece g j
+      pub timed_aside : {t : Timed} {b : Bool} → b ≡ (in_piece rows k j && not (held_at rows j)) → b ≡ false → t ≡ timed_of g → t ≡ timed_of (timed_at rows k piece g j)
       unfolding timed_at
-      not_of_piece p = rw p
+      timed_aside e h q = rw (sym e ∙ h) q
 
-      pub held_aside : in_piece rows k j ≡ true → held_at rows j ≡ true → g ≡ timed_at rows k piece g j
-      unfolding timed_at
-      held_aside p q = rw (p, q)
+      module _ {b : Bool} (e : b ≡ (in_piece rows k j && not (held_at rows j))) (h : b ≡ true) where
+        of_piece_too : in_piece rows k j ≡ true
+        of_piece_too = and_left (in_piece rows k j) (not (held_at rows j)) (sym e ∙ h)
 
-      timing_at_lem : (x : Option ℕ) → in_piece rows k j ≡ true → first_place (timed_by rows (num rows j 1) (num rows j 3)) (row_count rows) ≡ x
-          → timing (sheet rows) (num rows k 1) (num rows j 3) ≡ option x None (λ i. Some (timing_of rows i))
-      timing_at_lem x p f = ap (λ a. timing (sheet rows) a (num rows j 3)) (sym (piece_activity rows k j p)) ∙ timing_is rows (num rows j 1) (num rows j 3) ∙ ap (λ y. option y None (λ i. Some (timing_of rows i))) f
+        timing_found : {x : Option ℕ} → x ≡ timing_place rows j → timing (sheet rows) (num rows k 1) (num rows j 3) ≡ option x None (λ i. Some (timing_of rows i))
+        timing_found {x} f =
+            ap (λ a. timing (sheet rows) a (num rows j 3)) (sym (piece_activity rows k j of_piece_too))
+            ∙ timing_is rows (num rows j 1) (num rows j 3)
+            ∙ ap (λ y. option y None (λ i. Some (timing_of rows i))) (timing_row rows j (piece_kind rows k j of_piece_too) f)
 
-      pub timed_here : (i : ℕ) → in_piece rows k j ≡ true → held_at rows j ≡ false → first_place (timed_by rows (num rows j 1) (num rows j 3)) (row_count rows) ≡ Some i
-          → timed_on g (piece_timing piece (timing_of rows i)) ≡ timed_at rows k piece g j
-      unfolding timed_at
-      timed_here i p q f = rw (p, q, timing_at_lem (Some i) p f)
+        pub timed_without : {t : Timed} → None ≡ timing_place rows j → t ≡ timed_of g → t ≡ timed_of (timed_at rows k piece g j)
+        unfolding timed_at
+        timed_without f q = rw (sym e ∙ h, timing_found f) q
 
-      untimed_here : in_piece rows k j ≡ true → held_at rows j ≡ false → first_place (timed_by rows (num rows j 1) (num rows j 3)) (row_count rows) ≡ None
-          → g ≡ timed_at rows k piece g j
-      unfolding timed_at
-      untimed_here p q f = rw (p, q, timing_at_lem None p f)
-
-      -- the same, of what the code found
-      pub timed_still : {t : Timed} → t ≡ timed_of g → g ≡ timed_at rows k piece g j → t ≡ timed_of (timed_at rows k piece g j)
-      timed_still e h = e ∙ ap timed_of h
-
-      pub untimed_found : {r : Found} → found_of r ≡ timing_place rows j → r ≡ Nothing → in_piece rows k j ≡ true → held_at rows j ≡ false → g ≡ timed_at rows k piece g j
-      untimed_found f w p q = untimed_here p q (timing_row rows j (piece_kind rows k j p) (sym (ap found_of w) ∙ f))
-
-      pub timed_found : {t t' : Timed} {x : ResourceTiming} {r : Found} {i : ℕ} → t ≡ timed_of g → t' ≡ timed_with t piece x → x ≡ timing_of rows i
-          → r ≡ At i → found_of r ≡ timing_place rows j → in_piece rows k j ≡ true → held_at rows j ≡ false → Accepted rows → PieceAmounts piece
-          → t' ≡ timed_of (timed_at rows k piece g j)
-      timed_found {t} {t'} {x} {r} {i} e u v w f p q acc a =
-          let z : first_place (timed_by rows (num rows j 1) (num rows j 3)) (row_count rows) ≡ Some i = timing_row rows j (piece_kind rows k j p) (sym (ap found_of w) ∙ f) in
-          u
-          ∙ ap (λ y. timed_with y piece x) e
-          ∙ timed_known g piece x a (rw v (row_amounts rows acc j i z))
-          ∙ ap timed_of (ap (λ y. timed_on g (piece_timing piece y)) v ∙ timed_here i p q z)
+        pub timed_found : {t t' : Timed} {x : ResourceTiming} {i : ℕ} → t' ≡ timed_with t piece x → x ≡ timing_of rows i → Some i ≡ timing_place rows j
+            → Accepted rows → PieceAmounts piece → t ≡ timed_of g → t' ≡ timed_of (timed_at rows k piece g j)
+        unfolding timed_at
+        timed_found {t} {t'} {x} {i} u v f acc a q =
+            rw (sym e ∙ h, timing_found f)
+            (u
+            ∙ ap (λ y. timed_with y piece x) q
+            ∙ timed_known g piece x a (rw v (row_amounts rows acc j i (timing_row rows j (piece_kind rows k j of_piece_too) f)))
+            ∙ ap (λ y. timed_of (timed_on g (piece_timing piece y))) v)
 
   -- ---- the whole derivation
 
@@ -190,16 +182,3 @@ module _ (rows : List ℤ) where
       ∙ ap (λ y. derived_of y (piece_duration piece (columns_of rows o 4))) e
       ∙ derived_known (fold (timed_at rows k piece) start (row_count rows)) (piece_duration piece (columns_of rows o 4))
       ∙ ap within (derived_is acc k o piece l h z w)
-
--- ---- a loop whose value is known as far as it is below 2^53
-
-module _ (f : TimedSoFar → ℕ → TimedSoFar) (b : TimedSoFar) where
-  pub known_first : {p : ℕ → Bool} {n i : ℕ} {t : Timed} → First p 0 n i → Quiet p f → t ≡ timed_of b → t ≡ timed_of (fold f b i)
-  known_first s q e = e ∙ ap timed_of (fold_first_lem f b s q)
-
-  pub known_next : {p : ℕ → Bool} {n j i : ℕ} {t t' : Timed} → First p (suc i) n j → Quiet p f → t ≡ timed_of (fold f b i)
-      → ((g : TimedSoFar) → t ≡ timed_of g → t' ≡ timed_of (f g i)) → t' ≡ timed_of (fold f b j)
-  known_next {p} {n} {j} {i} s q e h = h (fold f b i) e ∙ ap timed_of (fold_next f b s q refl refl)
-
-  pub known_end : {p : ℕ → Bool} (n N i : ℕ) {t : Timed} → N ≤ i → N ≡ n → Stands p n i → t ≡ timed_of (fold f b i) → t ≡ timed_of (fold f b n)
-  known_end n N i l z a e = e ∙ ap (λ m. timed_of (fold f b m)) (stands_end a l z)

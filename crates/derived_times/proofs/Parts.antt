@@ -5,36 +5,26 @@ use mathlib.Core.Bool.{Bool, beq, true, false, cond, ◌||◌, true≢false}
 use mathlib.Core.List.{List}
 use Rattle.std.specs.Prelude.{Option, None, Some}
 use native.Mathlib.Omega.{arith}
-use mir.Syntax.{w64}
-use mir.Val.{SFits, to_z, of_z}
-use mir.Facts.{to_z-of_z}
-use borrow.Author.Tests.{lt-ltb, le-ltb}
-use lib.Dec.{ltb}
 use lib.IntN.{ℤ}
 use lib.ListN.{get_or, set, replicate}
 use lib.Ieee.{Float, binary64, of_bits}
 use Rattle.loops.specs.Lists.{option}
 use Rattle.loops.specs.Search.{first_place}
-use Rattle.loops.specs.inner.Chain.{Blind}
 use Rattle.loops.proofs.StoreLaws.{Filled, filled_turn}
 use Rattle.loops.proofs.BoolLaws.{or_right}
 use Rattle.loops.proofs.PlaceLaws.{found_at, place_same}
 use Rattle.rows.specs.Cells.{row_count, cell, num, is}
 use Rattle.rows.specs.Ranges.{is_none}
 use Rattle.sheet.specs.Places.{named, place_of}
-use Rattle.sheet.specs.declared.Found.{Found}
-use Rattle.sheet.specs.declared.Found.TheVariants.{At, Nothing}
-use Rattle.sheet.specs.inner.Found.{found_of}
 use Rattle.sheet.specs.inner.Index.{or_end, stored_place}
 use Rattle.sheet.specs.inner.Kept.{IsRow}
 use Rattle.sheet.specs.inner.Accepted.{Accepted}
 use Rattle.sheet.specs.Refusals.{lacks}
-use Rattle.sheet.proofs.Lookups.{is_num, placed, found_some, found_none, place_kind}
+use Rattle.sheet.proofs.Lookups.{is_num, placed, place_kind}
 use Rattle.sheet.proofs.Keeping.{Keeping, keeping_start, keeping_turn, keeping_end, kept_at}
 use Rattle.owners.specs.declared.Owner.TheVariants.{ActivityRow}
 use Rattle.owners.specs.inner.Owners.{owner_kind, owned_by}
 use Rattle.resource_timing.specs.declared.ActivityDuration.{ActivityDuration}
-use Rattle.resource_timing.specs.declared.PartTimes.{PartTimes}
 use Rattle.resource_timing.specs.declared.ResourceTiming.TheVariants.{Speed, Duration}
 use Rattle.resource_timing.specs.declared.Piece.TheVariants.{Whole, InPart}
 use Rattle.resource_timing.specs.Durations.{part_of}
@@ -45,7 +35,7 @@ use Rattle.model.specs.inner.Records.{activity_of}
 use Rattle.model.proofs.Accepting.{at_most, has_owner}
 use Rattle.model.proofs.OwnedLaws.{of_activity}
 use Rattle.pieces.specs.inner.Bookings.{names}
-use Rattle.pieces.proofs.Chains.{names_kind, place_never, unnamed, timings_blind}
+use Rattle.pieces.proofs.Chains.{names_kind, place_never, unnamed}
 use Rattle.pieces.proofs.Companions.{both_parts}
 use Rattle.derived_times.specs.inner.Rows.{columns_of, part_at, timed_by, timing_of, timing_place, earlier_of, Timings}
 use Rattle.derived_times.specs.inner.Needs.{rest_at, Times}
@@ -59,20 +49,7 @@ kind_10 = unfold owner_kind in refl
 
 -- ---- what is found
 
--- the earlier of two places that were found, by the code's test
-module _ {i j : ℕ} {r e : Option ℕ} where
-  pub earlier_first : i < j → r ≡ Some i → e ≡ cond (ltb i j) (Some i) (Some j) → r ≡ e
-  earlier_first l p q = let h : cond (ltb i j) (Some i) (Some j) ≡ Some i = rw (lt-ltb i j l) in p ∙ sym (q ∙ h)
-
-  pub earlier_second : j ≤ i → r ≡ Some j → e ≡ cond (ltb i j) (Some i) (Some j) → r ≡ e
-  earlier_second l p q = let h : cond (ltb i j) (Some i) (Some j) ≡ Some j = rw (le-ltb i j l) in p ∙ sym (q ∙ h)
-
 module _ (rows : List ℤ) where
-  -- ---- the activity's row
-
-  pub found_blind : (k o : ℕ) {r : Found} → found_of r ≡ place_of rows 2 (num rows k 1) → r ≡ At o → (x b : ℕ) {a : ℕ} → a ≡ num rows k 1 → owner_kind x ≡ Some ActivityRow → Blind (owned_by rows o x) (names rows x a b)
-  found_blind k o e f x b p z = timings_blind rows x o b z p (sym (found_some f e))
-
   -- ---- the split's row
 
   split_place : (x o : ℕ) → place_of rows 2 x ≡ Some o → first_place (owned_by rows o 4) (row_count rows) ≡ place_of rows 4 x
@@ -99,7 +76,7 @@ module _ (rows : List ℤ) where
   -- ---- the piece
 
   module _ (k o : ℕ) (h : is rows k 0 23 ≡ true) (e : place_of rows 2 (num rows k 1) ≡ Some o) where
-    piece_whole : is_none (cell rows k 7) ≡ true → Whole ≡ piece_of (sheet rows) (activity_of rows o) (part_at rows k)
+    pub piece_whole : is_none (cell rows k 7) ≡ true → Whole ≡ piece_of (sheet rows) (activity_of rows o) (part_at rows k)
     unfolding piece_of
     piece_whole f = rw (part_none k h f)
 
@@ -111,43 +88,14 @@ module _ (rows : List ℤ) where
     part_amounts acc = (at_most rows acc k 23 8 h, at_most rows acc o 2 5 (place_kind rows 2 (num rows k 1) e))
 
     module _ (acc : Accepted rows) (l : k < row_count rows) (f : is_none (cell rows k 7) ≡ false) where
-      piece_unsplit : None ≡ first_place (owned_by rows o 4) (row_count rows) → Whole ≡ piece_of (sheet rows) (activity_of rows o) (part_at rows k)
+      pub piece_unsplit : None ≡ first_place (owned_by rows o 4) (row_count rows) → Whole ≡ piece_of (sheet rows) (activity_of rows o) (part_at rows k)
       unfolding piece_of
       piece_unsplit q = rw (part_some acc k l h f, split_at_lem None (sym (q ∙ split_place (num rows k 1) o e)))
-
-      split_row : (i : ℕ) → Some i ≡ first_place (owned_by rows o 4) (row_count rows) → place_of rows 4 (num rows k 1) ≡ Some i
-      split_row i q = sym (q ∙ split_place (num rows k 1) o e)
 
       pub piece_part : (i : ℕ) → Some i ≡ first_place (owned_by rows o 4) (row_count rows)
           → InPart (part_of (cell rows k 7) (num rows k 8) (num rows o 5) (num rows i 4)) ≡ piece_of (sheet rows) (activity_of rows o) (part_at rows k)
       unfolding piece_of
-      piece_part i q = rw (part_some acc k l h f, split_at_lem (Some i) (split_row i q))
-
-  -- the same, of what the code found
-  module _ (k o : ℕ) {x : ℤ} {b : Bool} (q : b ≡ is_none (to_z w64 (of_z w64 x))) (c : x ≡ cell rows k 7) (s : SFits w64 x) (h : is rows k 0 23 ≡ true)
-      (e : place_of rows 2 (num rows k 1) ≡ Some o) where
-    pub whole_found : b ≡ true → Whole ≡ piece_of (sheet rows) (activity_of rows o) (part_at rows k)
-    whole_found z = piece_whole k o h e (rw (to_z-of_z s, c) at (sym q ∙ z))
-
-    pub unsplit_found : {r : Found} → b ≡ false → r ≡ Nothing → found_of r ≡ first_place (owned_by rows o 4) (row_count rows) → Accepted rows → k < row_count rows
-        → Whole ≡ piece_of (sheet rows) (activity_of rows o) (part_at rows k)
-    unsplit_found z t f acc l = piece_unsplit k o h e acc l (rw (to_z-of_z s, c) at (sym q ∙ z)) (sym (found_none t f))
-
-  pub piece_found : (k o : ℕ) {x : ℤ} {b : Bool} {r : Found} {i work whole overhead : ℕ} {part : PartTimes} → part ≡ part_of (to_z w64 (of_z w64 x)) work whole overhead
-      → x ≡ cell rows k 7 → SFits w64 x → work ≡ num rows k 8 → whole ≡ num rows o 5 → overhead ≡ num rows i 4 → b ≡ is_none (to_z w64 (of_z w64 x)) → b ≡ false
-      → r ≡ At i → found_of r ≡ first_place (owned_by rows o 4) (row_count rows)
-      → is rows k 0 23 ≡ true → place_of rows 2 (num rows k 1) ≡ Some o → Accepted rows → k < row_count rows
-      → InPart part ≡ piece_of (sheet rows) (activity_of rows o) (part_at rows k)
-  piece_found k o {i = i} p c s w a v q z t f h e acc l =
-      ap InPart (rw (to_z-of_z s, c, w, a, v) at p) ∙ piece_part k o h e acc l (rw (to_z-of_z s, c) at (sym q ∙ z)) i (sym (ap found_of t) ∙ f)
-
-  module _ (k o : ℕ) (x : ℤ) (work whole overhead : ℕ) (part : PartTimes) (p : part ≡ part_of x work whole overhead) (h : is rows k 0 23 ≡ true)
-      (e : place_of rows 2 (num rows k 1) ≡ Some o) (acc : Accepted rows) where
-    pub work_amount : work ≡ num rows k 8 → part.work_ms ≤ 4000000000000
-    work_amount w = rw (p, w) (part_amounts k o h e acc).0
-
-    pub whole_amount : whole ≡ num rows o 5 → part.whole_ms ≤ 4000000000000
-    whole_amount a = rw (p, a) (part_amounts k o h e acc).1
+      piece_part i q = rw (part_some acc k l h f, split_at_lem (Some i) (sym (q ∙ split_place (num rows k 1) o e)))
 
   -- ---- amounts
 

@@ -50,16 +50,12 @@ module _ (next : List ℕ → Option ℕ) (n : ℕ) (s : List ℕ) where
       go [] h e = absurd (h refl)
       go (x ∷ s) h e = rw q (ap (λ (o : Option ℕ). capped (added n o)) e ∙ added_alike n n (next (x ∷ s)) (alike_itself n))
 
-pub then_none : (n : ℕ) (s : List ℕ) → (length s ≡ 0 → ⊥) → None ≡ capped (then_maybe nothing_more n s)
-unfolding capped then_maybe
-then_none n s h = go s h
-  where
-    go : (s : List ℕ) → (length s ≡ 0 → ⊥) → None ≡ capped (then_maybe nothing_more n s)
-    go [] h = absurd (h refl)
-    go (x ∷ s) h = refl
+pub no_more : (s : List ℕ) → None ≡ capped (nothing_more s)
+unfolding capped
+no_more s = refl
 
 -- what follows n seconds
-pub ruleset thens = (rules, then_last, then_less, then_more, then_none)
+pub ruleset thens = (rules, then_last, then_less, then_more)
 
 -- ---- what was counted: no number with a unit, or one that is k
 

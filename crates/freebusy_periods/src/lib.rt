@@ -1,8 +1,8 @@
 // Durations and periods of an office calendar, and the windows that they stand for.
 #![tactic(auto)]
 
-ghost use Rattle.std.specs.Prelude.{◌≡◌, ◌+◌, ◌≤◌, IfSome, option_map};
-ghost use Rattle.freebusy_periods.specs.Duration.{counted, then_maybe, nothing_more, dur_second, dur_minute, dur_time, dur_unsigned, dur_value, is_back};
+ghost use Rattle.std.specs.Prelude.{◌≡◌, ◌+◌, ◌≤◌, ℕ, List, Option, IfSome, option_map};
+ghost use Rattle.freebusy_periods.specs.Duration.{counted, then_maybe, dur_second, dur_minute, dur_time, dur_unsigned, dur_value, is_back};
 ghost use Rattle.freebusy_periods.specs.Period.{period, moved, end_from, window_of};
 ghost use Rattle.freebusy_periods.specs.inner.Capped.{at_most, capped_count, counted_by, capped, after_t, after_p, ends_period};
 
@@ -63,11 +63,14 @@ fn add(n: u64, more: u64) -> u64
     cut(cut(n) + cut(more))
 }
 
-// n seconds, and nothing more.
-fn then_nothing(n: u64, s: &[u8]) -> Option<u64>
-    ensures { result ≡ capped (then_maybe nothing_more n s.now) }
+// n seconds, and as many more as what follows them spells, where anything follows.
+fn then_more(n: u64, s: &[u8], more: Option<u64>) -> Option<u64>
+    ensures { (next : List ℕ → Option ℕ) → more ≡ capped (next s.now) → result ≡ capped (then_maybe next n s.now) }
 {
-    if s.is_empty() { Some(cut(n)) } else { None }
+    if s.is_empty() {
+        return Some(cut(n));
+    }
+    Some(add(n, more?))
 }
 
 // dur-second = 1*DIGIT "S"
@@ -78,17 +81,7 @@ fn dur_second(s: &[u8]) -> Option<u64>
     if k.unit != b'S' {
         return None;
     }
-    then_nothing(k.count, k.rest)
-}
-
-// Each production that may follow has its own of these.
-fn then_second(n: u64, s: &[u8]) -> Option<u64>
-    ensures { result ≡ capped (then_maybe dur_second n s.now) }
-{
-    if s.is_empty() {
-        return Some(cut(n));
-    }
-    Some(add(n, dur_second(s)?))
+    then_more(k.count, k.rest, None)
 }
 
 // dur-minute = 1*DIGIT "M" [dur-second]
@@ -99,16 +92,7 @@ fn dur_minute(s: &[u8]) -> Option<u64>
     if k.unit != b'M' {
         return None;
     }
-    then_second(k.count * 60, k.rest)
-}
-
-fn then_minute(n: u64, s: &[u8]) -> Option<u64>
-    ensures { result ≡ capped (then_maybe dur_minute n s.now) }
-{
-    if s.is_empty() {
-        return Some(cut(n));
-    }
-    Some(add(n, dur_minute(s)?))
+    then_more(k.count * 60, k.rest, dur_second(k.rest))
 }
 
 // dur-hour / dur-minute / dur-second
@@ -117,9 +101,9 @@ fn after_t(s: &[u8]) -> Option<u64>
 {
     let k = read_amount(s)?;
     match k.unit {
-        b'H' => then_minute(k.count * 3600, k.rest),
-        b'M' => then_second(k.count * 60, k.rest),
-        b'S' => then_nothing(k.count, k.rest),
+        b'H' => then_more(k.count * 3600, k.rest, dur_minute(k.rest)),
+        b'M' => then_more(k.count * 60, k.rest, dur_second(k.rest)),
+        b'S' => then_more(k.count, k.rest, None),
         _ => None,
     }
 }
@@ -137,15 +121,6 @@ fn dur_time(s: &[u8]) -> Option<u64>
     after_t(rest)
 }
 
-fn then_time(n: u64, s: &[u8]) -> Option<u64>
-    ensures { result ≡ capped (then_maybe dur_time n s.now) }
-{
-    if s.is_empty() {
-        return Some(cut(n));
-    }
-    Some(add(n, dur_time(s)?))
-}
-
 // dur-date / dur-time / dur-week, where dur-date = 1*DIGIT "D" [dur-time] and dur-week = 1*DIGIT "W"
 fn after_p(s: &[u8]) -> Option<u64>
     ensures { result ≡ capped (after_p s.now) }
@@ -154,8 +129,8 @@ fn after_p(s: &[u8]) -> Option<u64>
         return dur_time(s);
     };
     match k.unit {
-        b'D' => then_time(k.count * 86400, k.rest),
-        b'W' => then_nothing(k.count * 604800, k.rest),
+        b'D' => then_more(k.count * 86400, k.rest, dur_time(k.rest)),
+        b'W' => then_more(k.count * 604800, k.rest, None),
         _ => None,
     }
 }

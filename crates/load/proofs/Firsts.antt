@@ -1,18 +1,22 @@
 -- First bookings, row by row. Assumes nothing.
-use Prim.Native.Nat.{ℕ, ◌<◌, ◌≤◌}
-use mathlib.Core.Path.{◌≡◌, refl, sym, ◌∙◌}
-use mathlib.Core.Bool.{Bool, true, false, not, ◌&&◌, or-false}
-use mathlib.Core.List.{List, append-nil}
+use Prim.Native.Nat.{ℕ, ◌<◌}
+use mathlib.Core.Path.{◌≡◌, refl, ap, sym, ◌∙◌}
+use mathlib.Core.Bool.{Bool, true, false, cond, not, ◌&&◌, or-false, true≢false}
+use mathlib.Core.List.{List, [], ◌∷◌, ◌++◌, append-nil}
+use Rattle.std.specs.Prelude.{Option, None, Some}
+use native.Mathlib.Decide.{dec_lt}
+use borrow.Author.Tests.{eq-eqb, ne_eqb}
 use native.Mathlib.Omega.{arith}
 use lib.Dec.{eqb}
 use lib.IntN.{ℤ}
-use Rattle.loops.specs.Lists.{given, any_of, each}
-use Rattle.loops.specs.Search.{any_below}
-use Rattle.loops.specs.inner.Chain.{Stands, Blind}
-use Rattle.loops.proofs.BoolLaws.{and_left}
+use Rattle.loops.specs.Lists.{given, keep, head, option, any_of, each}
+use Rattle.loops.specs.Search.{first_place, any_below}
 use Rattle.loops.proofs.ListLaws.{any_collect}
-use Rattle.loops.proofs.PlaceLaws.{any_same, any_less}
-use Rattle.loops.proofs.SearchLaws.{any_hit}
+use Rattle.loops.proofs.PlaceLaws.{any_same, place_none, found_at, none_before}
+use Rattle.loops.proofs.SearchLaws.{any_hit, none_below}
+use Rattle.chains.specs.Places.{places}
+use Rattle.chains.proofs.PlaceLaws.{places_ext, keep_places, head_places}
+use Rattle.sheet.proofs.Lookups.{num_is}
 use Rattle.rows.specs.Cells.{row_count, num, is}
 use Rattle.sheet.specs.Places.{of_kind}
 use Rattle.model.specs.Sheet.{sheet}
@@ -25,14 +29,6 @@ module _ (rows : List ℤ) (x : ℕ) where
   -- row k is a booking of the resource
   unfoldable pub booked : ℕ → Bool
   booked k = is rows k 0 23 && is rows k 3 x
-
-  pub booked_blind : Blind (of_kind rows 23) booked
-  unfolding booked of_kind
-  booked_blind = record { still = λ k e. rw e }
-
-  pub booked_test : {n N i : ℕ} {r b : Bool} → i < N → N ≤ n → Stands (of_kind rows 23) n i → r ≡ is rows i 3 x → r ≡ b → booked i ≡ b
-  unfolding booked of_kind
-  booked_test l z a e f = rw (a.here (omega arith), ← e) f
 
   row_booked : (k : ℕ) → any_of (λ y. eqb y.resource x) (assignment_at (sheet rows) k) ≡ booked k
   unfolding any_of booked is
@@ -47,26 +43,76 @@ module _ (rows : List ℤ) (x : ℕ) where
   booked_are k =
       sym (any_collect (λ y. eqb y.resource x) (assignment_at (sheet rows)) k ∙ any_same _ _ k (λ j l. row_booked j))
 
-  pub booked_hit : {i k : ℕ} {r : Bool} → i < k → k ≤ row_count rows → Stands (of_kind rows 23) (row_count rows) i → r ≡ is rows i 3 x → r ≡ true → true ≡ booked_above rows k x
-  booked_hit {i} {k} l z a e f = any_hit booked i k k l refl (booked_test l z a e f) ∙ booked_are k
-
-  pub booked_none : {i k : ℕ} → any_below booked i ≡ false → k ≤ i → false ≡ booked_above rows k x
-  booked_none {i} {k} e l = sym (any_less booked i k e l) ∙ booked_are k
-
 -- ---- the walk
 
-pub first_blind : (rows : List ℤ) → Blind (of_kind rows 23) (is_first rows)
-unfolding is_first of_kind
-first_blind rows = record { still = λ k e. rw e }
+-- the first of these bookings of the resource x is the one of row k
+unfoldable pub leads : List ℤ → ℕ → ℕ → List ℕ → Bool
+leads rows k x [] = false
+leads rows k x (i ∷ l) = cond (is rows i 3 x) (eqb i k) (leads rows k x l)
 
-pub first_told : (rows : List ℤ) (k : ℕ) {x : ℕ} {b : Bool} → is rows k 0 23 ≡ true → x ≡ num rows k 3 → b ≡ booked_above rows k x → not b ≡ is_first rows k
-unfolding is_first
-first_told rows k h e a = rw (h, ← e, ← a)
+module _ (rows : List ℤ) (k : ℕ) where
+  leads_kept : (x : ℕ) (l : List ℕ) → leads rows k x l ≡ option (head (keep (λ i. is rows i 3 x) l)) false (λ i. eqb i k)
+  unfolding leads keep
+  leads_kept x [] = refl
+  leads_kept x (i ∷ l) = go (is rows i 3 x) (leads_kept x l)
+    where
+      go : (b : Bool) → leads rows k x l ≡ option (head (keep (λ i. is rows i 3 x) l)) false (λ i. eqb i k)
+          → cond b (eqb i k) (leads rows k x l) ≡ option (head (given b i ++ keep (λ i. is rows i 3 x) l)) false (λ i. eqb i k)
+      go true e = refl
+      go false e = e
 
--- a first booking is a booking
-pub first_stands : (rows : List ℤ) {n k : ℕ} → Stands (is_first rows) n k → Stands (of_kind rows 23) n k
+  module _ (l : k < row_count rows) (h : is rows k 0 23 ≡ true) where
+    itself : booked rows (num rows k 3) k ≡ true
+    unfolding booked
+    itself = rw h (num_is rows k 3 (num rows k 3) refl)
+
+    -- the first booking of its resource, where that is looked for
+    leading : (x : Option ℕ) → first_place (booked rows (num rows k 3)) (row_count rows) ≡ x
+        → option x false (λ i. eqb i k) ≡ not (any_below (booked rows (num rows k 3)) k)
+    leading None e = absurd (let z : ◌≡◌ {A = Bool} true false = sym itself ∙ place_none (booked rows (num rows k 3)) (row_count rows) e k l in true≢false z)
+    leading (Some i) e = go (dec_lt i k) (dec_lt k i)
+      where
+        go : Dec (i < k) → Dec (k < i) → eqb i k ≡ not (any_below (booked rows (num rows k 3)) k)
+        go (yes a) d = rw (← any_hit (booked rows (num rows k 3)) i k k a refl (found_at (booked rows (num rows k 3)) (row_count rows) i e).1) (ne_eqb i k (λ z. omega arith))
+        go (no a) (yes b) = absurd (true≢false (sym itself ∙ none_before (booked rows (num rows k 3)) (row_count rows) i e k b))
+        go (no a) (no b) =
+            let z : i ≡ k = omega arith in
+            rw (none_below (booked rows (num rows k 3)) k (λ j c. none_before (booked rows (num rows k 3)) (row_count rows) i e j (omega arith))) (eq-eqb i k z)
+
+    pub first_told : (x : ℕ) → x ≡ num rows k 3 → leads rows k x (places (of_kind rows 23) (row_count rows)) ≡ is_first rows k
+    unfolding is_first of_kind booked
+    first_told x e =
+        leads_kept x (places (of_kind rows 23) (row_count rows))
+        ∙ ap (λ y. option y false (λ i. eqb i k))
+        (ap head (keep_places (of_kind rows 23) (λ i. is rows i 3 x) (row_count rows)) ∙ head_places (booked rows x) (row_count rows))
+        ∙ ap (λ x. option (first_place (booked rows x) (row_count rows)) false (λ i. eqb i k)) e
+        ∙ leading (first_place (booked rows (num rows k 3)) (row_count rows)) refl
+        ∙ rw h (ap not (booked_are rows (num rows k 3) k))
+
+-- the bookings that are first bookings are all these
+pub firsts_are : (rows : List ℤ) → keep (is_first rows) (places (of_kind rows 23) (row_count rows)) ≡ places (is_first rows) (row_count rows)
 unfolding is_first of_kind
-first_stands rows {k = k} s = record { high = s.high; here = λ l. and_left (is rows k 0 23) _ (s.here l) }
+firsts_are rows =
+    keep_places (of_kind rows 23) (is_first rows) (row_count rows)
+    ∙ places_ext _ _ (row_count rows) (λ k l. go (is rows k 0 23) (not (booked_above rows k (num rows k 3))))
+  where
+    go : (a b : Bool) → (a && (a && b)) ≡ (a && b)
+    go true b = refl
+    go false b = refl
+
+-- the walk passes over a booking that is none, and comes to one
+module _ (q : ℕ → Bool) {k : ℕ} {l l' : List ℕ} {b : Bool} (e : l ≡ k ∷ l') (f : b ≡ q k) where
+  pub passed_over : b ≡ false → keep q l ≡ keep q l'
+  unfolding keep
+  passed_over h = rw (e, ← f, h) refl
+
+  pub came_to : b ≡ true → keep q l ≡ k ∷ keep q l'
+  unfolding keep
+  came_to h = rw (e, ← f, h) refl
+
+pub at_end : (q : ℕ → Bool) {l : List ℕ} → l ≡ [] → keep q l ≡ []
+unfolding keep
+at_end q e = rw e refl
 
 -- the resource of row k, where that is a first booking
 pub booked_at_lem : (rows : List ℤ) (k : ℕ) → booked_at (sheet rows) k ≡ given (is_first rows k) (num rows k 3)

@@ -1,10 +1,6 @@
-use native.Mathlib.Omega.{arith}
 use borrow.Author.Rules.{rules}
 use Rattle.candidates.proofs.Uses.{by_list, by_type}
 use Rattle.candidates.proofs.is_candidate.Goals as goal
-
-pub has_owned-requires : goal.has_owned-requires
-has_owned-requires c = (c.requires.0, omega (arith, c.requires.1))
 
 pub returns-then-has_owned : goal.returns-then-has_owned
 returns-then-has_owned c = search (rules, by_list)

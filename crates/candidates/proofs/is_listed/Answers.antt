@@ -1,17 +1,11 @@
 use borrow.Author.Rules.{rules}
-use Rattle.loops.proofs.SearchLaws.{any_hit}
-use Rattle.loops.proofs.Walks.{any_first, any_next, any_end}
-use Rattle.candidates.proofs.Uses.{lists_blind, lists_test, listed_are}
+use mathlib.Core.Path.{◌∙◌}
+use Rattle.rows.specs.Cells.{is}
+use Rattle.chains.proofs.WalkLaws.{walk_any}
+use Rattle.candidates.proofs.Uses.{listed_are}
 use Rattle.candidates.proofs.is_listed.Goals as goal
 
-pub loop-i-init : goal.loop-i-init
-loop-i-init c = (search rules, any_first _ c.first_owned-i.ensures (lists_blind _ _ _))
-
-pub returns-then-is_at : goal.returns-then-is_at
-returns-then-is_at c = search (rules, any_hit, lists_test, listed_are)
-
-pub loop-i-preserved : goal.loop-i-preserved
-loop-i-preserved c = search (rules, any_next, lists_blind, lists_test)
-
 pub returns : goal.returns
-returns c = search (rules, any_end, listed_are)
+returns c =
+    walk_any _ _ (λ k. is c.args.rows.now k 3 c.args.id) (λ x r f' k. search rules) c.any.ensures.ran
+    ∙ listed_are c.args.rows.now c.args.q c.requires.0 c.requires.1 c.args.id c.owned_by.ensures.places

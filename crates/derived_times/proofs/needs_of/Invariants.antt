@@ -3,4 +3,4 @@ use Rattle.derived_times.specs.inner.Needs.{rest_at}
 use Rattle.derived_times.proofs.needs_of.Given as goal
 
 abbrev pub invariant-loop-k : goal.invariant-loop-k
-invariant-loop-k l = Filled (rest_at l.rows) l.k l.need
+invariant-loop-k l = Filled (rest_at l.fn.rows) l.k l.need
