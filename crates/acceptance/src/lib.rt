@@ -4,6 +4,7 @@
 ghost use Rattle.std.specs.Prelude.{◌≡◌, length};
 ghost use Rattle.acceptance.specs.inner.Accepting.{Accepting};
 
+use model::Sheet;
 use refusals::Verdict;
 
 // The verdict, and the index of the rows, as `validation::index` leaves it.
@@ -17,7 +18,9 @@ pub fn accept(
     ensures { Accepting rows.now kinds.old links.old owned.old result kinds.new links.new owned.new }
 {
     validation::index(rows, kinds, links, owned)?;
-    let held = pieces::held_of(rows, kinds, links, owned);
-    let need = derived_times::needs_of(rows, links, owned, &held);
+    let sheet = Sheet::new(rows, kinds, links, owned);
+    let owners = sheet.owners();
+    let held = pieces::held_of(&sheet.by_kind(), &owners);
+    let need = derived_times::needs_of(&owners, &held);
     derived_times::refused(rows, &need)
 }

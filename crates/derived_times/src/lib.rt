@@ -69,7 +69,7 @@ pub fn timings_of(rows: &Owners) -> [u16; 800]
 {
     let mut t = [0u16; 800];
     for k in 0..rows::row_count(rows.as_slice()) {
-        sheet::keep_place(rows.as_slice(), &mut t, k, Found::from(timing_row(rows, k)));
+        sheet::keep_place(rows.as_slice(), &mut t, k, timing_row(rows, k));
     }
     t
 }
@@ -140,7 +140,7 @@ impl<'a> Bookings<'a> {
         requires { k < row_count self.now.rows.now }
         ensures { result ≡ timing_place self.now.rows.now k }
     {
-        sheet::kept_place(self.rows.as_slice(), &self.timings, k).or_none()
+        sheet::kept_place(self.rows.as_slice(), &self.timings, k)
     }
 
     // What booking k's piece is judged as, of the activity of row o.

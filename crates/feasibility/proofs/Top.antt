@@ -10,12 +10,13 @@ use lib.IntN.{ℤ}
 use lib.ListN.{length}
 use Rattle.findings.specs.declared.Violation.{Violation}
 use Rattle.findings.specs.Findings.{four, flat}
-use Rattle.findings.specs.inner.Sink.{Sink, sink, emit}
+use Rattle.findings.specs.inner.Sink.{sink, emit}
 use Rattle.line_buffer.specs.declared.Handed.{Handed}
 use Rattle.line_buffer.specs.declared.Handed.TheVariants.{Over, Full, Longer}
 use Rattle.line_buffer.specs.inner.Handing.{handed, after_handing}
 use Rattle.line_buffer.proofs.Handing.{is_over}
-use Rattle.findings.proofs.SinkLaws.{emit_then}
+use Rattle.findings.specs.inner.Told.{Told, tell}
+use Rattle.findings.proofs.Reporting.{tell_append}
 use Rattle.refusals.specs.Refusals.{verdict_of, at}
 use Rattle.refusals.specs.declared.Refusal.{Refusal}
 use Rattle.refusals.specs.declared.Reason.TheVariants as refusals
@@ -23,32 +24,35 @@ use Rattle.sheet.specs.Refusals.{refusal_of}
 use Rattle.derived_times.specs.Times.{time_refusal}
 use Rattle.calendar.specs.Clock.{clock}
 use Rattle.model.specs.Sheet.{sheet}
+use Rattle.definition.specs.CheckAssignments.{check_assignments}
+use Rattle.definition.specs.CheckTimeOnly.{check_time_only}
+use Rattle.definition.specs.CheckParts.{check_parts}
+use Rattle.definition.specs.CheckRequirements.{check_requirements}
 use Rattle.definition.specs.CheckCapacity.{check_capacity}
+use Rattle.definition.specs.CheckCalendars.{check_calendars}
+use Rattle.definition.specs.CheckPrecedence.{check_precedence}
+use Rattle.definition.specs.CheckDeadlines.{check_deadlines}
+use Rattle.definition.specs.CheckConstraints.{check_constraints}
 use Rattle.definition.specs.CheckSchedule.{check_schedule, findings}
-use Rattle.feasibility.specs.inner.Order.{before_capacity, after_capacity}
 use Rattle.acceptance.specs.Refusals.{sheet_refusal}
 use Rattle.acceptance.proofs.Order.{by_rows, by_times}
 use Rattle.acceptance.proofs.Ending.{ends_refused, ends_over, ends_full, all_counted, ends_longer}
 use Rattle.feasibility.specs.Refusals.{refusal}
 use Rattle.feasibility.specs.Call.{check_answer, findings_after}
 
--- checks that run one after the other have reported their findings one after the other
-in_turn_3 : (a b c : List Violation) (s s₁ s₂ : Sink) {s₃ : Sink} → s₁ ≡ emit s a → s₂ ≡ emit s₁ b → s₃ ≡ emit s₂ c → s₃ ≡ emit s (a ++ b ++ c)
-in_turn_3 a b c s s₁ s₂ p q r = emit_then (a ++ b) c s (emit_then a b s p q) r
+-- checks that run one after the other have told their findings one after the other
+then_told : {t u v : Told} {a b : List Violation} → u ≡ tell t a → v ≡ tell u b → v ≡ tell t (a ++ b)
+then_told {t} {u} {v} {a} {b} p q = q ∙ ap (λ w. tell w b) p ∙ tell_append t a b
 
-pub in_turn : (a b c d : List Violation) (s s₁ s₂ s₃ : Sink) {s₄ : Sink} → s₁ ≡ emit s a → s₂ ≡ emit s₁ b → s₃ ≡ emit s₂ c → s₄ ≡ emit s₃ d
-    → s₄ ≡ emit s (a ++ b ++ c ++ d)
-in_turn a b c d s s₁ s₂ s₃ p q r t = emit_then (a ++ b ++ c) d s (in_turn_3 a b c s s₁ s₂ p q r) t
-
--- the nine, in their three parts
-parts : (rows : List ℤ) → before_capacity rows ++ check_capacity clock (sheet rows) ++ after_capacity rows ≡ findings rows
-unfolding findings check_schedule before_capacity after_capacity
-parts rows = simp append_assoc refl
-
-pub all_in_turn : (rows : List ℤ) (s s₁ s₂ : Sink) {s₃ : Sink} → s₁ ≡ emit s (before_capacity rows) → s₂ ≡ emit s₁ (check_capacity clock (sheet rows))
-    → s₃ ≡ emit s₂ (after_capacity rows)
-    → s₃ ≡ emit s (findings rows)
-all_in_turn rows s s₁ s₂ p q r = in_turn_3 _ _ _ s s₁ s₂ p q r ∙ ap (emit s) (parts rows)
+-- the nine
+pub all_in_turn : (rows : List ℤ) {t t₁ t₂ t₃ t₄ t₅ t₆ t₇ t₈ t₉ : Told} → t₁ ≡ tell t (check_assignments clock (sheet rows)) → t₂ ≡ tell t₁ (check_time_only clock (sheet rows))
+    → t₃ ≡ tell t₂ (check_parts (sheet rows)) → t₄ ≡ tell t₃ (check_requirements clock (sheet rows)) → t₅ ≡ tell t₄ (check_capacity clock (sheet rows))
+    → t₆ ≡ tell t₅ (check_calendars clock (sheet rows)) → t₇ ≡ tell t₆ (check_precedence clock (sheet rows)) → t₈ ≡ tell t₇ (check_deadlines clock (sheet rows))
+    → t₉ ≡ tell t₈ (check_constraints clock (sheet rows)) → t₉ ≡ tell t (findings rows)
+unfolding findings check_schedule
+all_in_turn rows {t} a b c d e f g h i =
+    then_told (then_told (then_told (then_told (then_told (then_told (then_told (then_told a b) c) d) e) f) g) h) i
+    ∙ ap (tell t) (simp append_assoc refl)
 
 -- the call on these rows, lent the buffer o, answers so and leaves the buffer o'
 abbrev pub Ends : List ℤ → List ℤ → Result ℕ Refusal → List ℤ → Type 0

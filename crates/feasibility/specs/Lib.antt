@@ -1,4 +1,3 @@
 pub mod Call
 pub mod Demand3
 pub mod Refusals
-pub mod inner
