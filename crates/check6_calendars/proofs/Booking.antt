@@ -1,7 +1,7 @@
 -- The findings of any booking, and of all of them. Assumes nothing.
 use Prim.Native.Nat.{ℕ}
 use mathlib.Core.Path.{◌≡◌, refl, ap, sym, ◌∙◌}
-use mathlib.Core.Bool.{Bool, true, false, cond}
+use mathlib.Core.Bool.{true, cond}
 use mathlib.Core.List.{List, [], append-nil, foldl}
 use Rattle.std.specs.Prelude.{Option, None, Some}
 use lib.IntN.{ℤ}
@@ -15,7 +15,7 @@ use Rattle.findings.specs.inner.Told.{Told, tell, telling}
 use Rattle.findings.proofs.Reporting.{tell_none, tell_places}
 use Rattle.rows.specs.Cells.{row_count, num, is}
 use Rattle.sheet.specs.declared.Found.{Found}
-use Rattle.sheet.specs.declared.Found.TheVariants.{At, Nothing}
+use Rattle.sheet.specs.declared.Found.TheVariants.{Nothing}
 use Rattle.sheet.specs.inner.Found.{found_of}
 use Rattle.sheet.specs.Places.{of_kind, place_of}
 use Rattle.model.specs.Sheet.{sheet}
@@ -30,43 +30,29 @@ use Rattle.definition.specs.CheckCalendars.{check_resumable, check_plain, check_
 abbrev pub by_booking : List ℤ → ℕ → List Violation
 by_booking rows k = each (check_booking clock (sheet rows)) (assignment_at (sheet rows) k)
 
-module _ (rows : List ℤ) (k : ℕ) (h : is rows k 0 23 ≡ true) where
-  abbrev judged : Option ℕ → Option ℕ → List Violation
+module _ (rows : List ℤ) (k : ℕ) where
+  -- the findings of booking k, by what the lookups of its resource and of its activity find
+  unfoldable pub judged : Option ℕ → Option ℕ → List Violation
   judged r a =
       option r [] λ o.
-      option a (check_plain clock (sheet rows) (assignment_of rows k) None) λ x.
+      option a (by_resource rows k) λ x.
       cond (is rows x 7 1) (check_resumable clock (sheet rows) (assignment_of rows k) (activity_of rows x)) (check_plain clock (sheet rows) (assignment_of rows k) (Some (activity_of rows x)))
 
   judged_is : (r a : Option ℕ) → r ≡ place_of rows 11 (num rows k 3) → a ≡ place_of rows 2 (num rows k 1)
       → check_booking clock (sheet rows) (assignment_of rows k) ≡ judged r a
-  unfolding check_booking is
+  unfolding check_booking is judged
   judged_is None a p q = rw (find_resource_lem rows (num rows k 3), ← p)
-  judged_is (Some o) None p q = rw (find_resource_lem rows (num rows k 3), ← p, find_activity_lem rows (num rows k 1), ← q)
+  judged_is (Some o) None p q = rw (find_resource_lem rows (num rows k 3), ← p, find_activity_lem rows (num rows k 1), ← q) (sym (alone rows k))
   judged_is (Some o) (Some x) p q = rw (find_resource_lem rows (num rows k 3), ← p, find_activity_lem rows (num rows k 1), ← q)
 
-  booking_is : (r a : Option ℕ) → r ≡ place_of rows 11 (num rows k 3) → a ≡ place_of rows 2 (num rows k 1) → by_booking rows k ≡ judged r a
+  pub booking_judged : is rows k 0 23 ≡ true → by_booking rows k ≡ judged (place_of rows 11 (num rows k 3)) (place_of rows 2 (num rows k 1))
   unfolding each
-  booking_is r a p q = rw (assignment_row rows k h) (append-nil _ ∙ judged_is r a p q)
+  booking_judged h = rw (assignment_row rows k h) (append-nil _ ∙ judged_is _ _ refl refl)
 
-  module _ (t : Told) {f : Found} (p : found_of f ≡ place_of rows 11 (num rows k 3)) where
-    -- a resource that is not in the sheet
-    pub absent_told : f ≡ Nothing → t ≡ tell t (by_booking rows k)
-    absent_told z = sym (tell_none t) ∙ ap (tell t) (sym (booking_is None _ (sym (ap found_of z) ∙ p) refl))
-
-    told_by : {o : ℕ} {t' : Told} → f ≡ At o → (a : Option ℕ) → a ≡ place_of rows 2 (num rows k 1) → t' ≡ tell t (judged (Some o) a) → t' ≡ tell t (by_booking rows k)
-    told_by {o} z a q e = e ∙ ap (tell t) (sym (booking_is (Some o) a (sym (ap found_of z) ∙ p) q))
-
-    module _ {o : ℕ} {g : Found} {t' : Told} (z : f ≡ At o) (q : found_of g ≡ place_of rows 2 (num rows k 1)) where
-      -- an activity that is not in the sheet
-      pub external_told : g ≡ Nothing → t' ≡ tell t (by_resource rows k) → t' ≡ tell t (by_booking rows k)
-      external_told w e = told_by z None (sym (ap found_of w) ∙ q) (e ∙ ap (tell t) (alone rows k))
-
-      module _ {a : ℕ} {b : Bool} (w : g ≡ At a) (m : b ≡ is rows a 7 1) where
-        pub resumable_known : b ≡ true → t' ≡ tell t (check_resumable clock (sheet rows) (assignment_of rows k) (activity_of rows a)) → t' ≡ tell t (by_booking rows k)
-        resumable_known y e = told_by z (Some a) (sym (ap found_of w) ∙ q) (rw (← m, y) e)
-
-        pub plain_known : b ≡ false → t' ≡ tell t (check_plain clock (sheet rows) (assignment_of rows k) (Some (activity_of rows a))) → t' ≡ tell t (by_booking rows k)
-        plain_known y e = told_by z (Some a) (sym (ap found_of w) ∙ q) (rw (← m, y) e)
+-- a resource that is not in the sheet
+pub absent_told : (rows : List ℤ) (k : ℕ) (t : Told) {f : Found} → is rows k 0 23 ≡ true → found_of f ≡ place_of rows 11 (num rows k 3) → f ≡ Nothing → t ≡ tell t (by_booking rows k)
+unfolding judged
+absent_told rows k t h p z = sym (ap (tell t) (booking_judged rows k h ∙ ap (λ r. judged rows k r (place_of rows 2 (num rows k 1))) (sym p ∙ ap found_of z)) ∙ tell_none t)
 
 booking_silent : (rows : List ℤ) → Silent (of_kind rows 23) (by_booking rows)
 unfolding each of_kind

@@ -1,13 +1,13 @@
 -- The findings of a booking that may not pause. Assumes nothing.
 use Prim.Native.Nat.{ℕ}
-use mathlib.Core.Path.{◌≡◌, ap, ap₂, sym, ◌∙◌}
+use mathlib.Core.Path.{◌≡◌, ap, sym, ◌∙◌}
 use mathlib.Core.Bool.{Bool, not}
 use mathlib.Core.List.{List, append-nil}
 use Rattle.std.specs.Prelude.{None, Some}
 use lib.IntN.{ℤ, pos}
 use Rattle.loops.specs.Lists.{given}
 use Rattle.calendar.specs.Clock.{clock}
-use Rattle.calendar.specs.Calendar.{Calendar, interval_fits}
+use Rattle.calendar.specs.Calendar.{interval_fits}
 use Rattle.findings.specs.declared.Violation.{Violation}
 use Rattle.findings.specs.inner.Told.{Told, tell}
 use Rattle.findings.proofs.Reporting.{tell_append}
@@ -16,7 +16,7 @@ use Rattle.sheet.specs.Places.{place_of}
 use Rattle.sheet.proofs.Lookups.{placed}
 use Rattle.model.specs.Sheet.{sheet}
 use Rattle.model.specs.Resource.{windows}
-use Rattle.model.specs.Schedule.{violation, resource_unavailable, time_window_violation}
+use Rattle.model.specs.Schedule.{resource_unavailable, time_window_violation}
 use Rattle.model.specs.inner.Records.{activity_of, assignment_of}
 use Rattle.definition.specs.CheckCalendars.{check_plain}
 

@@ -1,17 +1,16 @@
 -- The findings of a booking that may pause. Assumes nothing.
 use Prim.Native.Nat.{ℕ, suc, ◌+◌, ◌<◌, ◌≤◌}
 use mathlib.Core.Path.{◌≡◌, refl, ap, ap₂, sym, ◌∙◌}
-use mathlib.Core.Bool.{Bool, true, false, not, cond, ◌&&◌, ◌||◌}
+use mathlib.Core.Bool.{Bool, true, false, not, cond, ◌||◌}
 use mathlib.Core.List.{List}
-use Rattle.std.specs.Prelude.{Option, None, Some}
+use Rattle.std.specs.Prelude.{None, Some}
 use native.Mathlib.Omega.{arith}
 use native.Mathlib.Numerals.{add-one}
 use native.Mathlib.Decide.{ℕ_discrete}
 use lib.Dec.{eqb, ltb}
 use lib.IntN.{ℤ, pos}
 use lib.ListN.{get_or, set, replicate}
-use mir.Syntax.{w64}
-use mir.Val.{Fits, bool_byte}
+use mir.Val.{bool_byte}
 use Rattle.loops.specs.Lists.{option}
 use Rattle.loops.specs.inner.Chain.{First}
 use Rattle.loops.proofs.Walks.{over}
@@ -19,15 +18,12 @@ use Rattle.calendar.specs.Clock.{clock}
 use Rattle.calendar.specs.Calendar.{Calendar, joint_working}
 use Rattle.calendar.specs.Amount.{joint_available_ms}
 use Rattle.rows.specs.Cells.{row_count, num, is}
-use Rattle.sheet.specs.declared.Found.{Found}
-use Rattle.sheet.specs.declared.Found.TheVariants.{At, Nothing}
-use Rattle.sheet.specs.inner.Found.{found_of}
 use Rattle.sheet.specs.Places.{of_kind, place_of}
 use Rattle.sheet.specs.Refusals.{refusal_of}
 use Rattle.model.specs.Sheet.{sheet}
 use Rattle.model.specs.Activity.{find_activity, needed_ms}
 use Rattle.model.specs.inner.Records.{activity_of, assignment_of}
-use Rattle.model.proofs.Accepting.{accepted, at_most}
+use Rattle.model.proofs.Accepting.{accepted}
 use Rattle.model.proofs.RowLaws.{assignment_row}
 use Rattle.model.proofs.Finds.{find_activity_lem}
 use Rattle.definition.specs.Pieces.{runs_on}
@@ -60,52 +56,13 @@ laid_covered rows k a {cs = cs} c ok l h p q m u = same_covered cs _ (λ t. join
 
 -- ---- the finding
 
-pub needed_fits : (rows : List ℤ) (need : List ℕ) (k : ℕ) {m : ℕ} → refusal_of rows ≡ None → Needs rows need → k < row_count rows → is rows k 0 23 ≡ true → m ≡ num rows k 6 → Fits w64 (m + get_or need k 0)
-needed_fits rows need k ok nd l h e =
-    let t : num rows k 6 ≤ 4000000000000 = at_most rows (accepted rows ok) k 23 6 h in
-    let d : get_or need k 0 < 9007199254740992 = nd.small k l in
-    record { fits = omega arith }
-
 module _ (rows : List ℤ) (k : ℕ) where
-  -- the test at a booking, by the two lookups
-  lacks_by : is rows k 0 23 ≡ true → {r a : Option ℕ} → r ≡ place_of rows 11 (num rows k 3) → a ≡ place_of rows 2 (num rows k 1)
-      → lacks_time rows k ≡ option r false (λ _. option a false (λ i. is rows i 7 1 && uncovered_at rows i k))
-  unfolding lacks_time
-  lacks_by h p q = rw (h, p, q)
-
-  module _ (h : is rows k 0 23 ≡ true) {f : Found} (p : found_of f ≡ place_of rows 11 (num rows k 3)) where
-    pub lacks_absent : f ≡ Nothing → false ≡ lacks_time rows k
-    lacks_absent z = sym (lacks_by h (sym (ap found_of z) ∙ p) refl)
-
-    module _ {o : ℕ} {g : Found} (z : f ≡ At o) (q : found_of g ≡ place_of rows 2 (num rows k 1)) where
-      pub lacks_external : g ≡ Nothing → false ≡ lacks_time rows k
-      lacks_external w = sym (lacks_by h (sym (ap found_of z) ∙ p) (sym (ap found_of w) ∙ q))
-
-      module _ {a : ℕ} {b : Bool} (w : g ≡ At a) (m : b ≡ is rows a 7 1) where
-        lacks_is : lacks_time rows k ≡ (b && uncovered_at rows a k)
-        lacks_is = lacks_by h (sym (ap found_of z) ∙ p) (sym (ap found_of w) ∙ q) ∙ ap (λ y. y && uncovered_at rows a k) (sym m)
-
-        pub lacks_resumable : b ≡ true → lacks_time rows k ≡ uncovered_at rows a k
-        lacks_resumable y = lacks_is ∙ ap (λ i. i && uncovered_at rows a k) y
-
-        pub lacks_plain : b ≡ false → b ≡ lacks_time rows k
-        lacks_plain y = y ∙ sym (lacks_is ∙ ap (λ i. i && uncovered_at rows a k) y)
-
   activity_found : (a : ℕ) → Some a ≡ place_of rows 2 (num rows k 1) → find_activity (sheet rows) (num rows k 1) ≡ Some (activity_of rows a)
   activity_found a q = find_activity_lem rows (num rows k 1) ∙ ap (λ x. option x None (λ j. Some (activity_of rows j))) (sym q)
 
-  needed_is : (need : List ℕ) → Needs rows need → (a : ℕ) → k < row_count rows → is rows k 0 23 ≡ true → Some a ≡ place_of rows 2 (num rows k 1)
+  pub needed_is : (need : List ℕ) → Needs rows need → (a : ℕ) → k < row_count rows → is rows k 0 23 ≡ true → Some a ≡ place_of rows 2 (num rows k 1)
       → needed_ms (sheet rows) (activity_of rows a) (assignment_of rows k) (runs_on (sheet rows) (assignment_of rows k)) ≡ num rows k 6 + get_or need k 0
   needed_is need nd a l h q = nd.at k (assignment_of rows k) (activity_of rows a) l (assignment_row rows k h) (activity_found a q)
-
-  pub lacks_found : (need : List ℕ) {f g : Found} {o a : ℕ} {b r : Bool} → Needs rows need → k < row_count rows → is rows k 0 23 ≡ true → found_of f ≡ place_of rows 11 (num rows k 3) → f ≡ At o
-      → found_of g ≡ place_of rows 2 (num rows k 1) → g ≡ At a → b ≡ is rows a 7 1 → b ≡ true
-      → r ≡ uncovered (piece_calendars clock (sheet rows) (assignment_of rows k) (activity_of rows a)) (num rows k 4) (num rows k 5) (num rows k 6 + get_or need k 0)
-      → r ≡ lacks_time rows k
-  lacks_found need {a = a} nd l h p z q w m y e =
-      e
-      ∙ ap (uncovered (piece_calendars clock (sheet rows) (assignment_of rows k) (activity_of rows a)) (num rows k 4) (num rows k 5)) (sym (needed_is need nd a l h (sym (ap found_of w) ∙ q)))
-      ∙ sym (lacks_resumable h p z q w m y)
 
   pub lacking_is : (t : List ℕ) → Lacking rows t → (a : ℕ) → k < row_count rows → lacks_time rows k ≡ uncovered_at rows a k → eqb (get_or t k 0) 1 ≡ uncovered_at rows a k
   lacking_is t lk a l h = mark_is (lacks_time rows k) (lk.at k l) ∙ h
@@ -141,6 +98,3 @@ module _ (rows : List ℤ) where
   pub lacking_next : (t : List ℕ) {b : Bool} {v k j : ℕ} → First (of_kind rows 23) (suc k) (row_count rows) j → k < row_count rows → row_count rows ≤ 800
       → v ≡ bool_byte b → b ≡ lacks_time rows k → Marking (lacks_time rows) k t → Marking (lacks_time rows) j (set t k v)
   lacking_next t {b} {k = k} f l s q e h = passed _ f (rw add-one at (marking_turn (ap (set t k) (q ∙ byte_is b)) e h l refl s))
-
-  pub lacking_end : {t : List ℕ} → Marking (lacks_time rows) (row_count rows) t → row_count rows ≤ 800 → Lacking rows t
-  lacking_end h s = record { short = s; at = h.marked.at; past = h.marked.rest }

@@ -46,7 +46,10 @@ fn check_resource(rows: &Sheet, o: usize, k: usize, found: &mut Findings)
     ensures { so_far found.new ≡ tell (so_far found.old) (given (not (interval_fits clock (windows (sheet rows.now) 15 (num rows.now k 3)) (pos (num rows.now k 4)) (pos (num rows.now k 5)))) (resource_unavailable 6 (num rows.now k 3))) }
 {
     let fits = fits_windows(rows, o, Kind::ResourceWindow, k);
-    found.report(!fits, Violation::of(6, ViolationKind::ResourceUnavailable, rows.num(k, 3)));
+    found.report(
+        !fits,
+        Violation::of(6, ViolationKind::ResourceUnavailable, rows.num(k, 3)),
+    );
 }
 
 #[tactic(auto, using(check6_joint_calendars::proofs::Whole::activity_holder, sheet::proofs::Lookups::place_low))]
@@ -55,7 +58,10 @@ fn check_activity(rows: &Sheet, a: usize, k: usize, found: &mut Findings)
     ensures { so_far found.new ≡ tell (so_far found.old) (given (not (interval_fits clock (windows (sheet rows.now) 16 (num rows.now a 1)) (pos (num rows.now k 4)) (pos (num rows.now k 5)))) (time_window_violation 6 (num rows.now k 1))) }
 {
     let fits = fits_windows(rows, a, Kind::ActivityWindow, k);
-    found.report(!fits, Violation::of(6, ViolationKind::TimeWindowViolation, rows.num(k, 1)));
+    found.report(
+        !fits,
+        Violation::of(6, ViolationKind::TimeWindowViolation, rows.num(k, 1)),
+    );
 }
 
 // Booking k, that may not pause, of the activity of row a, on the resource of row o.
@@ -71,7 +77,7 @@ fn check_plain(rows: &Sheet, a: usize, o: usize, k: usize, found: &mut Findings)
 
 // What booking k needs: its own setup, and the derived rest of its work.
 fn needed_ms(rows: &Sheet, need: &[u64; 800], k: usize) -> u64
-    requires { (refusal_of rows.now ≡ None) × Needs rows.now need.now × (k < row_count rows.now) × (is rows.now k 0 23 ≡ true) }
+    requires { Needs rows.now need.now × (k < row_count rows.now) }
     ensures { result ≡ num rows.now k 6 + get_or need.now k 0 }
 {
     rows.num(k, 6) + need[k]
@@ -85,6 +91,7 @@ fn is_uncovered(calendars: Calendars, start: u64, end: u64, needed: u64) -> bool
 }
 
 // Whether booking k, of the activity of row a, is not covered by the working time of its piece.
+#[tactic(auto, using(crate::proofs::Resumable::laid_covered))]
 fn lacks_time(rows: &Sheet, need: &[u64; 800], a: usize, k: usize) -> bool
     requires { (refusal_of rows.now ≡ None) × Needs rows.now need.now × (k < row_count rows.now) × (is rows.now k 0 23 ≡ true) × (place_of rows.now 2 (num rows.now k 1) ≡ Some a) }
     ensures { result ≡ (not (joint_working clock (piece_calendars clock (sheet rows.now) (assignment_of rows.now k) (activity_of rows.now a)) (pos (num rows.now k 4))) || ltb (joint_available_ms clock (piece_calendars clock (sheet rows.now) (assignment_of rows.now k) (activity_of rows.now a)) (pos (num rows.now k 4)) (pos (num rows.now k 5))) (num rows.now k 6 + get_or need.now k 0)) }
@@ -97,6 +104,7 @@ fn lacks_time(rows: &Sheet, need: &[u64; 800], a: usize, k: usize) -> bool
 }
 
 // Whether booking k is on a resource of the sheet, of a resumable activity, and lacks working time.
+#[tactic(auto, using(crate::proofs::Resumable::needed_is, owners::proofs::Links::books), unfolding(crate::specs::inner::Lacking::lacks_time))]
 fn lacks_at(rows: &Sheet, need: &[u64; 800], k: usize) -> bool
     requires { (refusal_of rows.now ≡ None) × Needs rows.now need.now × (k < row_count rows.now) × (is rows.now k 0 23 ≡ true) }
     ensures { result ≡ lacks_time rows.now k }
@@ -132,12 +140,16 @@ fn check_resumable(rows: &Sheet, lacking: &[u8; 800], a: usize, k: usize, found:
     ensures { so_far found.new ≡ tell (so_far found.old) (check_resumable clock (sheet rows.now) (assignment_of rows.now k) (activity_of rows.now a)) }
 {
     let lacks = lacking[k] == 1;
-    found.report(lacks, Violation::of(6, ViolationKind::ResourceUnavailable, rows.num(k, 3)));
+    found.report(
+        lacks,
+        Violation::of(6, ViolationKind::ResourceUnavailable, rows.num(k, 3)),
+    );
 }
 
 // ---- the check
 
 // Booking k, if its resource is in the sheet.
+#[tactic(auto, using(crate::proofs::Booking::booking_judged, owners::proofs::Links::books), unfolding(crate::proofs::Booking::judged, crate::specs::inner::Lacking::lacks_time))]
 fn check_booking(rows: &Sheet, lacking: &[u8; 800], k: usize, found: &mut Findings)
     requires { Lacking rows.now lacking.now × (k < row_count rows.now) × (is rows.now k 0 23 ≡ true) }
     ensures { so_far found.new ≡ tell (so_far found.old) (each (check_booking clock (sheet rows.now)) (assignment_at (sheet rows.now) k)) }

@@ -1,5 +1,5 @@
-use Rattle.chains.proofs.PlaceLaws.{left_below, left_here, left_first, left_next, left_start, front_start}
-use Rattle.check6_calendars.proofs.Resumable.{lacking_first, lacking_next, lacking_end}
+use Rattle.chains.proofs.PlaceLaws.{left_below, left_first, left_next, left_start, front_start}
+use Rattle.check6_calendars.proofs.Resumable.{lacking_first, lacking_next}
 use Rattle.check6_calendars.proofs.lacking_of.Goals as goal
 
 pub loop-k-init : goal.loop-k-init
