@@ -23,7 +23,8 @@ unfolding places collect
 places_none p zero h = refl
 places_none p (suc n) h = ap₂ ◌++◌ (places_none p n (λ k l. h k (omega arith))) (ap (λ b. given b n) (h n (omega arith)))
 
-places_ext : (p q : ℕ → Bool) (n : ℕ) → ((k : ℕ) → k < n → p k ≡ q k) → places p n ≡ places q n
+-- the same test, the same places
+pub places_ext : (p q : ℕ → Bool) (n : ℕ) → ((k : ℕ) → k < n → p k ≡ q k) → places p n ≡ places q n
 unfolding places
 places_ext p q n h = collect_ext _ _ n (λ k l. ap (λ b. given b k) (h k l))
 

@@ -1,8 +1,7 @@
 // The components VFREEBUSY of an office calendar, by its unfolded lines: which is open, and the first line that is against the rules.
 #![tactic(auto)]
 
-ghost use Rattle.std.specs.Prelude.{◌≡◌, ◌+◌, ◌<◌, ◌≤◌, min, length};
-ghost use Rattle.std.specs.Prelude.{None, IfSome};
+ghost use Rattle.std.specs.Prelude.{◌≡◌, ◌+◌, ◌<◌, ◌≤◌, min, length, None, IfSome};
 ghost use Rattle.freebusy_lines.specs.Lines.{line, unfolded, lines};
 ghost use Rattle.freebusy_components.specs.Components.{open_after, against, wrong_at, least, wrong_from};
 ghost use Rattle.freebusy_components.specs.inner.Room.{front_or, after_line, space_after};
