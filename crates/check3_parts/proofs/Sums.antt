@@ -37,9 +37,6 @@ module _ (post : ℕ → ℕ → Type 0) (rows : List ℤ) (o : ℕ) where
   pub summed_start : {n i : ℕ} → First (owned_by rows o 23) 0 n i → Summed post rows o i 0
   summed_start s = record { whole = λ m f. rw (parts_first rows o s) (unfold parts_of total in refl); few = omega arith }
 
-  pub summed_end : (n : ℕ) {sum : ℕ} {l : List ℕ} → l ≡ [] → Summed post rows o (front n l) sum → (m : ℕ → ℕ) → IsMeasure post m → sum ≡ measured m (parts_of (parts_below rows o n))
-  summed_end n {sum} e s = (subst (λ x. Summed post rows o (front n x) sum) e s).whole
-
   -- at the place that comes next
   pub summed_here : (n : ℕ) {k sum : ℕ} {l l' : List ℕ} → l ≡ k ∷ l' → Summed post rows o (front n l) sum → Summed post rows o k sum
   summed_here n {sum = sum} e s = subst (λ x. Summed post rows o (front n x) sum) e s
