@@ -22,9 +22,6 @@ module _ (rows : List ℤ) (t : List ℕ) {j : ℕ} (h : Firsts rows t) (l : j <
   pub marked_first : get_or t j 0 ≡ 1 → first_on rows j ≡ true
   marked_first e = sym (mark_is (first_on rows j) (h.at j l)) ∙ eq-eqb (get_or t j 0) 1 e
 
-  pub unmarked_first : (get_or t j 0 ≡ 1 → ⊥) → first_on rows j ≡ false
-  unmarked_first e = sym (mark_is (first_on rows j) (h.at j l)) ∙ ne_eqb (get_or t j 0) 1 e
-
 pub marked_held : (rows : List ℤ) {t : List ℕ} {k : ℕ} → Held rows t → k < row_count rows → eqb (get_or t k 0) 1 ≡ held_at rows k
 marked_held rows {t} {k} h l = mark_is (held_at rows k) (h.at k l)
 
