@@ -1,8 +1,8 @@
 -- The findings by a split: what the code tests of the bookings and the sums is what `check_parts` says of the map of the parts. Assumes nothing.
 use Prim.Native.Nat.{ℕ, ◌<◌, ◌≤◌}
-use mathlib.Core.Path.{◌≡◌, refl, ap, ap₂, sym, ◌∙◌}
+use mathlib.Core.Path.{◌≡◌, refl, ap, sym, ◌∙◌}
 use mathlib.Core.Bool.{Bool, true, false, cond, ◌&&◌, ◌||◌, or-true, or-false}
-use mathlib.Core.List.{List, [], ◌∷◌, foldl}
+use mathlib.Core.List.{List, [], ◌∷◌, ◌++◌, append-nil, foldl}
 use native.Mathlib.Omega.{arith}
 use lib.Dec.{eqb, ltb}
 use lib.IntN.{ℤ, pos, negsuc}
@@ -12,7 +12,6 @@ use borrow.Author.Tests.{lt-ltb, le-ltb, eq-eqb, ne_eqb}
 use Rattle.loops.specs.Lists.{given, any_of, is_empty}
 use Rattle.loops.specs.Numbers.{to_nat}
 use Rattle.loops.specs.Ordered.{Entry, entry, upsert}
-use Rattle.loops.specs.Range.{collect}
 use Rattle.loops.specs.inner.Chain.{only}
 use Rattle.loops.proofs.IntegerLaws.{signed_total}
 use Rattle.loops.proofs.ListLaws.{any_collect}
@@ -21,14 +20,11 @@ use Rattle.chains.specs.Places.{places}
 use Rattle.chains.proofs.PlaceLaws.{any_places}
 use Rattle.rows.specs.Cells.{row_count, cell, num}
 use Rattle.owners.specs.inner.Owners.{owned_by}
-use Rattle.findings.specs.declared.Violation.{Violation}
-use Rattle.findings.specs.inner.Told.{Told, tell}
-use Rattle.findings.proofs.Reporting.{tell_none, tell_append, tell_then}
-use Rattle.model.specs.Schedule.{Part, unknown_activity, duration_too_short}
+use Rattle.model.specs.Schedule.{Part}
 use Rattle.definition.specs.CheckParts.{parts_of, check_parts_of}
 use Rattle.check3_parts.specs.inner.Booked.{has_part, part_of, part_at, parts_below, parts_in, without_part, whole_at, whole_in, outside, outside_at, some_outside, total_findings, short_parts, split_findings}
-use Rattle.check3_parts.specs.inner.Measure.{measured, short_of}
-use Rattle.check3_parts.proofs.Sums.{count_is, work_all, short_are}
+use Rattle.check3_parts.specs.inner.Measure.{measured}
+use Rattle.check3_parts.proofs.Sums.{count_is, work_all}
 
 -- ---- a booking of the whole activity
 
@@ -135,30 +131,16 @@ module _ (rows : List ℤ) (x o : ℕ) where
   abbrev work : ℕ
   work = measured (λ w. w) (parts_in rows o)
 
-  pub minimum_told : (t : Told) {t' : Told} {f : Violation} {i n least : ℕ} → i ≡ n → n ≡ measured (short_of least) (parts_in rows o) → least ≡ num rows x 3
-      → f ≡ duration_too_short 3 (num rows o 1) → t' ≡ tell t (collect (λ _. f ∷ []) i) → t' ≡ tell t (short_parts rows x o)
-  minimum_told t {f = f} e c l q h =
-      h
-      ∙ ap (λ n. tell t (collect (λ _. f ∷ []) n)) (e ∙ c ∙ ap (λ l. measured (short_of l) (parts_in rows o)) l)
-      ∙ ap (tell t) (ap (λ f. collect (λ _. f ∷ []) (measured (short_of (num rows x 3)) (parts_in rows o))) q ∙ short_are _ (num rows x 3) (parts_in rows o))
+  split_is : (count ≡ 0 → ⊥) → split_findings rows x o ≡ total_findings rows x o ++ cond (ltb 1 count) (short_parts rows x o) []
+  unfolding split_findings check_parts_of total_findings
+  split_is z = rw (← count_is (parts_in rows o), ne_eqb count 0 z, ← work_all (parts_in rows o))
 
-  module _ (t : Told) where
-    pub totals_told : {t₁ t₂ t₃ t₄ : Told} {n w p id : ℕ} {u s : Violation} {a b : Bool} → n ≡ count → w ≡ work → p ≡ num rows o 5 → id ≡ num rows o 1
-        → u ≡ unknown_activity 3 id → s ≡ duration_too_short 3 id → a ≡ whole_in rows o → b ≡ (lt_z (cell rows x 2) (pos n) || some_outside rows x (parts_in rows o))
-        → t₁ ≡ tell t (given a u) → t₂ ≡ tell t₁ (given b u) → t₃ ≡ tell t₂ (given (ltb w p) s) → t₄ ≡ tell t₃ (given (ltb p w) u) → t₄ ≡ tell t (total_findings rows x o)
-    unfolding total_findings
-    totals_told n w p i u s a b q₁ q₂ q₃ q₄ = tell_then t _ _ (tell_then t _ _ (tell_then t _ _ q₁ q₂) q₃) q₄ ∙ ap (tell t) (rw (u, s, a, b, n, w, p, i))
+  pub split_none : count ≡ 0 → split_findings rows x o ≡ []
+  unfolding split_findings
+  split_none z = rw (← count_is (parts_in rows o), eq-eqb count 0 z)
 
-    pub split_none : {n : ℕ} → n ≡ 0 → n ≡ count → t ≡ tell t (split_findings rows x o)
-    unfolding split_findings
-    split_none z e = rw (← count_is (parts_in rows o), eq-eqb count 0 (sym e ∙ z)) (sym (tell_none t))
+  pub split_one : (count ≡ 0 → ⊥) → count ≤ 1 → split_findings rows x o ≡ total_findings rows x o
+  split_one z l = split_is z ∙ rw (le-ltb 1 count l) (append-nil (total_findings rows x o))
 
-    split_is : (count ≡ 0 → ⊥) → tell (tell t (total_findings rows x o)) (cond (ltb 1 count) (short_parts rows x o) []) ≡ tell t (split_findings rows x o)
-    unfolding split_findings check_parts_of total_findings
-    split_is z = tell_append t (total_findings rows x o) _ ∙ rw (← count_is (parts_in rows o), ne_eqb count 0 z, ← work_all (parts_in rows o))
-
-    pub split_one : {t₁ : Told} {n : ℕ} → (n ≡ 0 → ⊥) → n ≤ 1 → n ≡ count → t₁ ≡ tell t (total_findings rows x o) → t₁ ≡ tell t (split_findings rows x o)
-    split_one z l e q = q ∙ sym (ap (tell (tell t (total_findings rows x o))) (rw (le-ltb 1 count (omega arith))) ∙ tell_none (tell t (total_findings rows x o))) ∙ split_is (λ y. z (e ∙ y))
-
-    pub split_more : {t₁ t₂ : Told} {n : ℕ} → 1 < n → n ≡ count → t₁ ≡ tell t (total_findings rows x o) → t₂ ≡ tell t₁ (short_parts rows x o) → t₂ ≡ tell t (split_findings rows x o)
-    split_more l e q r = r ∙ ap₂ tell q (rw (lt-ltb 1 count (omega arith))) ∙ split_is (λ z. omega arith)
+  pub split_more : 1 < count → split_findings rows x o ≡ total_findings rows x o ++ short_parts rows x o
+  split_more l = split_is (λ z. omega arith) ∙ rw (lt-ltb 1 count l)

@@ -1,6 +1,6 @@
 -- Sums over the parts, booking by booking, and what they tell of the map of the parts. Assumes nothing.
 use Prim.Native.Nat.{ℕ, zero, suc, ◌+◌, ◌-◌, ◌<◌, ◌≤◌}
-use mathlib.Core.Path.{◌≡◌, refl, ap, subst, sym, ◌∙◌}
+use mathlib.Core.Path.{◌≡◌, refl, ap, ap₂, subst, sym, ◌∙◌}
 use mathlib.Core.Bool.{Bool, true, false, cond}
 use mathlib.Core.List.{List, [], ◌∷◌, ◌++◌, append-nil, foldl}
 use Rattle.std.specs.Prelude.{None, Some}
@@ -16,17 +16,19 @@ use Rattle.loops.specs.Ordered.{Entry, values}
 use Rattle.loops.specs.Range.{collect}
 use Rattle.loops.specs.Sums.{total}
 use Rattle.loops.specs.inner.Chain.{First}
+use Rattle.loops.proofs.RangeLaws.{collect_step}
 use Rattle.loops.proofs.OrderedLaws.{integer_order, total_upsert}
 use Rattle.chains.specs.inner.Left.{front}
 use Rattle.rows.specs.Cells.{row_count, cell, num}
 use Rattle.sheet.specs.Refusals.{refusal_of}
 use Rattle.owners.specs.inner.Owners.{owned_by}
 use Rattle.findings.specs.declared.Violation.{Violation}
-use Rattle.model.specs.Schedule.{Part}
+use Rattle.findings.specs.inner.Told.{Told, tell}
+use Rattle.model.specs.Schedule.{Part, duration_too_short}
 use Rattle.model.proofs.Accepting.{accepted, at_most}
 use Rattle.model.proofs.OwnedLaws.{owned_kind}
 use Rattle.definition.specs.CheckParts.{parts_of, work_of}
-use Rattle.check3_parts.specs.inner.Booked.{has_part, part_of, parts_below}
+use Rattle.check3_parts.specs.inner.Booked.{has_part, part_of, parts_below, parts_in, repeated, short_parts}
 use Rattle.check3_parts.specs.inner.Measure.{IsMeasure, Summed, measured, short_of}
 use Rattle.check3_parts.proofs.Works.{parts_more, work_is, part_on, part_whole, parts_next, parts_first}
 
@@ -113,20 +115,32 @@ pub work_all : (m : List (Entry ℤ ℕ)) → measured (λ w. w) m ≡ foldl ◌
 work_all m = sym (work_from m 0 ∙ zero_more (measured (λ w. w) m))
 
 -- the same finding, so often
-module _ (f : Violation) (least : ℕ) where
-  more_first : (n : ℕ) → collect (λ _. f ∷ []) n ++ f ∷ [] ≡ f ∷ collect (λ _. f ∷ []) n
+module _ (f : Violation) where
+  pub repeated_none : collect (repeated f) 0 ≡ []
   unfolding collect
-  more_first zero = refl
-  more_first (suc n) = ap (λ l. l ++ f ∷ []) (more_first n)
+  repeated_none = refl
 
-  pub short_are : (m : List (Entry ℤ ℕ)) → collect (λ _. f ∷ []) (measured (short_of least) m) ≡ each (λ w. given (ltb w least) f) (values m)
+  pub repeated_more : (n : ℕ) → collect (repeated f) (n + 1) ≡ collect (repeated f) n ++ (f ∷ [])
+  unfolding repeated
+  repeated_more n = collect_step (repeated f) n
+
+  repeated_first : (n : ℕ) → collect (repeated f) n ++ f ∷ [] ≡ f ∷ collect (repeated f) n
+  unfolding collect repeated
+  repeated_first zero = refl
+  repeated_first (suc n) = ap (λ l. l ++ f ∷ []) (repeated_first n)
+
+  short_are : (least : ℕ) (m : List (Entry ℤ ℕ)) → collect (repeated f) (measured (short_of least) m) ≡ each (λ w. given (ltb w least) f) (values m)
   unfolding total each
-  short_are [] = unfold collect in refl
-  short_are (e ∷ m) = go (ltb e.value least) (short_are m)
+  short_are least [] = repeated_none
+  short_are least (e ∷ m) = go (ltb e.value least) (short_are least m)
     where
-      go : (b : Bool) → collect (λ _. f ∷ []) (measured (short_of least) m) ≡ each (λ w. given (ltb w least) f) (values m)
-          → collect (λ _. f ∷ []) (cond b 1 0 + measured (short_of least) m) ≡ given b f ++ each (λ w. given (ltb w least) f) (values m)
+      go : (b : Bool) → collect (repeated f) (measured (short_of least) m) ≡ each (λ w. given (ltb w least) f) (values m)
+          → collect (repeated f) (cond b 1 0 + measured (short_of least) m) ≡ given b f ++ each (λ w. given (ltb w least) f) (values m)
       go true h =
-          ap (collect (λ _. f ∷ [])) (one_more_lem (measured (short_of least) m))
-          ∙ (unfold collect in (more_first (measured (short_of least) m) ∙ ap (λ l. f ∷ l) h))
-      go false h = ap (collect (λ _. f ∷ [])) (zero_more (measured (short_of least) m)) ∙ h
+          ap (collect (repeated f)) (one_more_lem (measured (short_of least) m))
+          ∙ (unfold collect in unfold repeated in (repeated_first (measured (short_of least) m) ∙ ap (λ l. f ∷ l) h))
+      go false h = ap (collect (repeated f)) (zero_more (measured (short_of least) m)) ∙ h
+
+pub short_told : (rows : List ℤ) (x o : ℕ) (t : Told) {t' : Told} {f : Violation} {i n least : ℕ} → i ≡ n → n ≡ measured (short_of least) (parts_in rows o) → least ≡ num rows x 3
+    → f ≡ duration_too_short 3 (num rows o 1) → t' ≡ tell t (collect (repeated f) i) → t' ≡ tell t (short_parts rows x o)
+short_told rows x o t {i = i} e c l q h = h ∙ ap (tell t) (ap₂ (λ f n. collect (repeated f) n) q (e ∙ c ∙ ap (λ l. measured (short_of l) (parts_in rows o)) l) ∙ short_are (duration_too_short 3 (num rows o 1)) (num rows x 3) (parts_in rows o))

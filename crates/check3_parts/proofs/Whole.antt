@@ -16,7 +16,7 @@ use Rattle.loops.proofs.ListLaws.{each_collect, each_keep, any_keep, any_collect
 use Rattle.loops.proofs.PlaceLaws.{any_same}
 use Rattle.chains.specs.Places.{places}
 use Rattle.findings.specs.inner.Told.{Told, tell, telling}
-use Rattle.findings.proofs.Reporting.{tell_none, tell_then, tell_only}
+use Rattle.findings.proofs.Reporting.{tell_only}
 use Rattle.rows.specs.Cells.{row_count, cell, num, is}
 use Rattle.rows.specs.Ranges.{is_none}
 use Rattle.sheet.specs.Places.{of_kind}
@@ -160,17 +160,6 @@ module _ (rows : List ℤ) (acc : Accepted rows) where
   whole = tasks_by_rows rows acc (check_activity_parts (sheet rows)) (activity_findings rows) activity_is
 
 -- ---- what is told
-
-module _ (rows : List ℤ) (o : ℕ) (t : Told) {f : Option ℕ} where
-  -- of an activity that is split
-  pub activity_told : {t₁ t₂ : Told} {x : ℕ} → f ≡ Some x → f ≡ first_place (owned_by rows o 4) (row_count rows)
-      → t₁ ≡ tell t (two_works (num rows o 1) [] (parts_below rows o (row_count rows))) → t₂ ≡ tell t₁ (split_findings rows x o) → t₂ ≡ tell t (activity_findings rows o)
-  unfolding activity_findings
-  activity_told {x = x} g e q r = rw (← e, g) (tell_then t _ _ q r)
-
-  pub activity_quiet : f ≡ None → f ≡ first_place (owned_by rows o 4) (row_count rows) → t ≡ tell t (activity_findings rows o)
-  unfolding activity_findings
-  activity_quiet g e = rw (← e, g) (sym (tell_none t))
 
 pub activities_told : (rows : List ℤ) (o : ℕ) (t : Told) → foldl (telling (activity_findings rows)) t (places (owned_by rows o 2) (row_count rows)) ≡ tell t (task_findings rows o)
 unfolding task_findings

@@ -22,7 +22,7 @@ use Rattle.sheet.specs.Refusals.{refusal_of}
 use Rattle.owners.specs.inner.Owners.{owned_by}
 use Rattle.findings.specs.declared.Violation.{Violation}
 use Rattle.findings.specs.inner.Told.{Told, tell, telling}
-use Rattle.findings.proofs.Reporting.{tell_none, tell_places}
+use Rattle.findings.proofs.Reporting.{tell_places}
 use Rattle.model.specs.Schedule.{Part, unknown_activity}
 use Rattle.model.proofs.Accepting.{accepted}
 use Rattle.model.proofs.OwnedLaws.{owned_kind}
@@ -163,9 +163,9 @@ module _ (rows : List ℤ) (o : ℕ) where
       ∙ append-nil (given (option (work_of (parts_below rows o k) (cell rows k 7)) false (λ w. not (eqb w (num rows k 8)))) (unknown_activity 3 (num rows o 1)))
 
   -- of the whole activity
-  pub work_quiet : (k : ℕ) (t : Told) → has_part rows k ≡ false → t ≡ tell t (works_at k)
+  pub work_quiet : (k : ℕ) → has_part rows k ≡ false → works_at k ≡ []
   unfolding two_works
-  work_quiet k t h = rw (part_whole rows o k h) (sym (tell_none t))
+  work_quiet k h = rw (part_whole rows o k h)
 
   pub works_told : (t : Told)
       → foldl (telling works_at) t (places (owned_by rows o 23) (row_count rows)) ≡ tell t (two_works (num rows o 1) [] (parts_below rows o (row_count rows)))

@@ -55,7 +55,7 @@ fn work_before(rows: &Sheet, o: usize, k: usize) -> Option<u64>
 
 // ---- two works for one index
 
-#[tactic(auto, using(crate::proofs::Works::work_told))]
+#[tactic(auto, using(crate::proofs::Works::work_told, crate::proofs::Works::work_quiet, findings::proofs::SinkLaws::emit_none))]
 fn check_work(rows: &Sheet, o: usize, k: usize, found: &mut Findings)
     requires { (o ≤ row_count rows.now) × (k < row_count rows.now) × (owned_by rows.now o 23 k ≡ true) }
     ensures { so_far found.new ≡ tell (so_far found.old) (two_works (num rows.now o 1) (parts_below rows.now o k) (part_at rows.now o k)) }
@@ -135,7 +135,7 @@ fn is_whole(rows: &Sheet, o: usize) -> bool
 }
 
 // Whether booking k is of a part that the split at row x does not have.
-#[tactic(auto, unfolding(crate::specs::inner::Booked::outside_at, crate::specs::inner::Booked::outside))]
+#[tactic(auto, unfolding(crate::specs::inner::Booked::outside_at))]
 fn is_outside(rows: &Sheet, x: usize, k: usize) -> bool
     ensures { result ≡ outside_at rows.now x k }
 {
@@ -154,6 +154,7 @@ fn is_beyond(rows: &Sheet, o: usize, x: usize, count: u64) -> bool
 }
 
 // What is wrong with the parts together.
+#[tactic(auto, using(findings::proofs::SinkLaws::emit_then), unfolding(crate::specs::inner::Booked::total_findings))]
 fn check_totals(rows: &Sheet, o: usize, x: usize, count: u64, found: &mut Findings)
     requires { (o ≤ row_count rows.now) × (0 < count) × (count ≡ measured (λ _. 1) (parts_in rows.now o)) }
     ensures { so_far found.new ≡ tell (so_far found.old) (total_findings rows.now x o) }
@@ -170,6 +171,7 @@ fn check_totals(rows: &Sheet, o: usize, x: usize, count: u64, found: &mut Findin
 }
 
 // Each part that is too short.
+#[tactic(auto, using(findings::proofs::SinkLaws::emit_none, findings::proofs::SinkLaws::emit_then, crate::proofs::Sums::repeated_none, crate::proofs::Sums::repeated_more))]
 fn check_minimum(rows: &Sheet, o: usize, x: usize, found: &mut Findings)
     requires { o ≤ row_count rows.now }
     ensures { so_far found.new ≡ tell (so_far found.old) (short_parts rows.now x o) }
@@ -180,6 +182,7 @@ fn check_minimum(rows: &Sheet, o: usize, x: usize, found: &mut Findings)
     }
 }
 
+#[tactic(auto, using(findings::proofs::SinkLaws::emit_none, findings::proofs::SinkLaws::emit_then, crate::proofs::Findings::split_none, crate::proofs::Findings::split_one, crate::proofs::Findings::split_more))]
 fn check_split(rows: &Sheet, o: usize, x: usize, found: &mut Findings)
     requires { o ≤ row_count rows.now }
     ensures { so_far found.new ≡ tell (so_far found.old) (split_findings rows.now x o) }
@@ -194,6 +197,7 @@ fn check_split(rows: &Sheet, o: usize, x: usize, found: &mut Findings)
     }
 }
 
+#[tactic(auto, using(findings::proofs::SinkLaws::emit_none, findings::proofs::SinkLaws::emit_then), unfolding(crate::specs::inner::Booked::activity_findings))]
 fn check_activity(rows: &Sheet, o: usize, found: &mut Findings)
     requires { o ≤ row_count rows.now }
     ensures { so_far found.new ≡ tell (so_far found.old) (activity_findings rows.now o) }

@@ -1,5 +1,5 @@
 -- The parts of an activity's bookings, by row: o is the row of the activity, x that of its split. Assumes nothing.
-use Rattle.std.specs.Prelude.{ℕ, Bool, cond, not, ◌&&◌, ◌||◌, List, [], ◌++◌, length, eqb, ltb, ℤ, pos}
+use Rattle.std.specs.Prelude.{ℕ, Bool, cond, not, ◌&&◌, ◌||◌, List, [], ◌∷◌, ◌++◌, length, eqb, ltb, ℤ, pos}
 use Rattle.std.specs.Prelude.{Option, Some}
 use Rattle.std.specs.Int.Signed.{lt_z}
 use Rattle.loops.specs.Lists.{given, any_of, each, option}
@@ -72,6 +72,10 @@ total_findings rows x o =
     ++ given (lt_z (cell rows x 2) (pos (total (λ _. 1) (parts_in rows o))) || some_outside rows x (parts_in rows o)) (unknown_activity 3 (num rows o 1))
     ++ given (ltb (total (λ e. e.value) (parts_in rows o)) (num rows o 5)) (duration_too_short 3 (num rows o 1))
     ++ given (ltb (num rows o 5) (total (λ e. e.value) (parts_in rows o))) (unknown_activity 3 (num rows o 1))
+
+-- one finding, at each turn
+unfoldable pub repeated : Violation → ℕ → List Violation
+repeated f _ = f ∷ []
 
 -- each part below the minimum
 abbrev pub short_parts : List ℤ → ℕ → ℕ → List Violation
