@@ -4,15 +4,16 @@ use mathlib.Core.Path.{◌≡◌, refl, ap, ap₂, sym, ◌∙◌}
 use mathlib.Core.Bool.{Bool, true, false, cond, not, ◌&&◌, ◌||◌, or-false}
 use mathlib.Core.List.{List}
 use native.Mathlib.Omega.{arith}
+use native.Mathlib.Nat.{add-zero}
 use lib.Dec.{eqb}
 use lib.IntN.{ℤ}
-use Rattle.loops.specs.Lists.{any_of, count_of}
+use Rattle.loops.specs.Lists.{given, any_of, count_of}
 use Rattle.loops.specs.Range.{collect}
 use Rattle.loops.specs.Search.{count_below}
-use Rattle.loops.specs.inner.Chain.{First, Blind}
+use Rattle.loops.specs.inner.Chain.{Blind}
+use Rattle.chains.specs.Places.{places}
 use Rattle.loops.proofs.ListLaws.{count_append}
 use Rattle.loops.proofs.SearchLaws.{counted_le}
-use Rattle.loops.proofs.PlaceLaws.{count_next}
 use Rattle.rows.specs.Cells.{row_count, num, is}
 use Rattle.sheet.specs.inner.Accepted.{Accepted}
 use Rattle.owners.specs.inner.Owners.{owner_kind, owned_by}
@@ -55,19 +56,12 @@ module _ (rows : List ℤ) (a k : ℕ) where
   unfolding uses assignments_below taking
   uses_counted = count_places taking (assignment_at (sheet rows)) (takes_unit rows a k) taking_at k
 
-  module _ {j x : ℕ} (e : x ≡ count_below (takes_unit rows a k) j) where
-    pub uses_told : j ≤ k → k ≤ j → x ≡ uses (sheet rows) (activity_of rows a) (assignment_of rows k) (assignments_below (sheet rows) k)
-    uses_told h l = let z : j ≡ k = omega arith in e ∙ ap (count_below (takes_unit rows a k)) z ∙ sym uses_counted
-
-    pub uses_most : j ≤ k → Booked rows a k → row_count rows ≤ 800 → x ≤ 800
-    uses_most h b s = let c = counted_le (takes_unit rows a k) j e in omega (arith, b.within)
-
-    pub uses_fit : j ≤ k → Booked rows a k → row_count rows ≤ 800 → x < 18446744073709551615
-    uses_fit h b s = let c = uses_most h b s in omega arith
+  pub uses_most : Booked rows a k → row_count rows ≤ 800 → uses (sheet rows) (activity_of rows a) (assignment_of rows k) (assignments_below (sheet rows) k) ≤ 800
+  uses_most b s = let c = counted_le (takes_unit rows a k) k refl in rw uses_counted (omega (arith, b.within))
 
   module _ (acc : Accepted rows) (bk : Booked rows a k) where
     -- what the code asks of row j
-    takes_at : (j : ℕ) → j < row_count rows
+    pub takes_at : (j : ℕ) → j < row_count rows
         → takes_unit rows a k j ≡ (in_piece rows k j && (not (misplaced (sheet rows) (activity_of rows a) (assignment_of rows j)) && not (held_at rows j)))
     unfolding takes_unit held_at any_of
     takes_at j l = go (is rows j 0 23) refl
@@ -80,17 +74,6 @@ module _ (rows : List ℤ) (a k : ℕ) where
             ∙ ap₂ (λ x y. x && (not (misplaced (sheet rows) (activity_of rows a) (assignment_of rows j)) && not y)) (of_piece_lem rows acc j k l bk.within h bk.kind)
             (sym (or-false (is_held (sheet rows) (assignment_of rows j)))))
         go false h = rw (assignment_none rows j h) (unfold in_piece in rw h)
-
-    pub takes_apart : {r : Bool} (j : ℕ) → j < row_count rows → r ≡ in_piece rows k j → r ≡ false → false ≡ takes_unit rows a k j
-    takes_apart j l e f = sym (takes_at j l ∙ ap (λ x. x && (not (misplaced (sheet rows) (activity_of rows a) (assignment_of rows j)) && not (held_at rows j))) (sym e ∙ f))
-
-    pub takes_misplaced : {r m : Bool} (j : ℕ) → j < row_count rows → r ≡ in_piece rows k j → r ≡ true
-        → m ≡ misplaced (sheet rows) (activity_of rows a) (assignment_of rows j) → m ≡ true → false ≡ takes_unit rows a k j
-    takes_misplaced j l e f g i = sym (takes_at j l ∙ ap₂ (λ x y. x && (not y && not (held_at rows j))) (sym e ∙ f) (sym g ∙ i))
-
-    pub takes_free : {r m d : Bool} (j : ℕ) → j < row_count rows → r ≡ in_piece rows k j → r ≡ true
-        → m ≡ misplaced (sheet rows) (activity_of rows a) (assignment_of rows j) → m ≡ false → d ≡ held_at rows j → not d ≡ takes_unit rows a k j
-    takes_free {d = d} j l e f g i q = ap not q ∙ sym (takes_at j l ∙ ap₂ (λ x y. x && (not y && not (held_at rows j))) (sym e ∙ f) (sym g ∙ i))
 
   other : (j : ℕ) → is rows j 1 (num rows k 1) ≡ false → eqb (num rows j 1) (num rows k 1) ≡ false
   unfolding is
@@ -114,6 +97,13 @@ module _ (rows : List ℤ) (a k : ℕ) where
           (not (misplaced (sheet rows) (activity_of rows a) (assignment_of rows j)) && not (is_held (sheet rows) (assignment_of rows j))) (other j z))
       go j e false h = rw (assignment_none rows j h)
 
-  pub uses_next : {n i j x y : ℕ} {r : Bool} → First (owned_by rows a 23) (suc i) n j → y ≡ x + cond r 1 0 → r ≡ takes_unit rows a k i → x ≡ count_below (takes_unit rows a k) i → Booked rows a k
-      → y ≡ count_below (takes_unit rows a k) j
-  uses_next {x = x} f e g h b = count_next _ f (takes_blind b) h (e ∙ ap (λ r. x + cond r 1 0) g)
+  -- the places of the chain tell all of them
+  pub uses_left : Booked rows a k → count_of (takes_unit rows a k) (places (owned_by rows a 23) k) ≡ uses (sheet rows) (activity_of rows a) (assignment_of rows k) (assignments_below (sheet rows) k)
+  unfolding places count_of
+  uses_left b =
+      count_places (takes_unit rows a k) (λ j. given (owned_by rows a 23 j) j) (takes_unit rows a k) (λ j. go j (owned_by rows a 23 j) refl) k
+      ∙ sym uses_counted
+    where
+      go : (j : ℕ) (c : Bool) → owned_by rows a 23 j ≡ c → count_of (takes_unit rows a k) (given c j) ≡ cond (takes_unit rows a k j) 1 0
+      go j true h = add-zero _
+      go j false h = let e : takes_unit rows a k j ≡ false = (takes_blind b).still j h in rw e

@@ -1,16 +1,13 @@
 -- Where a booking belongs: its activity's row, whether it is misplaced, and that it stands in its activity's chain. Assumes nothing.
-use Rattle.loops.proofs.ChainLaws.{first_upto}
-use Prim.Native.Nat.{ℕ, suc, ◌<◌, ◌≤◌}
-use mathlib.Core.Path.{◌≡◌, refl, ap, ap₂, sym, ◌∙◌}
-use mathlib.Core.Bool.{Bool, true, false, not, ◌&&◌, ◌||◌}
+use Prim.Native.Nat.{ℕ, ◌<◌, ◌≤◌}
+use mathlib.Core.Path.{◌≡◌, refl, ap, sym, ◌∙◌}
+use mathlib.Core.Bool.{true, not, ◌&&◌, ◌||◌}
 use mathlib.Core.List.{List}
 use Rattle.std.specs.Prelude.{Option, None, Some}
 use native.Mathlib.Omega.{arith}
 use lib.Dec.{eqb, ltb}
 use lib.IntN.{ℤ, negsuc}
-use borrow.Author.Tests.{lt-ltb, le-ltb, eq-eqb}
 use Rattle.loops.specs.Lists.{is_some}
-use Rattle.loops.specs.inner.Chain.{First}
 use Rattle.rows.specs.Cells.{row_count, cell, num, is}
 use Rattle.rows.specs.declared.Class.TheVariants.{OptionalNumber}
 use Rattle.rows.specs.Ranges.{is_none, between, in_range, in_class}
@@ -19,14 +16,11 @@ use Rattle.sheet.specs.Places.{place_of}
 use Rattle.sheet.specs.declared.Found.{Found}
 use Rattle.sheet.specs.declared.Found.TheVariants.{At}
 use Rattle.sheet.specs.inner.Found.{found_of}
-use Rattle.sheet.specs.inner.Index.{or_end}
 use Rattle.sheet.proofs.Lookups.{Named, placed, num_is}
-use Rattle.owners.specs.inner.Owners.{owner_kind, own_place, owned_by}
 use Rattle.model.specs.Sheet.{sheet}
 use Rattle.model.specs.Activity.{split}
 use Rattle.model.specs.Schedule.{Part}
 use Rattle.model.specs.inner.Records.{activity_of, assignment_of}
-use Rattle.model.proofs.OwnedLaws.{own_activity}
 use Rattle.definition.specs.Pieces.{index_of, before_index}
 use Rattle.definition.specs.CheckAssignments.{misplaced}
 use Rattle.pieces.specs.inner.Bookings.{index_key, key_at}
@@ -71,37 +65,18 @@ module _ (rows : List ℤ) (acc : Accepted rows) (a k : ℕ) (l : k < row_count 
       ∙ ap is_some (booked_index rows acc k l h)
       ∙ index_some (cell rows k 7) (index_class rows acc k h)
 
-  -- ---- the three answers
-  same_task : (b : Bool) → is rows k 2 (num rows a 2) ≡ b → eqb (num rows k 2) (num rows a 2) ≡ b
+  -- as the code tests it
+  pub misplaced_is : misplaced (sheet rows) (activity_of rows a) (assignment_of rows k)
+      ≡ (not (is rows k 2 (num rows a 2)) || (ltb 0 (key_at rows k) && not (is_some (split (sheet rows) (num rows a 1)))))
   unfolding is
-  same_task b e = e
-
-  pub in_part_lem : {p : Bool} {x : ℕ} → is rows k 2 (num rows a 2) ≡ true → 0 < x → x ≡ key_at rows k → p ≡ is_some (split (sheet rows) (num rows a 1))
-      → not p ≡ misplaced (sheet rows) (activity_of rows a) (assignment_of rows k)
-  in_part_lem {p} e m i q =
-      ap not q
-      ∙ sym (ap₂ (λ x y. not x || (y && not (is_some (split (sheet rows) (num rows a 1))))) (same_task true e) (part_some ∙ lt-ltb 0 (key_at rows k) (omega arith)))
-
-  pub whole : {x : ℕ} → is rows k 2 (num rows a 2) ≡ true → x ≤ 0 → x ≡ key_at rows k → false ≡ misplaced (sheet rows) (activity_of rows a) (assignment_of rows k)
-  whole e m i =
-      sym (ap₂ (λ x y. not x || (y && not (is_some (split (sheet rows) (num rows a 1))))) (same_task true e) (part_some ∙ le-ltb 0 (key_at rows k) (omega arith)))
-
-  pub other_task : is rows k 2 (num rows a 2) ≡ false → true ≡ misplaced (sheet rows) (activity_of rows a) (assignment_of rows k)
-  other_task e =
-      sym (ap (λ x. not x || (is_some (assignment_of rows k).part && not (is_some (split (sheet rows) (num rows a 1))))) (same_task false e))
+  misplaced_is = ap (λ x. not (eqb (num rows k 2) (num rows a 2)) || (x && not (is_some (split (sheet rows) (num rows a 1))))) part_some
 
 -- ---- the activity's row
 
 module _ (rows : List ℤ) where
-  pub task_test : (a k : ℕ) {v : ℕ} {r b : Bool} → v ≡ num rows a 2 → r ≡ is rows k 2 v → r ≡ b → is rows k 2 (num rows a 2) ≡ b
-  task_test a k e f g = sym (f ∙ ap (is rows k 2) e) ∙ g
-
   -- a booking, by the lookup of its activity
   pub booked : (a k : ℕ) {f : Found} → f ≡ At a → found_of f ≡ place_of rows 2 (num rows k 1) → k < row_count rows → is rows k 0 23 ≡ true → Booked rows a k
   booked a k z e l h = record { within = l; kind = h; place = sym e ∙ ap found_of z }
-
-  pub own_row : (a k : ℕ) → Booked rows a k → own_place rows k ≡ a
-  own_row a k b = own_activity rows 23 k (unfold owner_kind in refl) b.kind ∙ rw b.place (unfold or_end in refl)
 
   activity_named : (a k : ℕ) → Booked rows a k → Named rows 2 (num rows k 1) a
   activity_named a k b = placed rows 2 (num rows k 1) a b.place
@@ -118,11 +93,3 @@ module _ (rows : List ℤ) where
   -- the row is found by its own id
   pub activity_place_lem : (a k : ℕ) → Booked rows a k → place_of rows 2 (num rows a 1) ≡ Some a
   activity_place_lem a k b = ap (place_of rows 2) (activity_named a k b).id_is ∙ b.place
-
-  pub owned_booking : (a k : ℕ) → Booked rows a k → owned_by rows a 23 k ≡ true
-  unfolding owned_by
-  owned_booking a k b = rw b.kind (eq-eqb (own_place rows k) a (own_row a k b))
-
--- a chain's next place is none after a place of it
-pub next_upto : (p : ℕ → Bool) (i n j k : ℕ) → First p (suc i) n j → i < k → p k ≡ true → j ≤ k
-next_upto p i n j k f l e = first_upto k f (omega arith) e

@@ -1,21 +1,24 @@
 -- Signed quantities summed as natural numbers, and what is more than their sum. Assumes nothing.
-use Prim.Native.Nat.{ℕ, zero, suc, ◌+◌, ◌-◌, ◌*◌, ◌^◌, ◌<◌, ◌≤◌}
+use Prim.Native.Nat.{ℕ, suc, ◌+◌, ◌-◌, ◌*◌, ◌<◌, ◌≤◌}
 use mathlib.Core.Path.{◌≡◌, refl, ap, sym, ◌∙◌}
-use mathlib.Core.Bool.{Bool, true, false, cond, ◌&&◌, and-true, and-false}
+use mathlib.Core.Bool.{Bool, true, false, cond, ◌&&◌, and-true}
 use mathlib.Core.List.{List, map, foldl}
 use Rattle.std.specs.Prelude.{Some}
 use native.Mathlib.Omega.{arith}
 use native.Mathlib.Decide.{dec_lt}
 use lib.Dec.{eqb, ltb}
-use lib.IntN.{ℤ, pos, negsuc, sub_ℕ, ◌+ℤ◌, ◌-ℤ◌}
-use lib.Signed.{lt_z, mag}
+use lib.IntN.{ℤ, pos, negsuc, sub_ℕ, nat_abs, ◌+ℤ◌}
+use lib.Signed.{lt_z}
 use mir.Syntax.{w64}
-use mir.Val.{Fits, to_z, of_z, hbits}
+use mir.Val.{SFits}
 use borrow.Author.Tests.{lt-ltb, le-ltb}
 use Rattle.loops.specs.Lists.{given}
 use Rattle.loops.specs.Numbers.{max_z}
-use Rattle.loops.specs.Range.{fold}
-use Rattle.loops.specs.inner.Chain.{First, Stands, only_at}
+use Rattle.loops.specs.inner.Chain.{only_at}
+use Rattle.chains.specs.Places.{places}
+use Rattle.chains.proofs.PlaceLaws.{foldl_only}
+use Rattle.loops.proofs.BoolLaws.{and_left}
+use Rattle.loops.proofs.IntegerLaws.{mag_abs}
 use Rattle.loops.proofs.ListLaws.{map_collect, foldl_collect}
 use Rattle.loops.proofs.RangeLaws.{fold_ext}
 use Rattle.rows.specs.Cells.{row_count, cell, num, is}
@@ -29,89 +32,43 @@ use Rattle.model.specs.Sheet.{sheet}
 use Rattle.model.specs.Activity.{ResourceRequirement, requirement_at, requirements}
 use Rattle.model.proofs.OwnedLaws.{of_activity}
 use Rattle.model.proofs.Accepting.{in_class_lem}
-use Rattle.model.proofs.Standing.{stands_owned}
 use Rattle.definition.specs.CheckAssignments.{units}
-use Rattle.rows.proofs.Signed.{number_low}
-use Rattle.pieces.specs.inner.Bookings.{index_key}
-use Rattle.pieces.proofs.Indices.{key_neg, key_pos, key_most, index_read}
-use Rattle.check1_assignments.specs.declared.Units.{Units}
+use Rattle.rows.proofs.Signed.{number_low, number_high}
 use Rattle.check1_assignments.specs.inner.Bookings.{quantities}
 
--- ---- differences of natural numbers
+-- ---- how large a sum is
 
-sub_is : (p m : ℕ) → pos p -ℤ pos m ≡ sub_ℕ p m
-sub_is p zero = rw (le-ltb p 0 (omega arith)) (ap pos (omega arith))
-sub_is p (suc n) = refl
-
-sub_same : (a b c d : ℕ) → a + d ≡ c + b → sub_ℕ a b ≡ sub_ℕ c d
-sub_same a b c d e = go (dec_lt a b)
+sub_size : (a b : ℕ) → nat_abs (sub_ℕ a (suc b)) ≤ a + suc b
+sub_size a b = go (ltb a (suc b))
   where
-    go : Dec (a < b) → sub_ℕ a b ≡ sub_ℕ c d
-    go (yes l) = rw (lt-ltb a b l, lt-ltb c d (omega arith)) (ap negsuc (omega arith))
-    go (no l) = rw (le-ltb a b (omega arith), le-ltb c d (omega arith)) (ap pos (omega arith))
+    go : (t : Bool) → nat_abs (cond t (negsuc (suc b - suc a)) (pos (a - suc b))) ≤ a + suc b
+    go true = omega arith
+    go false = omega arith
 
-add_pos : (r o n : ℕ) → sub_ℕ r o +ℤ pos n ≡ sub_ℕ (r + n) o
-add_pos r o n = go (dec_lt r o)
-  where
-    go : Dec (r < o) → sub_ℕ r o +ℤ pos n ≡ sub_ℕ (r + n) o
-    go (yes l) = rw (lt-ltb r o l) (sub_same n (suc (o - suc r)) (r + n) o (omega arith))
-    go (no l) = rw (le-ltb r o (omega arith), le-ltb (r + n) o (omega arith)) (ap pos (omega arith))
+sum_size : (x y : ℤ) → nat_abs (x +ℤ y) ≤ nat_abs x + nat_abs y
+sum_size (pos a) (pos b) = omega arith
+sum_size (pos a) (negsuc b) = sub_size a b
+sum_size (negsuc a) (pos b) = let h : nat_abs (negsuc a +ℤ pos b) ≤ b + suc a = sub_size b a in omega arith
+sum_size (negsuc a) (negsuc b) = omega arith
 
-add_neg : (r o n : ℕ) → sub_ℕ r o +ℤ negsuc n ≡ sub_ℕ r (o + suc n)
-add_neg r o n = go (dec_lt r o)
-  where
-    go : Dec (r < o) → sub_ℕ r o +ℤ negsuc n ≡ sub_ℕ r (o + suc n)
-    go (yes l) = rw (lt-ltb r o l, lt-ltb r (o + suc n) (omega arith)) (ap negsuc (omega arith))
-    go (no l) = rw (le-ltb r o (omega arith)) (sub_same (r - o) (suc n) r (o + suc n) (omega arith))
-
--- ---- a quantity added
-
-raise : (x : ℤ) (r o : ℕ) → in_class Number x ≡ true → sub_ℕ (r + index_key x) (o + 1000001) ≡ sub_ℕ r o +ℤ x
-raise (pos n) r o e = rw (key_pos n) (sub_same (r + (n + 1000001)) (o + 1000001) (r + n) o (omega arith)) ∙ sym (add_pos r o n)
-raise (negsuc n) r o e =
-    let l = number_low n e in
-    rw (key_neg n l) (sub_same (r + (1000000 - n)) (o + 1000001) r (o + suc n) (omega arith)) ∙ sym (add_neg r o n)
-
-pub raised_by : (x : ℤ) (r o : ℕ) → in_class Number x ≡ true → pos (r + index_key x) -ℤ pos (o + 1000001) ≡ (pos r -ℤ pos o) +ℤ x
-raised_by x r o e = sub_is (r + index_key x) (o + 1000001) ∙ raise x r o e ∙ ap (λ z. z +ℤ x) (sym (sub_is r o))
-
-module _ (rows : List ℤ) (acc : Accepted rows) where
-  quantity_class : (q : ℕ) → is rows q 0 5 ≡ true → in_class Number (cell rows q 3) ≡ true
-  quantity_class q h = in_class_lem rows acc q 5 3 h
-
-  quantity_key : (q : ℕ) → is rows q 0 5 ≡ true → index_key (cell rows q 3) ≤ 2000001
-  quantity_key q h = key_most (cell rows q 3) (quantity_class q h)
-
--- ---- one quantity more
-
-module _ (rows : List ℤ) (q : ℕ) {x : ℕ} {z : ℤ} (e : x ≡ index_key (to_z w64 (of_z w64 z))) (m : mag z < 2 ^ hbits w64) (f : z ≡ cell rows q 3) where
-  pub raised_fits : (r : ℕ) → index_key (cell rows q 3) ≤ 2000001 → r ≤ 2000001 * q → q < 800 → Fits w64 (r + x)
-  raised_fits r h l u = let k = index_read e m f in record { fits = omega arith }
-
-  pub raised_is : (r o : ℕ) → ◌≡◌ {A = Units} (record { raised = r + x; offset = o }) (record { raised = r + index_key (cell rows q 3); offset = o })
-  raised_is r o = ap (λ y. record { raised = r + y; offset = o }) (index_read e m f)
-
--- ---- the sum along the activity's chain
+number_size : (x : ℤ) → in_class Number x ≡ true → nat_abs x ≤ 1000000
+number_size (pos n) e = number_high n e
+number_size (negsuc n) e = let h = number_low n e in omega arith
 
 unfoldable pub add_at : List ℤ → ℤ → ℕ → ℤ
 add_at rows c k = c +ℤ cell rows k 3
 
--- the loop stands at a requirement
-module _ (rows : List ℤ) (a : ℕ) {n N q : ℕ} (s : Stands (owned_by rows a 5) n q) (l : q < N) (z : N ≡ n) where
-  pub stands_key : Accepted rows → index_key (cell rows q 3) ≤ 2000001
-  stands_key acc = quantity_key rows acc q (stands_owned rows a 5 l z s)
+-- a requirement's quantity more
+module _ (rows : List ℤ) (acc : Accepted rows) (a q : ℕ) (h : owned_by rows a 5 q ≡ true) (c : ℤ) (m : nat_abs c ≤ 1000000 * q) where
+  kind : is rows q 0 5 ≡ true
+  unfolding owned_by
+  kind = and_left (is rows q 0 5) _ h
 
-  module _ (u : Units) {v : Units} (e : v ≡ record { raised = u.raised + index_key (cell rows q 3); offset = u.offset + 1000001 }) (acc : Accepted rows) where
-    pub sum_step : pos v.raised -ℤ pos v.offset ≡ add_at rows (pos u.raised -ℤ pos u.offset) q
-    unfolding add_at
-    sum_step = ap (λ x. pos x.raised -ℤ pos x.offset) e ∙ raised_by (cell rows q 3) u.raised u.offset (quantity_class rows acc q (stands_owned rows a 5 l z s))
+  pub added_size : nat_abs (c +ℤ cell rows q 3) ≤ 1000000 * suc q
+  added_size = let s = sum_size c (cell rows q 3) in let n = number_size (cell rows q 3) (in_class_lem rows acc q 5 3 kind) in omega arith
 
-    module _ {j : ℕ} (f : First (owned_by rows a 5) (suc q) n j) where
-      pub raised_most : u.raised ≤ 2000001 * q → v.raised ≤ 2000001 * j
-      raised_most m = let b = stands_key acc in let r = ap (λ x. x.raised) e in omega (arith, f.low)
-
-      pub offset_most : u.offset ≤ 1000001 * q → v.offset ≤ 1000001 * j
-      offset_most m = let o = ap (λ x. x.offset) e in omega (arith, f.low)
+  pub added_fits : q < 800 → SFits w64 (c +ℤ cell rows q 3)
+  added_fits l = let s = added_size in let n = mag_abs (c +ℤ cell rows q 3) in record { sfits = omega arith }
 
 module _ (rows : List ℤ) (a : ℕ) where
   folded : (b : Bool) (x : ResourceRequirement) (c : ℤ) → foldl ◌+ℤ◌ c (map (λ q. q.quantity) (given b x)) ≡ cond b (c +ℤ x.quantity) c
@@ -129,10 +86,11 @@ module _ (rows : List ℤ) (a : ℕ) where
       go true h = rw (h, is_num rows k 0 5 h) (folded (eqb (num rows k 1) (num rows a 1)) _ c)
       go false h = rw h
 
-  pub sum_told : {x : ℤ} → place_of rows 2 (num rows a 1) ≡ Some a → x ≡ fold (only_at (owned_by rows a 5) (add_at rows)) (pos 0) (row_count rows) → x ≡ quantities rows a
+  -- the places of the chain tell all of them
+  pub sum_left : place_of rows 2 (num rows a 1) ≡ Some a → foldl (add_at rows) (pos 0) (places (owned_by rows a 5) (row_count rows)) ≡ quantities rows a
   unfolding quantities requirements
-  sum_told p e =
-      e
+  sum_left p =
+      foldl_only (owned_by rows a 5) (add_at rows) (pos 0) (row_count rows)
       ∙ sym
       (ap (foldl ◌+ℤ◌ (pos 0)) (map_collect (λ q. q.quantity) (requirement_at (sheet rows) (num rows a 1)) (row_count rows))
       ∙ foldl_collect ◌+ℤ◌ (pos 0) (λ k. map (λ q. q.quantity) (requirement_at (sheet rows) (num rows a 1) k)) (row_count rows)
@@ -144,22 +102,16 @@ units_are rows a = refl
 
 -- ---- more bookings than units
 
-over_is : (p m u : ℕ) → lt_z (max_z (pos p -ℤ pos m) (pos 1)) (pos u) ≡ (ltb 1 u && ltb p (u + m))
-over_is p m u = rw (sub_is p m) (go (dec_lt p m) (dec_lt 1 u) (dec_lt (p - m) u) (dec_lt (p - m) 1))
+over_is : (x : ℤ) (u : ℕ) → lt_z (max_z x (pos 1)) (pos u) ≡ (ltb 1 u && lt_z x (pos u))
+over_is (negsuc n) u = sym (and-true (ltb 1 u))
+over_is (pos n) u = go (dec_lt n 1) (dec_lt 1 u)
   where
-    go : Dec (p < m) → Dec (1 < u) → Dec (p - m < u) → Dec (p - m < 1) → lt_z (max_z (sub_ℕ p m) (pos 1)) (pos u) ≡ (ltb 1 u && ltb p (u + m))
-    go (yes a) b c d = rw (lt-ltb p m a, lt-ltb p (u + m) (omega arith)) (sym (and-true (ltb 1 u)))
-    go (no a) (yes b) c (yes d) = rw (le-ltb p m (omega arith), lt-ltb (p - m) 1 d, lt-ltb 1 u b) (sym (lt-ltb p (u + m) (omega arith)))
-    go (no a) (no b) c (yes d) = rw (le-ltb p m (omega arith), lt-ltb (p - m) 1 d, le-ltb 1 u (omega arith))
-    go (no a) b (yes c) (no d) = rw (le-ltb p m (omega arith), le-ltb (p - m) 1 (omega arith), lt-ltb (p - m) u c, lt-ltb 1 u (omega arith)) (sym (lt-ltb p (u + m) (omega arith)))
-    go (no a) b (no c) (no d) = rw (le-ltb p m (omega arith), le-ltb (p - m) 1 (omega arith), le-ltb (p - m) u (omega arith), le-ltb p (u + m) (omega arith)) (sym (and-false (ltb 1 u)))
+    go : Dec (n < 1) → Dec (1 < u) → lt_z (max_z (pos n) (pos 1)) (pos u) ≡ (ltb 1 u && ltb n u)
+    go (yes a) (yes b) = rw (lt-ltb n 1 a, lt-ltb 1 u b) (sym (lt-ltb n u (omega arith)))
+    go (yes a) (no b) = rw (lt-ltb n 1 a, le-ltb 1 u (omega arith))
+    go (no a) (yes b) = rw (le-ltb n 1 (omega arith), lt-ltb 1 u b)
+    go (no a) (no b) = rw (le-ltb n 1 (omega arith), le-ltb 1 u (omega arith)) (le-ltb n u (omega arith))
 
-module _ (rows : List ℤ) (a p m u : ℕ) (e : pos p -ℤ pos m ≡ quantities rows a) where
-  over_told : lt_z (units (sheet rows) (num rows a 1)) (pos u) ≡ (ltb 1 u && ltb p (u + m))
-  over_told = ap (λ z. lt_z z (pos u)) (units_are rows a ∙ ap (λ z. max_z z (pos 1)) (sym e)) ∙ over_is p m u
-
-  pub one_fits : u ≤ 1 → false ≡ lt_z (units (sheet rows) (num rows a 1)) (pos u)
-  one_fits l = sym (over_told ∙ ap (λ b. b && ltb p (u + m)) (le-ltb 1 u l))
-
-  pub more_over : 1 < u → ltb p (u + m) ≡ lt_z (units (sheet rows) (num rows a 1)) (pos u)
-  more_over l = sym (over_told ∙ ap (λ b. b && ltb p (u + m)) (lt-ltb 1 u l))
+-- as the code tests it
+pub over_told : (rows : List ℤ) (a u : ℕ) → lt_z (units (sheet rows) (num rows a 1)) (pos u) ≡ (ltb 1 u && lt_z (quantities rows a) (pos u))
+over_told rows a u = ap (λ z. lt_z z (pos u)) (units_are rows a) ∙ over_is (quantities rows a) u

@@ -109,14 +109,6 @@ module _ (rows : List ℤ) where
 
   -- ---- a booking's timing
 
-  pub timing_speed : (i : ℕ) {s : Float} {n : ℕ} → is rows i 0 9 ≡ true → s ≡ of_bits binary64 n → n ≡ num rows i 3 → Speed s ≡ timing_of rows i
-  unfolding timing_of
-  timing_speed i h e f = rw (h, e, f)
-
-  pub timing_fixed : (i : ℕ) {d : ActivityDuration} → is rows i 0 9 ≡ false → d ≡ columns_of rows i 3 → Duration d ≡ timing_of rows i
-  unfolding timing_of
-  timing_fixed i h e = rw (h, e)
-
   pub timing_row : (j : ℕ) {x : Option ℕ} → is rows j 0 23 ≡ true → x ≡ timing_place rows j → first_place (timed_by rows (num rows j 1) (num rows j 3)) (row_count rows) ≡ x
   unfolding timing_place
   timing_row j h e = sym (rw h at e)

@@ -56,9 +56,6 @@ large_is (Some d) = go (ltb (total_ms d) (2 ^ 53)) refl
     go true h = let l : total_ms d < 9007199254740992 = ltb-true (total_ms d) 9007199254740992 h in lt-leb 9007199254740992 (d.process_ms + d.teardown_ms) (omega arith)
     go false h = le-leb 9007199254740992 9007199254740992 (omega arith)
 
-pub rest_fits : (d : ActivityDuration) {x : Derived} → x ≡ Ok d → rest_ms x ≤ 9007199254740992 → Fits w64 (d.process_ms + d.teardown_ms)
-rest_fits d e h = let g : rest_ms (Ok d) ≤ 9007199254740992 = rw e at h in record { fits = omega arith }
-
 -- ---- a row
 
 module _ (rows : List ℤ) where

@@ -112,6 +112,7 @@ fn rest_ms(d: Derived) -> u64
 // ---- the bookings
 
 // The bookings of an accepted sheet, with what their derived times are found by.
+// The timings are found with the value and held in it: it is made once for a sheet, and no caller lends room for them.
 #[derive(Drop)]
 pub struct Bookings<'a> {
     rows: &'a Owners<'a>,

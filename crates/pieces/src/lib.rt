@@ -2,7 +2,7 @@
 // scheduler/feasibility.rs. Each is found along chains of rows; who is held is found once for a sheet.
 #![tactic(auto)]
 
-ghost use Rattle.std.specs.Prelude.{◌≡◌, ◌<◌, ◌≤◌, true, not, ◌&&◌};
+ghost use Rattle.std.specs.Prelude.{◌≡◌, ◌<◌, ◌≤◌, ℕ, Bool, true, not, ◌&&◌};
 ghost use Rattle.loops.specs.inner.Chain.{Blind};
 ghost use Rattle.loops.specs.Search.{any_below, first_place};
 ghost use Rattle.rows.specs.Cells.{row_count, num, is};
@@ -10,7 +10,7 @@ ghost use Rattle.rows.specs.Kinds.{kind_number};
 ghost use Rattle.sheet.specs.Places.{of_kind};
 ghost use Rattle.sheet.specs.inner.Accepted.{Accepted};
 ghost use Rattle.owners.specs.inner.Owners.{owned_by};
-ghost use Rattle.pieces.specs.inner.Bookings.{index_key, key_at, in_piece, same_booking, first_on, Firsts, names, holds_for};
+ghost use Rattle.pieces.specs.inner.Bookings.{index_key, key_at, in_piece, same_booking, first_on, Marks, Tells, names, holds_for};
 ghost use Rattle.pieces.specs.inner.Held.{held_at, Held};
 
 use owners::{ByOwner, LinkIndex, OwnerIndex, Owners};
@@ -102,16 +102,24 @@ fn first_at(rows: &ByKind, k: usize) -> bool
     rows.is_of_kind(k, Kind::Booking) && is_first(rows, k)
 }
 
-// 1 at each booking that is the first of its piece on its resource.
-#[tactic(auto, using(crate::proofs::Marks::marking_start, crate::proofs::Marks::marking_turn, crate::proofs::Marks::firsts_end))]
-fn firsts_of(rows: &ByKind) -> [u8; 800]
-    ensures { Firsts rows.now result }
+// 1 at each row that passes a test, 0 at the others and past the last one.
+pub fn marks_of<F: Fn(usize) -> bool>(rows: &[i64], test: F) -> [u8; 800]
+    requires few { row_count rows.now ≤ 800 }
+    requires callable { (k : ℕ) → k < row_count rows.now → F.pre test k }
+    ensures { (f : ℕ → Bool) → Tells rows.now (F.post test) f → Marks rows.now f result }
 {
-    let mut firsts = [0u8; 800];
-    for k in 0..rows::row_count(rows.as_slice()) {
-        firsts[k] = u8::from(first_at(rows, k));
+    let mut marks = [0u8; 800];
+    for k in 0..rows::row_count(rows) {
+        marks[k] = u8::from(test(k));
     }
-    firsts
+    marks
+}
+
+// 1 at each booking that is the first of its piece on its resource.
+fn firsts_of(rows: &ByKind) -> [u8; 800]
+    ensures { Marks rows.now (first_on rows.now) result }
+{
+    marks_of(rows.as_slice(), |k| first_at(rows, k))
 }
 
 // ---- who is held
@@ -141,7 +149,7 @@ fn holds_for(rows: &Owners, k: usize, j: usize) -> bool
 // The same, where booking j is the first of its resource: the others hold what it holds.
 #[tactic(auto, using(crate::proofs::Chains::first_kind, crate::proofs::Marks::marked_first))]
 fn first_holds(rows: &Owners, firsts: &[u8; 800], k: usize, j: usize) -> bool
-    requires { Accepted rows.now × Firsts rows.now firsts.now × (j < row_count rows.now) }
+    requires { Accepted rows.now × Marks rows.now (first_on rows.now) firsts.now × (j < row_count rows.now) }
     ensures { result ≡ (first_on rows.now j && holds_for rows.now k j) }
 {
     firsts[j] == 1 && holds_for(rows, k, j)
@@ -150,7 +158,7 @@ fn first_holds(rows: &Owners, firsts: &[u8; 800], k: usize, j: usize) -> bool
 // Whether a booking of booking k's piece holds k's resource as a companion.
 #[tactic(auto, using(chains::proofs::PlaceLaws::left_all, crate::proofs::Chains::firsts_told), unfolding(loops::specs::Lists::any_of))]
 fn is_held(rows: &ByKind, owners: &Owners, firsts: &[u8; 800], k: usize) -> bool
-    requires { Accepted rows.now × Firsts rows.now firsts.now × (owners.now ≡ rows.now) }
+    requires { Accepted rows.now × Marks rows.now (first_on rows.now) firsts.now × (owners.now ≡ rows.now) }
     ensures { result ≡ any_below (holds_for rows.now k) (row_count rows.now) }
 {
     for j in rows.named(Kind::Booking, rows.num(k, 1)) {
@@ -164,24 +172,19 @@ fn is_held(rows: &ByKind, owners: &Owners, firsts: &[u8; 800], k: usize) -> bool
 // Whether row k is a booking that is held.
 #[tactic(auto, using(crate::proofs::Companions::held_told))]
 fn held_at(rows: &ByKind, owners: &Owners, firsts: &[u8; 800], k: usize) -> bool
-    requires { Accepted rows.now × Firsts rows.now firsts.now × (owners.now ≡ rows.now) × (k < row_count rows.now) }
+    requires { Accepted rows.now × Marks rows.now (first_on rows.now) firsts.now × (owners.now ≡ rows.now) × (k < row_count rows.now) }
     ensures { result ≡ held_at rows.now k }
 {
     rows.is_of_kind(k, Kind::Booking) && is_held(rows, owners, firsts, k)
 }
 
 // 1 at each booking that is held, each looked at.
-#[tactic(auto, using(crate::proofs::Marks::marking_start, crate::proofs::Marks::marking_turn, crate::proofs::Marks::held_end))]
-fn marks_of(rows: &ByKind, owners: &Owners) -> [u8; 800]
+fn held_marks(rows: &ByKind, owners: &Owners) -> [u8; 800]
     requires { Accepted rows.now × (owners.now ≡ rows.now) }
     ensures { Held rows.now result }
 {
     let firsts = firsts_of(rows);
-    let mut held = [0u8; 800];
-    for k in 0..rows::row_count(rows.as_slice()) {
-        held[k] = u8::from(held_at(rows, owners, &firsts, k));
-    }
-    held
+    marks_of(rows.as_slice(), |k| held_at(rows, owners, &firsts, k))
 }
 
 // Whether the sheet has a row that names a companion.
@@ -197,7 +200,7 @@ pub fn held_of(rows: &ByKind, owners: &Owners) -> [u8; 800]
     ensures { Held rows.now result }
 {
     if names_companions(rows) {
-        return marks_of(rows, owners);
+        return held_marks(rows, owners);
     }
     [0u8; 800]
 }

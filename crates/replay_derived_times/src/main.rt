@@ -5,15 +5,17 @@
 ghost use Rattle.std.specs.Prelude.{◌≡◌, ◌≤◌, length, ◌<◌};
 ghost use Rattle.rows.specs.Cells.{row_count};
 ghost use Rattle.sheet.specs.inner.Accepted.{Accepted};
-ghost use Rattle.owners.specs.inner.Owners.{Linked, Owned};
 ghost use Rattle.pieces.specs.inner.Held.{Held};
 
 use derived_times::Bookings;
+use model::Sheet;
 use overlap::Overlap;
+use owners::{LinkIndex, Owners};
 use refusals::Verdict;
 use resource_timing::{ActivityDuration, Derived, Piece, ResourceTiming, Timed};
 use rounding::TooLarge;
-use sheet::Found;
+use rows::Kind;
+use sheet::Rows;
 use std::io;
 use stored_run::Gathered;
 
@@ -49,37 +51,25 @@ fn numbers_of(k: usize, d: Derived) -> [i64; 4] {
 }
 
 // The derived duration of row k, where it is a booking of a known activity.
-fn derived_at(
-    rows: &[i64],
-    links: &[u16; 1600],
-    bookings: &Bookings<'_>,
-    k: usize,
-) -> Option<Derived>
-    requires { Accepted rows.now × Linked rows.now links.now × (bookings.now.rows.now ≡ rows.now) × (k < row_count rows.now) }
+#[tactic(auto, using(owners::proofs::Links::books))]
+fn derived_at(rows: &Owners, bookings: &Bookings<'_>, k: usize) -> Option<Derived>
+    requires { Accepted rows.now × (bookings.now.rows.now ≡ rows.now) × (k < row_count rows.now) }
 {
-    if !rows::is_at(rows, k, 0, 23) {
+    if !rows.is_of_kind(k, Kind::Booking) {
         return None;
     }
-    match owners::activity_of(rows, links, k) {
-        Found::At(o) => Some(bookings.duration_on(o, k)),
-        Found::Nothing => None,
-    }
+    let o = rows.activity_of(k).or_none()?;
+    Some(bookings.duration_on(o, k))
 }
 
 // Whether the bookings of known activities have these numbers, in the order of their rows.
-fn derived_are(
-    rows: &[i64],
-    links: &[u16; 1600],
-    owned: &[u16; 8810],
-    held: &[u8; 800],
-    expected: &[i64],
-) -> bool
-    requires { Accepted rows.now × Linked rows.now links.now × Owned rows.now owned.now × Held rows.now held.now }
+fn derived_are(rows: &Owners, held: &[u8; 800], expected: &[i64]) -> bool
+    requires { Accepted rows.now × Held rows.now held.now }
 {
-    let bookings = Bookings::new(rows, links, owned, held);
+    let bookings = Bookings::new(rows, held);
     let mut rest = expected;
-    for k in 0..rows::row_count(rows) {
-        if let Some(d) = derived_at(rows, links, &bookings, k) {
+    for k in 0..rows.row_count() {
+        if let Some(d) = derived_at(rows, &bookings, k) {
             let Some(after) = rest.strip_prefix(&numbers_of(k, d)) else {
                 return false;
             };
@@ -104,10 +94,12 @@ fn sheet_case(rows: &[i64], expected: &[i64], number: u64, place: u64) -> bool {
     let Ok(()) = validation::index(rows, &mut kinds, &mut links, &mut owned) else {
         return false;
     };
-    let held = pieces::held_of(rows, &kinds, &links, &owned);
-    let need = derived_times::needs_of(rows, &links, &owned, &held);
+    let sheet = Sheet::new(rows, &kinds, &links, &owned);
+    let owners = sheet.owners();
+    let held = pieces::held_of(&sheet.by_kind(), &owners);
+    let need = derived_times::needs_of(&owners, &held);
     is_verdict(derived_times::refused(rows, &need), number, place)
-        && derived_are(rows, &links, &owned, &held, expected)
+        && derived_are(&owners, &held, expected)
 }
 
 // ---- a process at a product of speeds, a share of a fixed time

@@ -1,17 +1,15 @@
-use Prim.Native.Nat.{◌-◌}
 use mathlib.Core.Path.{◌≡◌}
-use Rattle.loops.specs.Range.{collect}
-use Rattle.loops.specs.inner.Chain.{Stands}
+use mathlib.Core.List.{foldl}
+use Rattle.calendar.specs.Clock.{clock}
+use Rattle.chains.specs.inner.Left.{Left}
+use Rattle.findings.specs.inner.Told.{so_far, tell, telling}
 use Rattle.rows.specs.Cells.{row_count}
 use Rattle.sheet.specs.Places.{of_kind}
-use Rattle.calendar.specs.Clock.{clock}
-use Rattle.findings.specs.inner.Sink.{sink, emit}
 use Rattle.model.specs.Sheet.{sheet}
-use Rattle.definition.specs.CheckAssignments.{check_assignment_at}
+use Rattle.definition.specs.CheckAssignments.{check_assignment_at, check_assignments}
 use Rattle.check1_assignments.proofs.check_assignments.Given as goal
 
 abbrev pub invariant-loop-k : goal.invariant-loop-k
-invariant-loop-k l = Stands (of_kind l.rows 23) (row_count l.rows) l.k × (sink l.out l.m ≡ emit (sink l.initial.out l.n) (collect (check_assignment_at clock (sheet l.rows)) l.k))
-
-abbrev pub decreases-loop-k : goal.decreases-loop-k
-decreases-loop-k l = l.count - l.k
+invariant-loop-k l =
+    Left (of_kind l.rows 23) (row_count l.rows) l.k-iterator
+    × (foldl (telling (check_assignment_at clock (sheet l.rows))) (so_far l.found) l.k-iterator ≡ tell (so_far l.initial.found) (check_assignments clock (sheet l.rows)))

@@ -1,14 +1,16 @@
-use Prim.Native.Nat.{◌-◌, ◌≤◌}
+use Prim.Native.Nat.{◌+◌}
 use mathlib.Core.Path.{◌≡◌}
-use Rattle.loops.specs.Search.{count_below}
-use Rattle.loops.specs.inner.Chain.{Stands}
-use Rattle.rows.specs.Cells.{row_count}
+use Rattle.chains.specs.inner.Left.{Left}
+use Rattle.loops.specs.Lists.{count_of}
 use Rattle.owners.specs.inner.Owners.{owned_by}
+use Rattle.model.specs.Sheet.{sheet}
+use Rattle.model.specs.Schedule.{assignments_below}
+use Rattle.model.specs.inner.Records.{activity_of, assignment_of}
+use Rattle.definition.specs.CheckAssignments.{uses}
 use Rattle.check1_assignments.specs.inner.Bookings.{takes_unit}
 use Rattle.check1_assignments.proofs.uses_before.Given as goal
 
 abbrev pub invariant-loop-j : goal.invariant-loop-j
-invariant-loop-j l = Stands (owned_by l.rows l.a 23) (row_count l.rows) l.j × (l.j ≤ l.k) × (l.used ≡ count_below (takes_unit l.rows l.a l.k) l.j)
-
-abbrev pub decreases-loop-j : goal.decreases-loop-j
-decreases-loop-j l = l.k - l.j
+invariant-loop-j l =
+    Left (owned_by l.rows l.a 23) l.k l.j-iterator
+    × (l.used + count_of (takes_unit l.rows l.a l.k) l.j-iterator ≡ uses (sheet l.rows) (activity_of l.rows l.a) (assignment_of l.rows l.k) (assignments_below (sheet l.rows) l.k))

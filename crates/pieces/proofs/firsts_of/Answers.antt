@@ -1,5 +1,6 @@
-use Rattle.pieces.proofs.Marks.{marking_start}
+use borrow.Author.Rules.{rules}
+use Rattle.pieces.specs.inner.Bookings.{first_on}
 use Rattle.pieces.proofs.firsts_of.Goals as goal
 
-pub loop-k-init : goal.loop-k-init
-loop-k-init c = marking_start
+pub returns : goal.returns
+returns c = rw c.as_slice.ensures.rows at (c.marks_of.ensures (first_on c.args.rows.now) (record { same = λ k r l p. search rules }))

@@ -23,11 +23,15 @@ same_booking rows k j = is rows j 3 (num rows k 3) && in_piece rows k j
 unfoldable pub first_on : List ℤ → ℕ → Bool
 first_on rows k = is rows k 0 23 && not (any_below (same_booking rows k) k)
 
--- marks, 1 at each such row, 0 at the others and past the last row
-pub record Firsts (rows : List ℤ) (marks : List ℕ) : Type 0 where
+-- marks, 1 at each row that passes, 0 at the others and past the last row
+pub record Marks (rows : List ℤ) (f : ℕ → Bool) (marks : List ℕ) : Type 0 where
   pub short : row_count rows ≤ 800
-  pub at : (k : ℕ) → k < row_count rows → get_or marks k 0 ≡ cond (first_on rows k) 1 0
+  pub at : (k : ℕ) → k < row_count rows → get_or marks k 0 ≡ cond (f k) 1 0
   pub past : (k : ℕ) → row_count rows ≤ k → get_or marks k 0 ≡ 0
+
+-- what is answered of each row is f of it
+pub record Tells (rows : List ℤ) (answers : ℕ → Bool → Type 0) (f : ℕ → Bool) : Type 0 where
+  pub same : (k : ℕ) (r : Bool) → k < row_count rows → answers k r → r ≡ f k
 
 -- row i is of kind x and names a and b
 unfoldable pub names : List ℤ → ℕ → ℕ → ℕ → ℕ → Bool

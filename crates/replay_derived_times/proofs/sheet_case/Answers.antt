@@ -1,45 +1,38 @@
-use Rattle.std.specs.Prelude.{Result, Ok}
-use Rattle.validation.specs.inner.Answer.{Indexing}
-use Rattle.sheet.specs.inner.Accepted.{Accepted}
-use Rattle.sheet.specs.Refusals.{refusal_of}
-use Rattle.owners.specs.inner.Owners.{Linked, Owned}
-use Rattle.sheet.specs.inner.Index.{Kinds}
+use mathlib.Core.List.{List}
+use mathlib.Core.Path.{◌≡◌, sym, ap, ◌∙◌}
 use lib.IntN.{ℤ}
 use Prim.Native.Nat.{ℕ}
-use Rattle.std.specs.Prelude.{None}
-use mathlib.Core.List.{List}
-use mathlib.Core.Path.{sym, ap, ◌∙◌, ◌≡◌}
+use Rattle.std.specs.Prelude.{None, Result, Ok}
 use Rattle.refusals.specs.Refusals.{verdict_of}
 use Rattle.refusals.specs.declared.Refusal.{Refusal}
-use Rattle.validation.proofs.Order.{tables_of}
+use Rattle.sheet.specs.Refusals.{refusal_of}
+use Rattle.model.specs.inner.Indexed.{Indexed}
 use Rattle.model.proofs.Accepting.{accepted}
-use borrow.Author.Rules.{rules}
+use Rattle.validation.specs.inner.Answer.{Indexing}
+use Rattle.validation.proofs.Order.{tables_of}
 use Rattle.replay_derived_times.proofs.sheet_case.Goals as goal
 
--- an accepted sheet's tables, as its index gives them
+-- a sheet that is not refused, with its index
 module _ {rows : List ℤ} {k₀ l₀ o₀ k l o : List ℕ} {v : Result Unit Refusal} (i : Indexing rows k₀ l₀ o₀ v k l o) (e : v ≡ (Ok tt)) where
   fine : refusal_of rows ≡ None
   fine = sym i.verdict ∙ ap verdict_of e
 
-  accepted_of : Accepted rows
-  accepted_of = accepted rows fine
+  indexed : Indexed rows k l o
+  indexed =
+      let t = tables_of rows i fine in
+      record { accepted = fine; by_kind = t.kinds; linked = t.links; by_owner = t.owned }
 
-  kinds_of : Kinds rows k
-  kinds_of = (tables_of rows i fine).kinds
-
-  links_of : Linked rows l
-  links_of = (tables_of rows i fine).links
-
-  owned_of : Owned rows o
-  owned_of = (tables_of rows i fine).owned
+pub new-sheet-requires : goal.new-sheet-requires
+new-sheet-requires c = indexed c.index.ensures c.in-Ok.is
 
 pub held_of-held-requires : goal.held_of-held-requires
-held_of-held-requires c = search (rules, accepted_of, kinds_of, links_of, owned_of)
-
-pub derived_are-requires : goal.derived_are-requires
-derived_are-requires c =
-    (accepted_of c.index.ensures c.in-Ok.is, links_of c.index.ensures c.in-Ok.is, owned_of c.index.ensures c.in-Ok.is, c.held_of-held.ensures)
+held_of-held-requires c =
+    (rw (c.by_kind.ensures, c.new-sheet.ensures) (accepted _ (fine c.index.ensures c.in-Ok.is)), c.owners-owners.ensures ∙ sym c.by_kind.ensures)
 
 pub needs_of-need-requires : goal.needs_of-need-requires
 needs_of-need-requires c =
-    (accepted_of c.index.ensures c.in-Ok.is, links_of c.index.ensures c.in-Ok.is, owned_of c.index.ensures c.in-Ok.is, c.held_of-held.ensures)
+    (rw (c.owners-owners.ensures, c.new-sheet.ensures) (accepted _ (fine c.index.ensures c.in-Ok.is)), rw (c.owners-owners.ensures, ← c.by_kind.ensures) c.held_of-held.ensures)
+
+pub derived_are-requires : goal.derived_are-requires
+derived_are-requires c =
+    (rw (c.owners-owners.ensures, c.new-sheet.ensures) (accepted _ (fine c.index.ensures c.in-Ok.is)), rw (c.owners-owners.ensures, ← c.by_kind.ensures) c.held_of-held.ensures)
