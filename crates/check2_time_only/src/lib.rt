@@ -4,93 +4,86 @@
 ghost use Rattle.std.specs.Prelude.{◌≡◌, true, false, ◌<◌, ◌≤◌, pos, map};
 ghost use Rattle.std.specs.Prelude.{None, Some};
 ghost use Rattle.std.specs.Int.Signed.{lt_z};
-ghost use Rattle.loops.specs.Lists.{given, option, is_empty, each};
+ghost use Rattle.loops.specs.Lists.{option, is_empty, each};
+ghost use Rattle.loops.specs.Range.{collect};
 ghost use Rattle.calendar.specs.Clock.{clock};
 ghost use Rattle.calendar.specs.Layout.{window_of};
 ghost use Rattle.rows.specs.Cells.{row_count, num, is};
 ghost use Rattle.sheet.specs.Places.{place_of, task_place};
 ghost use Rattle.sheet.specs.Refusals.{refusal_of};
-ghost use Rattle.owners.specs.inner.Owners.{Linked, Owned};
-ghost use Rattle.findings.specs.inner.Sink.{sink, emit};
+ghost use Rattle.findings.specs.inner.Told.{so_far, tell};
 ghost use Rattle.resource_timing.specs.Durations.{total_ms};
 ghost use Rattle.model.specs.Sheet.{sheet};
-ghost use Rattle.model.specs.inner.Indexed.{Indexed};
 ghost use Rattle.model.specs.Task.{tasks};
 ghost use Rattle.model.specs.Activity.{requirements, activities_of};
-ghost use Rattle.model.specs.Schedule.{time_only_below, violation};
+ghost use Rattle.model.specs.Schedule.{time_only_below};
 ghost use Rattle.model.specs.inner.Records.{maybe_at, activity_of, span_of};
 ghost use Rattle.spans.specs.inner.Instants.{meant};
 ghost use Rattle.definition.specs.CheckTimeOnly.{seen, check_first, check_span_at, check_unplaced, check_time_only};
-ghost use Rattle.check2_time_only.specs.inner.Tests.{own_windows, too_short, outside_own};
-ghost use Rattle.loops.specs.Range.{collect};
-ghost use Rattle.check2_time_only.specs.inner.Known.{Known};
+ghost use Rattle.check2_time_only.specs.inner.Tests.{own_windows, too_short, outside_own, starts_before, release_of_task};
+ghost use Rattle.check2_time_only.specs.inner.Known.{known_row};
 
 use calendar::{Calendars, Places, TimeWindow};
-use findings::Violation;
-use sheet::Found;
-use spans::Instant;
+use findings::{Findings, Violation, ViolationKind};
+use model::Sheet;
+use owners::{LinkIndex, OwnerIndex};
+use rows::Kind;
+use sheet::{Found, KindIndex, Rows};
 use window_rows::WindowList;
 
 // Whether the activity of row a holds no resource.
-fn is_free(rows: &[i64], owned: &[u16; 8810], a: usize) -> bool
-    requires { Owned rows.now owned.now × (place_of rows.now 2 (num rows.now a 1) ≡ Some a) }
+#[tactic(auto, using(sheet::proofs::Lookups::place_low, crate::proofs::Spans::free_told))]
+fn is_free(rows: &Sheet, a: usize) -> bool
+    requires { place_of rows.now 2 (num rows.now a 1) ≡ Some a }
     ensures { result ≡ is_empty (requirements (sheet rows.now) (num rows.now a 1)) }
 {
-    !owners::has_owned(rows, owned, a, 5)
+    !rows.has_owned(a, Kind::Requirement)
 }
 
 // The row of the activity that the span of row k names, if it is one of the span's task and holds no resource.
-fn known(rows: &[i64], links: &[u16; 1600], owned: &[u16; 8810], k: usize) -> Found
-    requires { Linked rows.now links.now × Owned rows.now owned.now × (k < row_count rows.now) × (is rows.now k 0 24 ≡ true) }
-    ensures { Known rows.now k result }
+#[tactic(auto, using(owners::proofs::Links::spans, model::proofs::Finds::found_self), unfolding(crate::specs::inner::Known::known_row))]
+fn known(rows: &Sheet, k: usize) -> Option<usize>
+    requires { (k < row_count rows.now) × (is rows.now k 0 24 ≡ true) }
+    ensures { result ≡ known_row rows.now k }
 {
-    let Found::At(a) = owners::activity_of(rows, links, k) else {
-        return Found::Nothing;
+    let Found::At(a) = rows.activity_of(k) else {
+        return None;
     };
-    let task = rows::num_at(rows, k, 2);
-    if is_free(rows, owned, a) && rows::is_at(rows, a, 2, task) {
-        return Found::At(a);
-    }
-    Found::Nothing
+    (is_free(rows, a) && rows.has(a, 2, rows.num(k, 2))).then_some(a)
 }
 
 // Whether a known span above row k is of the activity of row a.
-fn is_seen(rows: &[i64], owned: &[u16; 8810], a: usize, k: usize) -> bool
-    requires { Owned rows.now owned.now × (place_of rows.now 2 (num rows.now a 1) ≡ Some a) × (is_empty (requirements (sheet rows.now) (num rows.now a 1)) ≡ true) × (k ≤ row_count rows.now) }
+#[tactic(auto, using(sheet::proofs::Lookups::place_low))]
+fn is_seen(rows: &Sheet, a: usize, k: usize) -> bool
+    requires { (place_of rows.now 2 (num rows.now a 1) ≡ Some a) × (is_empty (requirements (sheet rows.now) (num rows.now a 1)) ≡ true) × (k ≤ row_count rows.now) }
     ensures { result ≡ seen (sheet rows.now) (time_only_below (sheet rows.now) k) (num rows.now a 1) }
 {
-    let task = rows::num_at(rows, a, 2);
-    let mut i = owners::first_owned(rows, owned, a, 24);
-    while i < k {
-        if rows::is_at(rows, i, 2, task) {
-            return true;
-        }
-        i = owners::next_owned(rows, owned, a, 24, i);
-    }
-    false
+    let task = rows.num(a, 2);
+    rows.owned_above(a, Kind::TimeOnlySpan, k)
+        .any(|i| rows.has(i, 2, task))
 }
 
 // What the activity of row a needs.
-fn work_of(rows: &[i64], a: usize) -> u64
+fn work_of(rows: &Sheet, a: usize) -> u64
     requires { (refusal_of rows.now ≡ None) × (is rows.now a 0 2 ≡ true) }
     ensures value { result ≡ total_ms (activity_of rows.now a).duration }
     ensures bound { result ≤ 12000000000000 }
 {
-    let setup = rows::num_at(rows, a, 4);
-    let process = rows::num_at(rows, a, 5);
-    let teardown = rows::num_at(rows, a, 6);
+    let setup = rows.num(a, 4);
+    let process = rows.num(a, 5);
+    let teardown = rows.num(a, 6);
     setup + process + teardown
 }
 
 // Whether the span of row k has less working time than the activity of row a needs.
-fn is_short(rows: &[i64], a: usize, k: usize, windows: &[TimeWindow]) -> bool
+fn is_short(rows: &Sheet, a: usize, k: usize, windows: &[TimeWindow]) -> bool
     requires { (refusal_of rows.now ≡ None) × (is rows.now a 0 2 ≡ true) × (is rows.now k 0 24 ≡ true) × (map window_of windows.now ≡ own_windows rows.now a) }
     ensures { result ≡ too_short clock (span_of rows.now k) (activity_of rows.now a) (own_windows rows.now a) }
 {
     let work = work_of(rows, a);
-    let start = rows::num_at(rows, k, 3);
-    let end = rows::num_at(rows, k, 4);
-    if rows::is_at(rows, a, 7, 1) {
+    let start = rows.num(k, 3);
+    let end = rows.num(k, 4);
+    if rows.has(a, 7, 1) {
         let all = [Places {
             from: 0,
             to: windows.len(),
@@ -105,186 +98,118 @@ fn is_short(rows: &[i64], a: usize, k: usize, windows: &[TimeWindow]) -> bool
 }
 
 // Whether the span of row k lies outside the activity's windows.
-fn is_outside(rows: &[i64], a: usize, k: usize, windows: &[TimeWindow]) -> bool
+fn is_outside(rows: &Sheet, a: usize, k: usize, windows: &[TimeWindow]) -> bool
     requires { map window_of windows.now ≡ own_windows rows.now a }
     ensures { result ≡ outside_own clock (span_of rows.now k) (activity_of rows.now a) (own_windows rows.now a) }
 {
-    let start = rows::num_at(rows, k, 3);
-    let end = rows::num_at(rows, k, 4);
-    if rows::is_at(rows, a, 7, 1) {
+    let start = rows.num(k, 3);
+    let end = rows.num(k, 4);
+    if rows.has(a, 7, 1) {
         return !calendar::is_working_time(windows, start);
     }
     !calendar::interval_fits(windows, start, end)
 }
 
 // Whether the span of row k starts before a release.
-fn is_early(rows: &[i64], k: usize, release: Instant) -> bool
-    ensures { result ≡ option (meant release) false (λ x. lt_z (pos (num rows.now k 3)) x) }
+#[tactic(auto, unfolding(crate::specs::inner::Tests::starts_before))]
+fn is_early(rows: &Sheet, k: usize, release: Option<u64>) -> bool
+    ensures { result ≡ starts_before rows.now k (meant release) }
 {
-    let start = rows::num_at(rows, k, 3);
-    let Instant::At(x) = release else {
-        return false;
-    };
-    start < x
+    let start = rows.num(k, 3);
+    release.is_some_and(|x| start < x)
 }
 
 // The release of the task that the activity of row a is of.
-fn task_release(rows: &[i64], links: &[u16; 1600], a: usize) -> Instant
-    requires { Linked rows.now links.now × (a < row_count rows.now) × (is rows.now a 0 2 ≡ true) }
-    ensures { meant result ≡ option (task_place rows.now (num rows.now a 2)) None (λ t. maybe_at rows.now t 3) }
+#[tactic(auto, unfolding(crate::specs::inner::Tests::release_of_task))]
+fn task_release(rows: &Sheet, a: usize) -> Option<u64>
+    requires { (a < row_count rows.now) × (is rows.now a 0 2 ≡ true) }
+    ensures { meant result ≡ release_of_task rows.now a }
 {
-    let Found::At(t) = owners::task_of(rows, links, a) else {
-        return Instant::Nothing;
-    };
-    spans::instant_at(rows, t, 3)
-}
-
-fn tell(out: &mut [i64], n: usize, yes: bool, kind: u8, entity: u64, severity: u8) -> usize
-    requires { entity < 9223372036854775808 }
-    ensures { sink out.new result ≡ emit (sink out.old n) (given yes (violation 2 kind entity severity)) }
-{
-    let f = Violation {
-        check: 2,
-        kind: kind,
-        entity: entity,
-        severity: severity,
-    };
-    findings::report(out, n, yes, f)
+    spans::instant_at(rows.as_slice(), rows.task_of(a)?, 3)
 }
 
 // The findings of the first known span, of row k, of the activity of row a.
-fn check_first(
-    rows: &[i64],
-    links: &[u16; 1600],
-    owned: &[u16; 8810],
-    a: usize,
-    k: usize,
-    out: &mut [i64],
-    n: usize,
-) -> usize
-    requires { Linked rows.now links.now × Owned rows.now owned.now × (refusal_of rows.now ≡ None) × (is rows.now k 0 24 ≡ true) × (place_of rows.now 2 (num rows.now k 1) ≡ Some a) }
-    ensures { sink out.new result ≡ emit (sink out.old n) (check_first clock (sheet rows.now) (span_of rows.now k) (activity_of rows.now a)) }
+#[tactic(auto, using(sheet::proofs::Lookups::place_within, sheet::proofs::Lookups::place_kind))]
+fn check_first(rows: &Sheet, a: usize, k: usize, found: &mut Findings)
+    requires { (is rows.now k 0 24 ≡ true) × (place_of rows.now 2 (num rows.now k 1) ≡ Some a) }
+    ensures { so_far found.new ≡ tell (so_far found.old) (check_first clock (sheet rows.now) (span_of rows.now k) (activity_of rows.now a)) }
 {
+    let own = is_early(rows, k, spans::instant_at(rows.as_slice(), a, 8));
+    let of_task = is_early(rows, k, task_release(rows, a));
     let mut room = [window_rows::NO_WINDOW; 800];
     let mut windows = WindowList::over(&mut room);
-    window_rows::gather_windows(rows, owned, a, 16, &mut windows);
-    let short = is_short(rows, a, k, windows.as_slice());
-    let outside = is_outside(rows, a, k, windows.as_slice());
-    let own = is_early(rows, k, spans::instant_at(rows, a, 8));
-    let of_task = is_early(rows, k, task_release(rows, links, a));
-    let id = rows::id_at(rows, k, 1);
-    let m1 = tell(out, n, short, 10, id, 90);
-    let m2 = tell(out, m1, outside, 7, id, 75);
-    let m3 = tell(out, m2, own, 11, id, 90);
-    tell(out, m3, of_task, 11, id, 90)
+    window_rows::gather_windows(&rows.by_owner(), a, Kind::ActivityWindow, &mut windows);
+    let windows = windows.as_slice();
+    let short = is_short(rows, a, k, windows);
+    let outside = is_outside(rows, a, k, windows);
+    let id = rows.num(k, 1);
+    let early = Violation::of(2, ViolationKind::EarlyStart, id);
+    found.report(short, Violation::of(2, ViolationKind::DurationTooShort, id));
+    found.report(
+        outside,
+        Violation::of(2, ViolationKind::TimeWindowViolation, id),
+    );
+    found.report(own, early);
+    found.report(of_task, early);
 }
 
 // The findings of the span of row k. A second span of an activity is one finding and no more.
-fn check_span(
-    rows: &[i64],
-    links: &[u16; 1600],
-    owned: &[u16; 8810],
-    k: usize,
-    out: &mut [i64],
-    n: usize,
-) -> usize
-    requires { Linked rows.now links.now × Owned rows.now owned.now × (refusal_of rows.now ≡ None) × (k < row_count rows.now) × (is rows.now k 0 24 ≡ true) }
-    ensures { sink out.new result ≡ emit (sink out.old n) (check_span_at clock (sheet rows.now) k) }
+#[tactic(auto, using(crate::proofs::Told::unknown_told, crate::proofs::Told::again_told, crate::proofs::Told::here_told, crate::proofs::Spans::known_place, crate::proofs::Spans::known_free, crate::proofs::Spans::known_self))]
+fn check_span(rows: &Sheet, k: usize, found: &mut Findings)
+    requires { (k < row_count rows.now) × (is rows.now k 0 24 ≡ true) }
+    ensures { so_far found.new ≡ tell (so_far found.old) (check_span_at clock (sheet rows.now) k) }
 {
-    let id = rows::id_at(rows, k, 1);
-    let activity = known(rows, links, owned, k);
-    let Found::At(a) = activity else {
-        return tell(out, n, true, 9, id, 95);
-    };
-    let again = is_seen(rows, owned, a, k);
-    let m = tell(out, n, again, 9, id, 95);
-    if again {
-        return m;
+    match known(rows, k) {
+        Some(a) if !is_seen(rows, a, k) => check_first(rows, a, k, found),
+        _ => found.tell(Violation::of(2, ViolationKind::UnknownActivity, rows.num(k, 1))),
     }
-    check_first(rows, links, owned, a, k, out, m)
 }
 
-fn check_spans(
-    rows: &[i64],
-    kinds: &[u16; 3680],
-    links: &[u16; 1600],
-    owned: &[u16; 8810],
-    out: &mut [i64],
-    n: usize,
-) -> usize
-    requires { Indexed rows.now kinds.now links.now owned.now }
-    ensures { sink out.new result ≡ emit (sink out.old n) (collect (check_span_at clock (sheet rows.now)) (row_count rows.now)) }
+#[tactic(auto, using(chains::proofs::PlaceLaws::left_all, crate::proofs::Told::spans_told), unfolding(sheet::specs::Places::of_kind))]
+fn check_spans(rows: &Sheet, found: &mut Findings)
+    ensures { so_far found.new ≡ tell (so_far found.old) (collect (check_span_at clock (sheet rows.now)) (row_count rows.now)) }
 {
-    let count = rows::row_count(rows);
-    let mut m = n;
-    let mut k = sheet::first_of(rows, kinds, 24);
-    while k < count {
-        m = check_span(rows, links, owned, k, out, m);
-        k = sheet::next_of(rows, kinds, 24, k);
+    for k in rows.of_kind(Kind::TimeOnlySpan) {
+        check_span(rows, k, found);
     }
-    m
 }
 
 // The activity of row a, if it holds no resource and has no span.
-fn check_unplaced(rows: &[i64], owned: &[u16; 8810], a: usize, out: &mut [i64], n: usize) -> usize
-    requires { Owned rows.now owned.now × (place_of rows.now 2 (num rows.now a 1) ≡ Some a) }
-    ensures { sink out.new result ≡ emit (sink out.old n) (check_unplaced clock (sheet rows.now) (activity_of rows.now a)) }
+#[tactic(auto, unfolding(definition::specs::CheckTimeOnly::check_unplaced, model::specs::Schedule::time_only))]
+fn check_unplaced(rows: &Sheet, a: usize, found: &mut Findings)
+    requires { place_of rows.now 2 (num rows.now a 1) ≡ Some a }
+    ensures { so_far found.new ≡ tell (so_far found.old) (check_unplaced clock (sheet rows.now) (activity_of rows.now a)) }
 {
-    if is_free(rows, owned, a) {
-        let id = rows::id_at(rows, a, 1);
-        let seen = is_seen(rows, owned, a, rows::row_count(rows));
-        return tell(out, n, !seen, 7, id, 75);
-    }
-    n
+    let unplaced = is_free(rows, a) && !is_seen(rows, a, rows.row_count());
+    found.report(
+        unplaced,
+        Violation::of(2, ViolationKind::TimeWindowViolation, rows.num(a, 1)),
+    );
 }
 
 // The activities of the task of row t.
-fn check_task(rows: &[i64], owned: &[u16; 8810], t: usize, out: &mut [i64], n: usize) -> usize
-    requires { Owned rows.now owned.now × (refusal_of rows.now ≡ None) × (t < row_count rows.now) × (is rows.now t 0 1 ≡ true) }
-    ensures { sink out.new result ≡ emit (sink out.old n) (each (check_unplaced clock (sheet rows.now)) (activities_of (sheet rows.now) (num rows.now t 1))) }
+#[tactic(auto, using(chains::proofs::PlaceLaws::left_all, crate::proofs::Told::task_told, crate::proofs::Told::activity_itself), unfolding(owners::specs::inner::Owners::owned_by))]
+fn check_task(rows: &Sheet, t: usize, found: &mut Findings)
+    requires { (t < row_count rows.now) × (is rows.now t 0 1 ≡ true) }
+    ensures { so_far found.new ≡ tell (so_far found.old) (each (check_unplaced clock (sheet rows.now)) (activities_of (sheet rows.now) (num rows.now t 1))) }
 {
-    let count = rows::row_count(rows);
-    let mut m = n;
-    let mut a = owners::first_owned(rows, owned, t, 2);
-    while a < count {
-        m = check_unplaced(rows, owned, a, out, m);
-        a = owners::next_owned(rows, owned, t, 2, a);
+    for a in rows.owned_by(t, Kind::Activity) {
+        check_unplaced(rows, a, found);
     }
-    m
 }
 
-fn check_tasks(
-    rows: &[i64],
-    kinds: &[u16; 3680],
-    links: &[u16; 1600],
-    owned: &[u16; 8810],
-    out: &mut [i64],
-    n: usize,
-) -> usize
-    requires { Indexed rows.now kinds.now links.now owned.now }
-    ensures { sink out.new result ≡ emit (sink out.old n) (each (λ t. each (check_unplaced clock (sheet rows.now)) (activities_of (sheet rows.now) t.id)) (tasks (sheet rows.now))) }
+#[tactic(auto, using(chains::proofs::PlaceLaws::left_all, crate::proofs::Told::tasks_told), unfolding(sheet::specs::Places::of_kind))]
+fn check_tasks(rows: &Sheet, found: &mut Findings)
+    ensures { so_far found.new ≡ tell (so_far found.old) (each (λ t. each (check_unplaced clock (sheet rows.now)) (activities_of (sheet rows.now) t.id)) (tasks (sheet rows.now))) }
 {
-    let count = rows::row_count(rows);
-    let mut m = n;
-    let mut t = sheet::first_of(rows, kinds, 1);
-    while t < count {
-        m = check_task(rows, owned, t, out, m);
-        t = sheet::next_of(rows, kinds, 1, t);
+    for t in rows.of_kind(Kind::Task) {
+        check_task(rows, t, found);
     }
-    m
 }
 
-pub fn check_time_only(
-    rows: &[i64],
-    kinds: &[u16; 3680],
-    links: &[u16; 1600],
-    owned: &[u16; 8810],
-    out: &mut [i64],
-    n: usize,
-) -> usize
-    requires { Indexed rows.now kinds.now links.now owned.now }
-    ensures { sink out.new result ≡ emit (sink out.old n) (check_time_only clock (sheet rows.now)) }
+pub fn check_time_only(rows: &Sheet, found: &mut Findings)
+    ensures { so_far found.new ≡ tell (so_far found.old) (check_time_only clock (sheet rows.now)) }
 {
-    let m = check_spans(rows, kinds, links, owned, out, n);
-    check_tasks(rows, kinds, links, owned, out, m)
+    check_spans(rows, found);
+    check_tasks(rows, found);
 }

@@ -1,6 +1,6 @@
 -- What lateness is, of numbers; and what a task's row gives. Assumes nothing.
 use Prim.Native.Nat.{ℕ, ◌-◌, ◌<◌}
-use mathlib.Core.Path.{◌≡◌, refl, ap, ap₂, sym, ◌∙◌}
+use mathlib.Core.Path.{◌≡◌, refl, ap, sym, ◌∙◌}
 use mathlib.Core.Bool.{Bool, true, false}
 use mathlib.Core.List.{List, [], ◌++◌, foldl}
 use Rattle.std.specs.Prelude.{Option, None, Some}
@@ -13,7 +13,6 @@ use Rattle.loops.specs.Lists.{given, each, option}
 use Rattle.loops.specs.inner.Chain.{Silent}
 use Rattle.calendar.specs.Clock.{clock}
 use Rattle.findings.specs.declared.Violation.{Violation}
-use Rattle.loops.specs.Range.{collect}
 use Rattle.loops.proofs.ListLaws.{each_collect}
 use Rattle.loops.proofs.NumberLaws.{gap}
 use Rattle.findings.specs.inner.Told.{Told, tell, telling}
@@ -28,8 +27,6 @@ use Rattle.model.specs.Schedule.{task_completion_time, deadline_miss}
 use Rattle.model.proofs.RowLaws.{task_row, task_none}
 use Rattle.definition.specs.CheckDeadlines.{check_deadline, check_deadlines}
 use Rattle.spans.specs.inner.Instants.{meant}
-use Rattle.spans.specs.declared.Instant.{Instant}
-use Rattle.spans.specs.declared.Instant.TheVariants.{At, Nothing}
 use Rattle.check8_deadlines.specs.inner.Late.{late_at}
 
 -- lateness above 0 is a completion after the deadline
@@ -42,7 +39,7 @@ tardy d c = go (dec_lt d c) ∙ ap (ltb 0) (sym (gap d c))
 
 module _ (rows : List ℤ) (k : ℕ) where
   -- no deadline
-  pub never_late : {e : Instant} → meant e ≡ maybe_at rows k 2 → e ≡ Nothing → false ≡ late_at rows k
+  pub never_late : {e : Option ℕ} → meant e ≡ maybe_at rows k 2 → e ≡ None → false ≡ late_at rows k
   unfolding late_at
   never_late h q = rw (← h, q) (go (task_completion_time clock (sheet rows) (num rows k 1)))
     where
@@ -51,12 +48,12 @@ module _ (rows : List ℤ) (k : ℕ) where
       go (Some x) = refl
 
   -- nothing is planned of it
-  pub unplanned : {t : ℕ} {e : Instant} → t ≡ num rows k 1 → meant e ≡ task_completion_time clock (sheet rows) t → e ≡ Nothing → false ≡ late_at rows k
+  pub unplanned : {t : ℕ} {e : Option ℕ} → t ≡ num rows k 1 → meant e ≡ task_completion_time clock (sheet rows) t → e ≡ None → false ≡ late_at rows k
   unfolding late_at
   unplanned n h q = rw (← n, ← h, q)
 
-  pub compared : {d c t : ℕ} {e f : Instant} → meant e ≡ maybe_at rows k 2 → e ≡ At d → t ≡ num rows k 1
-      → meant f ≡ task_completion_time clock (sheet rows) t → f ≡ At c → ltb d c ≡ late_at rows k
+  pub compared : {d c t : ℕ} {e f : Option ℕ} → meant e ≡ maybe_at rows k 2 → e ≡ Some d → t ≡ num rows k 1
+      → meant f ≡ task_completion_time clock (sheet rows) t → f ≡ Some c → ltb d c ≡ late_at rows k
   unfolding late_at
   compared {d} {c} h q n g r = rw (← n, ← g, r, ← h, q) (tardy d c)
 

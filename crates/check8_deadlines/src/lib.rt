@@ -14,21 +14,17 @@ ghost use Rattle.check8_deadlines.specs.inner.Late.{late_at};
 use findings::{Findings, Violation, ViolationKind};
 use rows::Kind;
 use sheet::{ByKind, KindIndex, Rows};
-use spans::Instant;
 
 // Whether the task of row k completes after its deadline.
+#[tactic(auto, using(crate::proofs::Lateness::never_late, crate::proofs::Lateness::unplanned, crate::proofs::Lateness::compared))]
 fn is_late(rows: &ByKind, k: usize) -> bool
     ensures { result ≡ late_at rows.now k }
 {
-    let deadline = spans::instant_at(rows.as_slice(), k, 2);
-    let Instant::At(d) = deadline else {
+    let Some(deadline) = spans::instant_at(rows.as_slice(), k, 2) else {
         return false;
     };
-    let completion = spans::task_completion_time(rows.as_slice(), rows.kinds(), rows.num(k, 1));
-    let Instant::At(c) = completion else {
-        return false;
-    };
-    d < c
+    let completion = spans::task_completion_time(rows, rows.num(k, 1));
+    completion.is_some_and(|c| deadline < c)
 }
 
 // The finding of the task of row k.

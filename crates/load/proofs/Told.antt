@@ -31,9 +31,9 @@ module _ {A : Type 0} (rows : List ℤ) (f : ℕ → List A) where
   pub booked_silent : Silent (is_first rows) booked_told
   booked_silent = record { still = λ k h. rw (booked_at_lem rows k, h) (unfold each in refl) }
 
-  pub booked_first : (k : ℕ) {x : ℕ} → is_first rows k ≡ true → x ≡ num rows k 3 → booked_told k ≡ f x
+  pub booked_first : (k : ℕ) → is_first rows k ≡ true → booked_told k ≡ f (num rows k 3)
   unfolding each
-  booked_first k h e = rw (booked_at_lem rows k, h, ← e) (append-nil _)
+  booked_first k h = rw (booked_at_lem rows k, h) (append-nil _)
 
   pub booked_all : collect booked_told (row_count rows) ≡ each f (booked_resources (sheet rows))
   unfolding booked_resources

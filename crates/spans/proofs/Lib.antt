@@ -1,3 +1,2 @@
 pub mod Completion
-pub mod Instants
 pub mod Running

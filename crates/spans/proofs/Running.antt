@@ -1,31 +1,25 @@
 -- When an activity runs, as a search and a loop over places. Assumes nothing.
-use Prim.Native.Nat.{ℕ, zero, suc, ◌<◌}
+use Prim.Native.Nat.{ℕ, zero, suc}
 use mathlib.Core.Path.{◌≡◌, refl, ap, sym, ◌∙◌}
-use mathlib.Core.Bool.{Bool, true, false, cond, ◌&&◌, true≢false}
+use mathlib.Core.Bool.{Bool, true, false, cond, ◌&&◌}
 use mathlib.Core.List.{List, [], ◌∷◌, ◌++◌, map, foldl}
 use Rattle.std.specs.Prelude.{Option, None, Some}
-use native.Mathlib.Omega.{arith}
 use lib.Dec.{eqb}
 use lib.IntN.{ℤ, pos}
 use Rattle.loops.specs.Lists.{given, keep, head}
 use Rattle.loops.specs.Range.{fold, collect}
 use Rattle.loops.specs.Search.{or_else, some_if, first, first_place}
-use Rattle.loops.specs.inner.Chain.{only_at, Quiet, Stands}
+use Rattle.loops.specs.inner.Chain.{only_at}
 use Rattle.loops.proofs.ListLaws.{keep_collect, foldl_collect, head_collect}
 use Rattle.loops.proofs.RangeLaws.{fold_ext}
 use Rattle.calendar.specs.Clock.{clock}
 use Rattle.rows.specs.Cells.{row_count, num, is}
-use Rattle.sheet.specs.Places.{of_kind, named, place_of}
-use Rattle.sheet.specs.declared.Found.{Found}
-use Rattle.sheet.specs.declared.Found.TheVariants.{At, Nothing}
-use Rattle.sheet.specs.inner.Found.{found_of}
+use Rattle.sheet.specs.Places.{named, place_of}
 use Rattle.model.specs.Sheet.{sheet}
 use Rattle.model.specs.Schedule.{Assignment, TimeOnlySpan, assignment_at, assignments_below, assignments, assignments_for_activity_all, span_at, time_only_below, time_only, time_only_for_activity, later_of, latest, earlier_of, earliest}
 use Rattle.model.proofs.RowLaws.{assignment_row, assignment_none, span_row, span_none}
 use Rattle.definition.specs.ActivitySpan.{Span, span_from, activity_span}
-use Rattle.spans.specs.declared.ActivitySpan.{ActivitySpan}
-use Rattle.spans.specs.declared.ActivitySpan.TheVariants.{Between}
-use Rattle.spans.specs.inner.Activities.{span_meant, widened, widen_if}
+use Rattle.spans.specs.inner.Activities.{widened, widen_by}
 
 -- ---- one loop for the earliest start and the latest end
 
@@ -51,16 +45,16 @@ module _ (rows : List ℤ) (id : ℕ) where
   kept false x a = refl
 
   at_row : (x : Option (Span ℤ)) (k : ℕ)
-      → foldl grow x (keep (λ a. eqb a.activity id) (assignment_at (sheet rows) k)) ≡ only_at (of_kind rows 23) (widen_if rows id) x k
-  unfolding keep only_at of_kind widen_if is
+      → foldl grow x (keep (λ a. eqb a.activity id) (assignment_at (sheet rows) k)) ≡ only_at (named rows 23 id) (widen_by rows) x k
+  unfolding keep only_at named is
   at_row x k = go (is rows k 0 23) refl
     where
       go : (b : Bool) → is rows k 0 23 ≡ b
-          → foldl grow x (keep (λ a. eqb a.activity id) (assignment_at (sheet rows) k)) ≡ cond (is rows k 0 23) (widen_if rows id x k) x
+          → foldl grow x (keep (λ a. eqb a.activity id) (assignment_at (sheet rows) k)) ≡ cond (is rows k 0 23 && is rows k 1 id) (widen_by rows x k) x
       go true h = rw (h, assignment_row rows k h) (kept (eqb (num rows k 1) id) x _)
       go false h = rw (h, assignment_none rows k h)
 
-  booked : fold (only_at (of_kind rows 23) (widen_if rows id)) None (row_count rows)
+  booked : fold (only_at (named rows 23 id) (widen_by rows)) None (row_count rows)
       ≡ span_from
       (earliest clock (map (λ a. a.start) (assignments_for_activity_all (sheet rows) id)))
       (latest clock (map (λ a. a.end) (assignments_for_activity_all (sheet rows) id)))
@@ -112,40 +106,13 @@ module _ (rows : List ℤ) (id : ℕ) where
       ∙ first_most (row_count rows)
 
   -- by what the lookup of such a span answered
-  module _ {f : Found} (h : found_of f ≡ place_of rows 24 id) where
-    pub runs_booked : {x : Option (Span ℤ)} → f ≡ Nothing → x ≡ fold (only_at (of_kind rows 23) (widen_if rows id)) None (row_count rows)
+  module _ {f : Option ℕ} (h : f ≡ place_of rows 24 id) where
+    pub runs_booked : {x : Option (Span ℤ)} → f ≡ None → x ≡ fold (only_at (named rows 23 id) (widen_by rows)) None (row_count rows)
         → x ≡ activity_span clock (sheet rows) id
     unfolding activity_span at_most
     runs_booked g q = rw (timed_only, ← h, g) (q ∙ booked)
 
-    pub runs_timed : {k a e : ℕ} → f ≡ At k → a ≡ num rows k 3 → e ≡ num rows k 4
+    pub runs_timed : {k a e : ℕ} → f ≡ Some k → a ≡ num rows k 3 → e ≡ num rows k 4
         → Some (record { start = pos a; end = pos e }) ≡ activity_span clock (sheet rows) id
     unfolding activity_span at_most timed
     runs_timed g p q = rw (timed_only, ← h, g, p, q)
-
--- ---- the bookings of the activity alone
-
-module _ (rows : List ℤ) (id : ℕ) where
-  pub widen_quiet : Quiet (named rows 23 id) (only_at (of_kind rows 23) (widen_if rows id))
-  unfolding only_at of_kind named widen_if
-  widen_quiet = record { still = λ x k h. go x k (is rows k 0 23) (is rows k 1 id) h }
-    where
-      go : (x : Option (Span ℤ)) (k : ℕ) (a b : Bool) → (a && b) ≡ false → cond a (cond b (widened x (pos (num rows k 4)) (pos (num rows k 5))) x) x ≡ x
-      go x k true true h = absurd (true≢false h)
-      go x k true false h = refl
-      go x k false b h = refl
-
-  pub widen_here : (x : Option (Span ℤ)) {n N k : ℕ} {r : Option (Span ℤ)} {a e : ℕ} → k < N → N ≡ n → Stands (named rows 23 id) n k → a ≡ num rows k 4 → e ≡ num rows k 5
-      → r ≡ widened x (pos a) (pos e) → r ≡ only_at (of_kind rows 23) (widen_if rows id) x k
-  unfolding only_at of_kind named widen_if
-  widen_here x {n} {N} {k} {r} {a} {e} l z s p q h = go (is rows k 0 23) (is rows k 1 id) (s.here (omega arith)) (rw (p, q) at h)
-    where
-      go : (b c : Bool) → (b && c) ≡ true → r ≡ widened x (pos (num rows k 4)) (pos (num rows k 5)) → r ≡ cond b (cond c (widened x (pos (num rows k 4)) (pos (num rows k 5))) x) x
-      go true true w v = v
-      go true false w v = absurd (true≢false (sym w))
-      go false c w v = absurd (true≢false (sym w))
-
--- a span that there is, widened
-pub widen_some : (start end : ℕ) {x : ActivitySpan} {a e r s : ℕ} → x ≡ Between a e → pos r ≡ cond (clock.before (pos start) (pos a)) (pos start) (pos a)
-    → pos s ≡ cond (clock.before (pos e) (pos end)) (pos end) (pos e) → Some (record { start = pos r; end = pos s }) ≡ widened (span_meant x) (pos start) (pos end)
-widen_some start end q p o = rw (q, p, o)

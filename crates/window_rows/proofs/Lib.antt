@@ -1,4 +1,3 @@
-pub mod Fitting
 pub mod Laying
 pub mod Lists
 pub mod WindowRows

@@ -1,15 +1,13 @@
-use Rattle.check2_time_only.proofs.Told.{unplaced_at}
-use Prim.Native.Nat.{◌-◌}
 use mathlib.Core.Path.{◌≡◌}
-use Rattle.loops.specs.Range.{collect}
-use Rattle.loops.specs.inner.Chain.{Stands}
-use Rattle.findings.specs.inner.Sink.{sink, emit}
+use mathlib.Core.List.{foldl}
+use Rattle.chains.specs.inner.Left.{Left}
+use Rattle.findings.specs.inner.Told.{so_far, tell, telling}
 use Rattle.rows.specs.Cells.{row_count}
 use Rattle.owners.specs.inner.Owners.{owned_by}
+use Rattle.check2_time_only.proofs.Told.{unplaced_at, task_at_row}
 use Rattle.check2_time_only.proofs.check_task.Given as goal
 
 abbrev pub invariant-loop-a : goal.invariant-loop-a
-invariant-loop-a l = Stands (owned_by l.rows l.t 2) (row_count l.rows) l.a × (sink l.out l.m ≡ emit (sink l.initial.out l.n) (collect (unplaced_at l.rows l.t) l.a))
-
-abbrev pub decreases-loop-a : goal.decreases-loop-a
-decreases-loop-a l = l.count - l.a
+invariant-loop-a l =
+    Left (owned_by l.rows l.t 2) (row_count l.rows) l.a-iterator
+    × (foldl (telling (unplaced_at l.rows)) (so_far l.found) l.a-iterator ≡ tell (so_far l.initial.found) (task_at_row l.rows l.t))

@@ -2,14 +2,13 @@
 use Rattle.std.specs.Prelude.{ℕ, cond, List, ℤ, pos}
 use Rattle.std.specs.Prelude.{Option, None, Some}
 use Rattle.calendar.specs.Clock.{clock}
-use Rattle.rows.specs.Cells.{num, is}
+use Rattle.rows.specs.Cells.{num}
 use Rattle.definition.specs.ActivitySpan as page
-use Rattle.spans.specs.declared.ActivitySpan.{ActivitySpan}
-use Rattle.spans.specs.declared.ActivitySpan.TheVariants.{Between, Nowhere}
+use Rattle.spans.specs.declared.Span.{Span}
 
-abbrev pub span_meant : ActivitySpan → Option (page.Span ℤ)
-span_meant (Between a e) = Some (record { start = pos a; end = pos e })
-span_meant Nowhere = None
+abbrev pub span_meant : Option Span → Option (page.Span ℤ)
+span_meant (Some x) = Some (record { start = pos x.start; end = pos x.end })
+span_meant None = None
 
 -- a span widened to hold the time from a to e
 abbrev pub widened : Option (page.Span ℤ) → ℤ → ℤ → Option (page.Span ℤ)
@@ -21,6 +20,6 @@ widened (Some x) a e =
       end = cond (clock.before x.end e) e x.end;
     })
 
--- the span widened by the booking of row k, where it is of the activity
-unfoldable pub widen_if : List ℤ → ℕ → Option (page.Span ℤ) → ℕ → Option (page.Span ℤ)
-widen_if rows id x k = cond (is rows k 1 id) (widened x (pos (num rows k 4)) (pos (num rows k 5))) x
+-- the span widened by the booking of row k
+abbrev pub widen_by : List ℤ → Option (page.Span ℤ) → ℕ → Option (page.Span ℤ)
+widen_by rows x k = widened x (pos (num rows k 4)) (pos (num rows k 5))

@@ -4,12 +4,10 @@ use Rattle.std.specs.Prelude.{Option, None, Some}
 use Rattle.calendar.specs.Clock.{clock}
 use Rattle.rows.specs.Cells.{num, is}
 use Rattle.model.specs.Schedule.{later_of}
-use Rattle.spans.specs.declared.Instant.{Instant}
-use Rattle.spans.specs.declared.Instant.TheVariants.{At, Nothing}
 
-abbrev pub meant : Instant → Option ℤ
-meant (At x) = Some (pos x)
-meant Nothing = None
+abbrev pub meant : Option ℕ → Option ℤ
+meant (Some x) = Some (pos x)
+meant None = None
 
 -- the end in column c of row k, where the row is of the task, if it is later than e
 unfoldable pub end_if : List ℤ → ℕ → ℕ → Option ℤ → ℕ → Option ℤ
