@@ -64,6 +64,7 @@ fn is_seen(rows: &Sheet, a: usize, k: usize) -> bool
 }
 
 // What the activity of row a needs.
+#[tactic(auto, using(crate::proofs::Told::part_fits, crate::proofs::Told::work_fits, crate::proofs::Told::work_most))]
 fn work_of(rows: &Sheet, a: usize) -> u64
     requires { (refusal_of rows.now ≡ None) × (is rows.now a 0 2 ≡ true) }
     ensures value { result ≡ total_ms (activity_of rows.now a).duration }
@@ -76,6 +77,7 @@ fn work_of(rows: &Sheet, a: usize) -> u64
 }
 
 // Whether the span of row k has less working time than the activity of row a needs.
+#[tactic(auto, using(crate::proofs::Told::end_fits, crate::proofs::Told::short_resumed, crate::proofs::Told::short_plain))]
 fn is_short(rows: &Sheet, a: usize, k: usize, windows: &[TimeWindow]) -> bool
     requires { (refusal_of rows.now ≡ None) × (is rows.now a 0 2 ≡ true) × (is rows.now k 0 24 ≡ true) × (map window_of windows.now ≡ own_windows rows.now a) }
     ensures { result ≡ too_short clock (span_of rows.now k) (activity_of rows.now a) (own_windows rows.now a) }
@@ -98,6 +100,7 @@ fn is_short(rows: &Sheet, a: usize, k: usize, windows: &[TimeWindow]) -> bool
 }
 
 // Whether the span of row k lies outside the activity's windows.
+#[tactic(auto, using(crate::proofs::Told::outside_resumed, crate::proofs::Told::outside_plain))]
 fn is_outside(rows: &Sheet, a: usize, k: usize, windows: &[TimeWindow]) -> bool
     requires { map window_of windows.now ≡ own_windows rows.now a }
     ensures { result ≡ outside_own clock (span_of rows.now k) (activity_of rows.now a) (own_windows rows.now a) }

@@ -26,7 +26,6 @@ use Rattle.model.specs.Task.{task_at, tasks, tardiness_ms}
 use Rattle.model.specs.Schedule.{task_completion_time, deadline_miss}
 use Rattle.model.proofs.RowLaws.{task_row, task_none}
 use Rattle.definition.specs.CheckDeadlines.{check_deadline, check_deadlines}
-use Rattle.spans.specs.inner.Instants.{meant}
 use Rattle.check8_deadlines.specs.inner.Late.{late_at}
 
 -- lateness above 0 is a completion after the deadline
@@ -38,25 +37,6 @@ tardy d c = go (dec_lt d c) ∙ ap (ltb 0) (sym (gap d c))
     go (no h) = le-ltb d c (omega arith) ∙ sym (le-ltb 0 (c - d) (omega arith))
 
 module _ (rows : List ℤ) (k : ℕ) where
-  -- no deadline
-  pub never_late : {e : Option ℕ} → meant e ≡ maybe_at rows k 2 → e ≡ None → false ≡ late_at rows k
-  unfolding late_at
-  never_late h q = rw (← h, q) (go (task_completion_time clock (sheet rows) (num rows k 1)))
-    where
-      go : (x : Option ℤ) → false ≡ option x false (λ completion. ltb 0 (tardiness_ms clock completion None))
-      go None = refl
-      go (Some x) = refl
-
-  -- nothing is planned of it
-  pub unplanned : {t : ℕ} {e : Option ℕ} → t ≡ num rows k 1 → meant e ≡ task_completion_time clock (sheet rows) t → e ≡ None → false ≡ late_at rows k
-  unfolding late_at
-  unplanned n h q = rw (← n, ← h, q)
-
-  pub compared : {d c t : ℕ} {e f : Option ℕ} → meant e ≡ maybe_at rows k 2 → e ≡ Some d → t ≡ num rows k 1
-      → meant f ≡ task_completion_time clock (sheet rows) t → f ≡ Some c → ltb d c ≡ late_at rows k
-  unfolding late_at
-  compared {d} {c} h q n g r = rw (← n, ← g, r, ← h, q) (tardy d c)
-
   reported : (x : Option ℤ) (d : Option ℤ) (f : Violation)
       → option x [] (λ completion. given (ltb 0 (tardiness_ms clock completion d)) f) ++ []
       ≡ given (option x false (λ completion. ltb 0 (tardiness_ms clock completion d))) f

@@ -16,7 +16,7 @@ use rows::Kind;
 use sheet::{ByKind, KindIndex, Rows};
 
 // Whether the task of row k completes after its deadline.
-#[tactic(auto, using(crate::proofs::Lateness::never_late, crate::proofs::Lateness::unplanned, crate::proofs::Lateness::compared))]
+#[tactic(auto, using(crate::proofs::Lateness::tardy), unfolding(crate::specs::inner::Late::late_at))]
 fn is_late(rows: &ByKind, k: usize) -> bool
     ensures { result ≡ late_at rows.now k }
 {

@@ -1,3 +1,4 @@
 pub mod ConstraintRows
+pub mod Members
 pub mod Pairs
 pub mod Together

@@ -1,3 +1,4 @@
 pub mod Bookings
+pub mod Listed
 pub mod Outside
-pub mod Seen
+pub mod Starts

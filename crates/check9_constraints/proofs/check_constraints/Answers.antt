@@ -1,18 +1,13 @@
-use Rattle.check9_constraints.proofs.ConstraintRows.{placed_zero, place_most, place_again}
-use Rattle.definition.specs.CheckConstraints.{check_constraints}
-use Rattle.findings.proofs.SinkLaws.{kept, loop_start, loop_turn, loop_end}
+use native.Mathlib.Omega.{arith}
 use borrow.Author.Rules.{rules}
+use Rattle.check9_constraints.proofs.ConstraintRows.{placed_zero, place_most, place_again, told_zero, told_again, told_all}
 use Rattle.check9_constraints.proofs.check_constraints.Goals as goal
 
 pub loop-k-init : goal.loop-k-init
-loop-k-init c = (search rules, search (rules, loop_start), search (rules, placed_zero), search rules)
+loop-k-init c = (search (rules, told_zero), search (rules, placed_zero), search rules)
 
 pub loop-k-preserved : goal.loop-k-preserved
-loop-k-preserved c = (search rules, search (rules, loop_turn), search (rules, place_again), search (rules, place_most))
-
-pub shape_of-out : goal.shape_of-out
-shape_of-out c = search (rules, kept)
+loop-k-preserved c = (search (rules, told_again), search (rules, place_again), search (rules, place_most))
 
 pub returns : goal.returns
-unfolding check_constraints
-returns c = search (rules, loop_end)
+returns c = told_all _ _ _ _ (omega arith) (omega arith) (rw c.as_slice.ensures.rows at c.row_count-k-end.ensures) c.loop-k.invariant.0

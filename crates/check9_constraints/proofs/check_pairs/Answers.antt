@@ -1,17 +1,9 @@
-use Rattle.check9_constraints.proofs.Pairs.{pairs_silent}
-use Rattle.findings.proofs.Reports.{emit_first, emit_next, emit_end}
-use Rattle.findings.proofs.SinkLaws.{kept}
-use borrow.Author.Rules.{rules}
+use mathlib.Core.Path.{◌∙◌}
+use Rattle.check9_constraints.proofs.Pairs.{pairs_turn, pairs_end}
 use Rattle.check9_constraints.proofs.check_pairs.Goals as goal
 
-pub loop-i-init : goal.loop-i-init
-loop-i-init c = (search rules, emit_first _ _ c.first_of-i.ensures (pairs_silent _ _ _))
-
-pub loop-i-preserved : goal.loop-i-preserved
-loop-i-preserved c = (search rules, search (rules, emit_next, pairs_silent))
-
-pub shape_of-out : goal.shape_of-out
-shape_of-out c = search (rules, kept)
+pub loop-a-preserved : goal.loop-a-preserved
+loop-a-preserved c = pairs_turn _ _ _ c.in-Some.ensures.cases.0 c.check_later.ensures ∙ c.loop-a.invariant
 
 pub returns : goal.returns
-returns c = search (rules, emit_end)
+returns c = pairs_end _ _ _ _ c.in_default.ensures.cases c.loop-a.invariant

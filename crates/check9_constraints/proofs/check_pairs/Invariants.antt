@@ -1,15 +1,11 @@
-use Rattle.check9_constraints.specs.inner.Bookings.{pairs_at}
-use Rattle.findings.specs.inner.Sink.{sink, emit}
-use Rattle.sheet.specs.Places.{of_kind}
-use Rattle.rows.specs.Cells.{row_count}
-use Rattle.loops.specs.inner.Chain.{Stands}
-use Rattle.loops.specs.Range.{collect}
-use Prim.Native.Nat.{◌-◌}
 use mathlib.Core.Path.{◌≡◌}
+use lib.ListN.{length}
+use Rattle.findings.specs.inner.Told.{so_far, tell}
+use Rattle.check9_constraints.specs.inner.Bookings.{pairs_of}
 use Rattle.check9_constraints.proofs.check_pairs.Given as goal
 
-abbrev pub invariant-loop-i : goal.invariant-loop-i
-invariant-loop-i l = Stands (of_kind l.rows 22) (row_count l.rows) l.i × (sink l.out l.m ≡ emit (sink l.initial.out l.n) (collect (pairs_at l.rows l.place l.resource) l.i))
+abbrev pub invariant-loop-a : goal.invariant-loop-a
+invariant-loop-a l = tell (so_far l.found) (pairs_of l.rows l.f l.rest) ≡ tell (so_far l.initial.found) (pairs_of l.rows l.f l.bookings)
 
-abbrev pub decreases-loop-i : goal.decreases-loop-i
-decreases-loop-i l = l.count - l.i
+abbrev pub decreases-loop-a : goal.decreases-loop-a
+decreases-loop-a l = length l.rest
