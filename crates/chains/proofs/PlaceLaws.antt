@@ -11,7 +11,7 @@ use Rattle.std.specs.Prelude.{Option, None, Some}
 use Rattle.loops.specs.Lists.{given, keep, each, any_of, head, is_some}
 use Rattle.loops.specs.Range.{fold, collect}
 use Rattle.loops.specs.Search.{any_below, first, first_place, or_else, some_if}
-use Rattle.loops.specs.inner.Chain.{First, Stands, Silent, Quiet, Blind, only_at}
+use Rattle.loops.specs.inner.Chain.{First, Stands, Silent, Quiet, Blind, only_at, only}
 use Rattle.loops.proofs.RangeLaws.{collect_ext, fold_ext}
 use Rattle.loops.proofs.ListLaws.{keep_collect, each_collect, foldl_collect, any_collect, head_collect, head_given}
 use Rattle.loops.proofs.SearchLaws.{place_first}
@@ -234,6 +234,15 @@ next_none p n e h = sym (ap head h) ∙ ap head e ∙ head_places p n
 
 pub next_some : (p : ℕ → Bool) (n k : ℕ) {l l' : List ℕ} → l ≡ places p n → l ≡ k ∷ l' → Some k ≡ first_place p n
 next_some p n k e h = sym (ap head h) ∙ ap head e ∙ head_places p n
+
+-- f of each, and nothing of any other place
+pub each_only : {A : Type 0} (p : ℕ → Bool) (f : ℕ → List A) (n : ℕ) → each f (places p n) ≡ collect (only p f) n
+unfolding places each only
+each_only p f n = each_collect f (λ k. given (p k) k) n ∙ collect_ext _ _ n (λ k l. go k (p k))
+  where
+    go : (k : ℕ) (b : Bool) → each f (given b k) ≡ cond b (f k) []
+    go k true = append-nil (f k)
+    go k false = refl
 
 -- the places that pass one test more
 pub keep_places : (p q : ℕ → Bool) (n : ℕ) → keep q (places p n) ≡ places (λ k. p k && q k) n

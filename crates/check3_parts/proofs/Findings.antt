@@ -1,147 +1,146 @@
--- The sums over the indices are what `check_parts` says of the map of the parts. Assumes nothing.
-use Prim.Native.Nat.{ℕ, zero, suc, ◌+◌, ◌<◌, ◌≤◌}
-use mathlib.Core.Path.{◌≡◌, refl, ap, ap₂, sym, ◌∙◌}
-use mathlib.Core.Bool.{Bool, true, false, cond, not, ◌||◌}
-use mathlib.Core.List.{List, [], ◌∷◌, ◌++◌, foldl}
+-- The findings by a split: what the code tests of the bookings and the sums is what `check_parts` says of the map of the parts. Assumes nothing.
+use Prim.Native.Nat.{ℕ, ◌<◌, ◌≤◌}
+use mathlib.Core.Path.{◌≡◌, refl, ap, sym, ◌∙◌}
+use mathlib.Core.Bool.{Bool, true, false, cond, ◌&&◌, ◌||◌, or-true, or-false}
+use mathlib.Core.List.{List, [], ◌∷◌, ◌++◌, append-nil, foldl}
 use native.Mathlib.Omega.{arith}
 use lib.Dec.{eqb, ltb}
 use lib.IntN.{ℤ, pos, negsuc}
 use lib.ListN.{length}
 use lib.Signed.{lt_z}
 use borrow.Author.Tests.{lt-ltb, le-ltb, eq-eqb, ne_eqb}
-use Rattle.loops.specs.Lists.{given, any_of, each, is_empty}
+use Rattle.loops.specs.Lists.{given, any_of, is_empty}
 use Rattle.loops.specs.Numbers.{to_nat}
-use Rattle.loops.specs.Ordered.{Entry, entry, upsert, values}
-use Rattle.loops.specs.Range.{collect}
-use Rattle.loops.specs.Sums.{total}
+use Rattle.loops.specs.Ordered.{Entry, entry, upsert}
+use Rattle.loops.specs.inner.Chain.{only}
+use Rattle.loops.proofs.IntegerLaws.{signed_total}
+use Rattle.loops.proofs.ListLaws.{any_collect}
+use Rattle.loops.proofs.PlaceLaws.{any_same}
+use Rattle.chains.specs.Places.{places}
+use Rattle.chains.proofs.PlaceLaws.{any_places}
 use Rattle.rows.specs.Cells.{row_count, cell, num}
-use Rattle.findings.specs.declared.Violation.{Violation}
-use Rattle.findings.specs.inner.Sink.{Sink, emit}
-use Rattle.findings.proofs.SinkLaws.{emit_then, emit_none}
-use Rattle.model.specs.Schedule.{Part, unknown_activity, duration_too_short}
+use Rattle.owners.specs.inner.Owners.{owned_by}
+use Rattle.model.specs.Schedule.{Part}
 use Rattle.definition.specs.CheckParts.{parts_of, check_parts_of}
-use Rattle.check3_parts.specs.inner.Booked.{parts_below, whole_in, split_of, outside, measure_of, measured, split_findings}
+use Rattle.check3_parts.specs.inner.Booked.{has_part, part_of, part_at, parts_below, parts_in, without_part, whole_at, whole_in, outside, outside_at, some_outside, total_findings, short_parts, split_findings}
+use Rattle.check3_parts.specs.inner.Measure.{measured}
+use Rattle.check3_parts.proofs.Sums.{count_is, work_all}
 
-one_more_lem : (n : ℕ) → 1 + n ≡ suc n
-one_more_lem n = omega arith
+-- ---- a booking of the whole activity
 
-zero_more : (n : ℕ) → 0 + n ≡ n
-zero_more n = omega arith
+pub whole_told : (rows : List ℤ) (o : ℕ) → any_of (without_part rows) (places (owned_by rows o 23) (row_count rows)) ≡ whole_in rows o
+unfolding whole_in whole_at without_part
+whole_told rows o = any_places (owned_by rows o 23) (without_part rows) (row_count rows)
+
+-- ---- no booking of a part, no part
+
+put_some : (k : ℤ) (v : ℕ) (m : List (Entry ℤ ℕ)) → 0 < length (upsert lt_z k v (λ w. v) m)
+unfolding upsert
+put_some k v [] = omega arith
+put_some k v (e ∷ m) = go (lt_z k e.key) (lt_z e.key k)
+  where
+    go : (a b : Bool) → 0 < length (cond a (entry k v ∷ e ∷ m) (cond b (e ∷ upsert lt_z k v (λ w. v) m) (entry e.key v ∷ m)))
+    go true b = omega arith
+    go false true = omega arith
+    go false false = omega arith
+
+fold_some : (l : List Part) (m : List (Entry ℤ ℕ)) → 0 < length m → 0 < length (foldl (λ m p. upsert lt_z p.index p.work (λ w. p.work) m) m l)
+fold_some [] m h = h
+fold_some (p ∷ l) m h = fold_some l (upsert lt_z p.index p.work (λ w. p.work) m) (put_some p.index p.work m)
 
 nonzero : (n : ℕ) → 0 < n → eqb n 0 ≡ false
 nonzero n h = ne_eqb n 0 (λ z. omega arith)
 
-module _ (rows : List ℤ) (x : ℕ) where
-  count_is : (m : List (Entry ℤ ℕ)) → measured (measure_of rows x 0) m ≡ length m
-  unfolding total measure_of
-  count_is [] = refl
-  count_is (e ∷ m) = ap (λ n. 1 + n) (count_is m) ∙ one_more_lem (length m)
+pub empty_is : (l : List Part) → is_empty l ≡ eqb (length (parts_of l)) 0
+unfolding parts_of
+empty_is [] = refl
+empty_is (p ∷ l) = sym (nonzero _ (fold_some l (upsert lt_z p.index p.work (λ w. p.work) []) (put_some p.index p.work [])))
 
-  work_from : (m : List (Entry ℤ ℕ)) (a : ℕ) → foldl ◌+◌ a (values m) ≡ a + measured (measure_of rows x 1) m
-  unfolding total measure_of
-  work_from [] a = omega arith
-  work_from (e ∷ m) a = let h = work_from m (a + e.value) in omega (arith, h)
+-- ---- an index that the split does not have
 
-  outside_is : (m : List (Entry ℤ ℕ)) → ltb 0 (measured (measure_of rows x 3) m) ≡ any_of (λ e. lt_z e.key (pos 0) || not (lt_z e.key (cell rows x 2))) m
-  unfolding total measure_of any_of outside
-  outside_is [] = refl
-  outside_is (e ∷ m) = go (lt_z e.key (pos 0) || not (lt_z e.key (cell rows x 2))) (outside_is m)
+module _ (q : ℤ → Bool) where
+  after : (a b : Bool) → (a || b) ≡ (b || a)
+  after true b = sym (or-true b)
+  after false b = sym (or-false b)
+
+  grouped : (a b c : Bool) → (a || (b || c)) ≡ ((a || b) || c)
+  grouped true b c = refl
+  grouped false b c = refl
+
+  again : (a b : Bool) → (a || b) ≡ ((a || b) || a)
+  again true b = refl
+  again false b = sym (or-false b)
+
+  any_put : (k : ℤ) (v : ℕ) (m : List (Entry ℤ ℕ)) → any_of (λ e. q e.key) (upsert lt_z k v (λ w. v) m) ≡ (any_of (λ e. q e.key) m || q k)
+  unfolding any_of upsert
+  any_put k v [] = or-false (q k)
+  any_put k v (e ∷ m) = go (lt_z k e.key) (lt_z e.key k) refl refl (any_put k v m)
     where
-      go : (b : Bool) → ltb 0 (measured (measure_of rows x 3) m) ≡ any_of (λ e. lt_z e.key (pos 0) || not (lt_z e.key (cell rows x 2))) m
-          → ltb 0 (cond b 1 0 + measured (measure_of rows x 3) m) ≡ (b || any_of (λ e. lt_z e.key (pos 0) || not (lt_z e.key (cell rows x 2))) m)
-      go true h = lt-ltb 0 (1 + measured (measure_of rows x 3) m) (omega arith)
-      go false h = ap (ltb 0) (zero_more (measured (measure_of rows x 3) m)) ∙ h
+      go : (a b : Bool) → lt_z k e.key ≡ a → lt_z e.key k ≡ b → any_of (λ e. q e.key) (upsert lt_z k v (λ w. v) m) ≡ (any_of (λ e. q e.key) m || q k)
+          → any_of (λ e. q e.key) (cond a (entry k v ∷ e ∷ m) (cond b (e ∷ upsert lt_z k v (λ w. v) m) (entry e.key v ∷ m))) ≡ ((q e.key || any_of (λ e. q e.key) m) || q k)
+      go true b f g h = after (q k) (q e.key || any_of (λ e. q e.key) m)
+      go false true f g h = ap (λ b. q e.key || b) h ∙ grouped (q e.key) (any_of (λ e. q e.key) m) (q k)
+      go false false f g h = again (q e.key) (any_of (λ e. q e.key) m) ∙ ap (λ i. (q e.key || any_of (λ e. q e.key) m) || q i) (sym (signed_total k e.key f g))
 
-  beyond : (n : ℕ) (z : ℤ) → (n ≡ 0 → ⊥) → ltb (to_nat z) n ≡ lt_z z (pos n)
-  beyond n (pos a) h = refl
-  beyond n (negsuc a) h = lt-ltb 0 n (omega arith)
+  any_from : (l : List Part) (m : List (Entry ℤ ℕ))
+      → any_of (λ e. q e.key) (foldl (λ m p. upsert lt_z p.index p.work (λ w. p.work) m) m l) ≡ (any_of (λ e. q e.key) m || any_of (λ p. q p.index) l)
+  unfolding any_of
+  any_from [] m = sym (or-false _)
+  any_from (p ∷ l) m =
+      any_from l (upsert lt_z p.index p.work (λ w. p.work) m)
+      ∙ ap (λ b. b || any_of (λ p. q p.index) l) (any_put p.index p.work m)
+      ∙ sym (grouped (any_of (λ e. q e.key) m) (q p.index) (any_of (λ p. q p.index) l))
 
-  module _ (f : Violation) where
-    more_first : (n : ℕ) → collect (λ _. f ∷ []) n ++ f ∷ [] ≡ f ∷ collect (λ _. f ∷ []) n
-    unfolding collect
-    more_first zero = refl
-    more_first (suc n) = ap (λ l. l ++ f ∷ []) (more_first n)
-
-    short_are : (m : List (Entry ℤ ℕ)) → collect (λ _. f ∷ []) (measured (measure_of rows x 2) m) ≡ each (λ w. given (ltb w (num rows x 3)) f) (values m)
-    unfolding total measure_of each
-    short_are [] = unfold collect in refl
-    short_are (e ∷ m) = go (ltb e.value (num rows x 3)) (short_are m)
-      where
-        go : (b : Bool) → collect (λ _. f ∷ []) (measured (measure_of rows x 2) m) ≡ each (λ w. given (ltb w (num rows x 3)) f) (values m)
-            → collect (λ _. f ∷ []) (cond b 1 0 + measured (measure_of rows x 2) m) ≡ given b f ++ each (λ w. given (ltb w (num rows x 3)) f) (values m)
-        go true h =
-            ap (collect (λ _. f ∷ [])) (one_more_lem (measured (measure_of rows x 2) m))
-            ∙ (unfold collect in (more_first (measured (measure_of rows x 2) m) ∙ ap (λ l. f ∷ l) h))
-        go false h = ap (collect (λ _. f ∷ [])) (zero_more (measured (measure_of rows x 2) m)) ∙ h
-
-  -- no part, no index
-  put_some : (k : ℤ) (v : ℕ) (m : List (Entry ℤ ℕ)) → 0 < measured (measure_of rows x 0) (upsert lt_z k v (λ w. v) m)
-  unfolding upsert total measure_of
-  put_some k v [] = omega arith
-  put_some k v (e ∷ m) = go (lt_z k e.key) (lt_z e.key k)
-    where
-      go : (a b : Bool) → 0 < measured (measure_of rows x 0) (cond a (entry k v ∷ e ∷ m) (cond b (e ∷ upsert lt_z k v (λ w. v) m) (entry e.key v ∷ m)))
-      go true b = omega arith
-      go false true = omega arith
-      go false false = omega arith
-
-  fold_some : (l : List Part) (m : List (Entry ℤ ℕ)) → 0 < measured (measure_of rows x 0) m
-      → 0 < measured (measure_of rows x 0) (foldl (λ m p. upsert lt_z p.index p.work (λ w. p.work) m) m l)
-  fold_some [] m h = h
-  fold_some (p ∷ l) m h = fold_some l (upsert lt_z p.index p.work (λ w. p.work) m) (put_some p.index p.work m)
-
-  pub empty_is : (l : List Part) → is_empty l ≡ eqb (measured (measure_of rows x 0) (parts_of l)) 0
+  any_index : (l : List Part) → any_of (λ e. q e.key) (parts_of l) ≡ any_of (λ p. q p.index) l
   unfolding parts_of
-  empty_is [] = unfold total in refl
-  empty_is (p ∷ l) =
-      sym (nonzero (measured (measure_of rows x 0) (foldl (λ m p. upsert lt_z p.index p.work (λ w. p.work) m) [] (p ∷ l)))
-      (fold_some l (upsert lt_z p.index p.work (λ w. p.work) []) (put_some p.index p.work [])))
+  any_index l = any_from l [] ∙ (unfold any_of in refl)
 
-  module _ (o : ℕ) where
-    abbrev parts : List (Entry ℤ ℕ)
-    parts = parts_of (parts_below rows o (row_count rows))
+module _ (rows : List ℤ) (x o : ℕ) where
+  outside_here : (k : ℕ) → any_of (λ p. outside (cell rows x 2) p.index) (part_at rows o k) ≡ (owned_by rows o 23 k && outside_at rows x k)
+  unfolding part_at outside_at only any_of
+  outside_here k = go (owned_by rows o 23 k) (has_part rows k)
+    where
+      go : (a b : Bool) → any_of (λ p. outside (cell rows x 2) p.index) (cond a (given b (part_of rows k)) []) ≡ (a && (b && outside (cell rows x 2) (cell rows k 7)))
+      go true true = or-false (outside (cell rows x 2) (cell rows k 7))
+      go true false = refl
+      go false b = refl
 
-    -- the last findings: of more than one index, each work below the minimum
-    abbrev short_parts : List Violation
-    short_parts = cond (ltb 1 (length parts)) (each (λ w. given (ltb w (num rows x 3)) (duration_too_short 3 (num rows o 1))) (values parts)) []
+  pub outside_told : any_of (outside_at rows x) (places (owned_by rows o 23) (row_count rows)) ≡ some_outside rows x (parts_in rows o)
+  unfolding parts_below
+  outside_told =
+      any_places (owned_by rows o 23) (outside_at rows x) (row_count rows)
+      ∙ any_same _ _ (row_count rows) (λ k l. sym (outside_here k))
+      ∙ sym (any_collect (λ p. outside (cell rows x 2) p.index) (part_at rows o) (row_count rows))
+      ∙ sym (any_index (outside (cell rows x 2)) (parts_below rows o (row_count rows)))
 
-    pub many : {indices times id : ℕ} → 1 < indices → indices ≡ measured (measure_of rows x 0) parts → times ≡ measured (measure_of rows x 2) parts → id ≡ num rows o 1
-        → collect (λ _. duration_too_short 3 id ∷ []) times ≡ short_parts
-    many l a b d =
-        ap₂ (λ t i. collect (λ _. duration_too_short 3 i ∷ []) t) b d
-        ∙ short_are (duration_too_short 3 (num rows o 1)) parts
-        ∙ ap (λ c. cond c (each (λ w. given (ltb w (num rows x 3)) (duration_too_short 3 (num rows o 1))) (values parts)) [])
-        (sym (lt-ltb 1 (length parts) (omega (arith, l, a, count_is parts))))
+-- more parts than there are to be
+more_than : (z : ℤ) (n : ℕ) → 0 < n → ltb (to_nat z) n ≡ lt_z z (pos n)
+more_than (pos a) n h = refl
+more_than (negsuc a) n h = lt-ltb 0 n h
 
-    pub few : {indices : ℕ} → indices ≤ 1 → indices ≡ measured (measure_of rows x 0) parts → [] ≡ short_parts
-    few l a =
-        ap (λ c. cond c (each (λ w. given (ltb w (num rows x 3)) (duration_too_short 3 (num rows o 1))) (values parts)) [])
-        (sym (le-ltb 1 (length parts) (omega (arith, l, a, count_is parts))))
+pub not_more : (rows : List ℤ) (x : ℕ) {n v : ℕ} → 0 < n → v ≡ num rows x 2 → n ≤ v → lt_z (cell rows x 2) (pos n) ≡ false
+not_more rows x {n} h q l = sym (more_than (cell rows x 2) n h) ∙ le-ltb (num rows x 2) n (rw (← q) l)
 
-    pub split_none : {indices : ℕ} (s : Sink) → indices ≡ 0 → indices ≡ measured (measure_of rows x 0) parts → s ≡ emit s (split_findings rows x o)
-    unfolding split_findings
-    split_none s z a = sym (ap (λ b. emit s (cond b [] (check_parts_of (num rows o 1) (num rows o 5) (split_of rows x) (whole_in rows o) parts))) (eq-eqb (measured (measure_of rows x 0) parts) 0 (sym a ∙ z)) ∙ emit_none s)
+-- ---- all findings
 
-    pub split_told : {indices out work process id : ℕ} {w b : Bool} (s s₁ s₂ s₃ s₄ : Sink) {s₅ : Sink} (rest : List Violation)
-        → (indices ≡ 0 → ⊥) → indices ≡ measured (measure_of rows x 0) parts → out ≡ measured (measure_of rows x 3) parts → work ≡ measured (measure_of rows x 1) parts
-        → id ≡ num rows o 1 → process ≡ num rows o 5 → w ≡ whole_in rows o → b ≡ (ltb (num rows x 2) indices || ltb 0 out)
-        → s₁ ≡ emit s (given w (unknown_activity 3 id)) → s₂ ≡ emit s₁ (given b (unknown_activity 3 id))
-        → s₃ ≡ emit s₂ (given (ltb work process) (duration_too_short 3 id)) → s₄ ≡ emit s₃ (given (ltb process work) (unknown_activity 3 id))
-        → s₅ ≡ emit s₄ rest → rest ≡ short_parts → s₅ ≡ emit s (split_findings rows x o)
-    unfolding split_findings check_parts_of
-    split_told {indices} {out} {work} {process} {id} {w} {b} s s₁ s₂ s₃ s₄ rest nz a d e i p t u q₁ q₂ q₃ q₄ q₅ r =
-        emit_then _ _ s (emit_then _ _ s (emit_then _ _ s (emit_then _ _ s q₁ q₂) q₃) q₄) q₅
-        ∙ ap (emit s)
-        (ap₂ ◌++◌
-        (ap₂ ◌++◌
-        (ap₂ ◌++◌
-        (ap₂ ◌++◌ (ap₂ (λ y j. given y (unknown_activity 3 j)) t i)
-        (ap₂ (λ y j. given y (unknown_activity 3 j)) (u ∙ ap₂ ◌||◌ (beyond indices (cell rows x 2) nz ∙ ap (λ n. lt_z (cell rows x 2) (pos n)) (a ∙ count_is parts)) (ap (ltb 0) d ∙ outside_is parts)) i))
-        (ap₂ (λ y j. given y (duration_too_short 3 j)) (ap₂ ltb worked p) i))
-        (ap₂ (λ y j. given y (unknown_activity 3 j)) (ap₂ ltb p worked) i))
-        r
-        ∙ ap (λ c. cond c [] (check_parts_of (num rows o 1) (num rows o 5) (split_of rows x) (whole_in rows o) parts))
-        (sym (ne_eqb (measured (measure_of rows x 0) parts) 0 (λ z. nz (a ∙ z)))))
-      where
-        worked : work ≡ foldl ◌+◌ 0 (values parts)
-        worked = e ∙ sym (work_from parts 0 ∙ zero_more (measured (measure_of rows x 1) parts))
+module _ (rows : List ℤ) (x o : ℕ) where
+  -- the number of parts, and their works
+  abbrev count : ℕ
+  count = measured (λ _. 1) (parts_in rows o)
+
+  abbrev work : ℕ
+  work = measured (λ w. w) (parts_in rows o)
+
+  split_is : (count ≡ 0 → ⊥) → split_findings rows x o ≡ total_findings rows x o ++ cond (ltb 1 count) (short_parts rows x o) []
+  unfolding split_findings check_parts_of total_findings
+  split_is z = rw (← count_is (parts_in rows o), ne_eqb count 0 z, ← work_all (parts_in rows o))
+
+  pub split_none : count ≡ 0 → split_findings rows x o ≡ []
+  unfolding split_findings
+  split_none z = rw (← count_is (parts_in rows o), eq-eqb count 0 z)
+
+  pub split_one : (count ≡ 0 → ⊥) → count ≤ 1 → split_findings rows x o ≡ total_findings rows x o
+  split_one z l = split_is z ∙ rw (le-ltb 1 count l) (append-nil (total_findings rows x o))
+
+  pub split_more : 1 < count → split_findings rows x o ≡ total_findings rows x o ++ short_parts rows x o
+  split_more l = split_is (λ z. omega arith) ∙ rw (lt-ltb 1 count l)

@@ -1,34 +1,31 @@
 -- Check 3 by rows is check 3. Assumes nothing.
-use Prim.Native.Nat.{ℕ, suc, ◌<◌, ◌≤◌}
+use Prim.Native.Nat.{ℕ, ◌<◌}
 use mathlib.Core.Path.{◌≡◌, refl, ap, ap₂, sym, ◌∙◌}
 use mathlib.Core.Bool.{Bool, beq, true, false, cond, not, ◌&&◌, true≢false, or-false}
-use mathlib.Core.List.{List, [], ◌∷◌, ◌++◌, append-nil}
-use Rattle.std.specs.Prelude.{None, Some}
+use mathlib.Core.List.{List, [], ◌∷◌, ◌++◌, append-nil, foldl}
+use Rattle.std.specs.Prelude.{Option, None, Some}
 use lib.Dec.{eqb}
 use lib.IntN.{ℤ}
 use Rattle.loops.specs.Numbers.{to_nat}
 use Rattle.loops.specs.Lists.{given, any_of, head, option, is_some, is_empty, each}
 use Rattle.loops.specs.Range.{collect}
 use Rattle.loops.specs.Search.{some_if, first_place}
-use Rattle.loops.specs.inner.Chain.{First, Stands, only}
+use Rattle.loops.specs.inner.Chain.{only}
 use Rattle.loops.proofs.RangeLaws.{collect_ext}
 use Rattle.loops.proofs.ListLaws.{each_collect, each_keep, any_keep, any_collect, head_collect, head_given}
 use Rattle.loops.proofs.PlaceLaws.{any_same}
-use Rattle.findings.specs.inner.Sink.{Sink, emit}
-use Rattle.findings.proofs.SinkLaws.{emit_then, emit_none}
-use Rattle.findings.proofs.Reports.{emit_end, emit_turn}
+use Rattle.chains.specs.Places.{places}
+use Rattle.findings.specs.inner.Told.{Told, tell, telling}
+use Rattle.findings.proofs.Reporting.{tell_only}
 use Rattle.rows.specs.Cells.{row_count, cell, num, is}
 use Rattle.rows.specs.Ranges.{is_none}
 use Rattle.sheet.specs.Places.{of_kind}
+use Rattle.sheet.specs.Refusals.{refusal_of}
 use Rattle.sheet.specs.inner.Accepted.{Accepted}
-use Rattle.sheet.specs.inner.Found.{found_of}
-use Rattle.sheet.specs.declared.Found.{Found}
-use Rattle.sheet.specs.declared.Found.TheVariants.{At, Nothing}
 use Rattle.sheet.proofs.Lookups.{is_num}
 use Rattle.owners.specs.inner.Owners.{owner_kind, owned_by}
 use Rattle.model.specs.Sheet.{number, nothing, sheet, row_at}
 use Rattle.model.specs.inner.Records.{num_at, int_at, activity_of}
-use Rattle.model.specs.inner.Indexed.{Indexed}
 use Rattle.model.specs.Activity.{Split, split}
 use Rattle.model.specs.Schedule.{Part, Assignment, as_part, assignment_at, assignments_below, assignments, assignments_for_activity_all}
 use Rattle.model.proofs.RowLaws.{assignment_row, assignment_none}
@@ -38,7 +35,7 @@ use Rattle.model.proofs.Tasks.{tasks_by_rows}
 use Rattle.model.proofs.Finds.{first_same, first_placed}
 use Rattle.pieces.proofs.Companions.{both_parts}
 use Rattle.definition.specs.CheckParts.{parts_of, two_works, check_parts_of, parts_booked, whole_booked, check_split, check_activity_parts, check_parts}
-use Rattle.check3_parts.specs.inner.Booked.{has_part, part_of, part_at, parts_below, whole_at, whole_in, split_of, split_findings, activity_findings, task_findings}
+use Rattle.check3_parts.specs.inner.Booked.{has_part, part_of, part_at, parts_below, parts_in, whole_at, whole_in, split_of, split_findings, activity_findings, task_findings}
 use Rattle.check3_parts.proofs.Findings.{empty_is}
 
 -- the part of a booking: both columns or neither
@@ -145,41 +142,28 @@ module _ (rows : List ℤ) (acc : Accepted rows) where
     unfolding check_split split_findings
     activity_with x =
         ap₂ (λ p w. two_works (num rows o 1) [] p ++ cond (is_empty p) [] (check_parts_of (num rows o 1) (num rows o 5) (split_of rows x) w (parts_of p))) parts_are whole_is
-        ∙ ap (λ b. two_works (num rows o 1) [] (parts_below rows o (row_count rows)) ++ cond b [] (check_parts_of (num rows o 1) (num rows o 5) (split_of rows x) (whole_in rows o) (parts_of (parts_below rows o (row_count rows)))))
-        (empty_is rows x (parts_below rows o (row_count rows)))
+        ∙ ap (λ b. two_works (num rows o 1) [] (parts_below rows o (row_count rows)) ++ cond b [] (check_parts_of (num rows o 1) (num rows o 5) (split_of rows x) (whole_in rows o) (parts_in rows o)))
+        (empty_is (parts_below rows o (row_count rows)))
 
-    pub activity_told_lem : (s : Sink) {s₁ s₂ : Sink} {f : Found} {x : ℕ} → f ≡ At x → found_of f ≡ first_place (owned_by rows o 4) (row_count rows)
-        → s₁ ≡ emit s (two_works (num rows o 1) [] (parts_below rows o (row_count rows))) → s₂ ≡ emit s₁ (split_findings rows x o) → s₂ ≡ emit s (activity_findings rows o)
-    unfolding check_activity_parts
-    activity_told_lem s {x = x} g f q r =
-        emit_then _ _ s q r
-        ∙ ap (emit s) (sym (ap (λ y. option y [] (check_split (sheet rows) (activity_of rows o)))
-        (split_is ∙ ap (λ y. option y None (λ k. Some (split_of rows k))) (sym (rw g at f)))
-        ∙ activity_with x))
-
-    pub activity_quiet : (s : Sink) {f : Found} → f ≡ Nothing → found_of f ≡ first_place (owned_by rows o 4) (row_count rows) → s ≡ emit s (activity_findings rows o)
-    unfolding check_activity_parts
-    activity_quiet s g f =
-        sym (ap (emit s) (ap (λ y. option y [] (check_split (sheet rows) (activity_of rows o)))
-        (split_is ∙ ap (λ y. option y None (λ k. Some (split_of rows k))) (sym (rw g at f)))) ∙ emit_none s)
+    activity_is : check_activity_parts (sheet rows) (activity_of rows o) ≡ activity_findings rows o
+    unfolding check_activity_parts activity_findings
+    activity_is = ap (λ y. option y [] (check_split (sheet rows) (activity_of rows o))) split_is ∙ go (first_place (owned_by rows o 4) (row_count rows))
+      where
+        go : (f : Option ℕ)
+            → option (option f None (λ k. Some (split_of rows k))) [] (check_split (sheet rows) (activity_of rows o))
+            ≡ option f [] (λ x. two_works (num rows o 1) [] (parts_below rows o (row_count rows)) ++ split_findings rows x o)
+        go None = refl
+        go (Some x) = activity_with x
 
   whole : collect (only (of_kind rows 1) (task_findings rows)) (row_count rows) ≡ check_parts (sheet rows)
   unfolding check_parts task_findings
-  whole = tasks_by_rows rows acc (check_activity_parts (sheet rows)) (activity_findings rows) (λ o l h. unfold activity_findings in refl)
+  whole = tasks_by_rows rows acc (check_activity_parts (sheet rows)) (activity_findings rows) activity_is
 
--- ---- the loops over the tasks, and over the activities of a task
+-- ---- what is told
 
-module _ (rows : List ℤ) (s₀ : Sink) {N i : ℕ} {s : Sink} where
-  pub activities_turn : (t : ℕ) {j : ℕ} {s' : Sink} → First (owned_by rows t 2) (suc i) (row_count rows) j → Stands (owned_by rows t 2) (row_count rows) i → N ≡ row_count rows → i < N
-      → s ≡ emit s₀ (collect (only (owned_by rows t 2) (activity_findings rows)) i) → s' ≡ emit s (activity_findings rows i)
-      → s' ≡ emit s₀ (collect (only (owned_by rows t 2) (activity_findings rows)) j)
-  activities_turn t f a z l r q = emit_turn _ _ s₀ f l z a r q
+pub activities_told : (rows : List ℤ) (o : ℕ) (t : Told) → foldl (telling (activity_findings rows)) t (places (owned_by rows o 2) (row_count rows)) ≡ tell t (task_findings rows o)
+unfolding task_findings
+activities_told rows o t = tell_only (owned_by rows o 2) (activity_findings rows) (row_count rows) t
 
-  pub tasks_turn : {j : ℕ} {s' : Sink} → First (of_kind rows 1) (suc i) (row_count rows) j → Stands (of_kind rows 1) (row_count rows) i → N ≡ row_count rows → i < N
-      → s ≡ emit s₀ (collect (only (of_kind rows 1) (task_findings rows)) i) → s' ≡ emit s (task_findings rows i)
-      → s' ≡ emit s₀ (collect (only (of_kind rows 1) (task_findings rows)) j)
-  tasks_turn f a z l r q = emit_turn _ _ s₀ f l z a r q
-
-  pub tasks_end : {kinds links owned : List ℕ} → Indexed rows kinds links owned → Stands (of_kind rows 1) (row_count rows) i → N ≤ i → N ≡ row_count rows
-      → s ≡ emit s₀ (collect (only (of_kind rows 1) (task_findings rows)) i) → s ≡ emit s₀ (check_parts (sheet rows))
-  tasks_end h a l z r = emit_end _ (row_count rows) N i s₀ l z a r ∙ ap (emit s₀) (whole rows (accepted rows h.accepted))
+pub tasks_told : (rows : List ℤ) (t : Told) → refusal_of rows ≡ None → foldl (telling (task_findings rows)) t (places (of_kind rows 1) (row_count rows)) ≡ tell t (check_parts (sheet rows))
+tasks_told rows t acc = tell_only (of_kind rows 1) (task_findings rows) (row_count rows) t ∙ ap (tell t) (whole rows (accepted rows acc))

@@ -1,301 +1,228 @@
 // Check 3, `check_parts`: the parts that a split activity is booked in.
 #![tactic(auto)]
 
-ghost use Rattle.std.specs.Prelude.{◌≡◌, true, false, cond, not, ◌&&◌, ◌||◌, [], ◌∷◌, ◌+◌, ◌*◌, ◌<◌, ◌≤◌, eqb, ltb};
-ghost use Rattle.loops.specs.Lists.{given, option};
-ghost use Rattle.loops.specs.Range.{collect};
-ghost use Rattle.rows.specs.Cells.{row_count, cell, num, is};
-ghost use Rattle.sheet.specs.inner.Accepted.{Accepted};
-ghost use Rattle.owners.specs.inner.Owners.{owned_by, Owned};
-ghost use Rattle.findings.specs.inner.Sink.{sink, emit};
+ghost use Rattle.std.specs.Prelude.{◌≡◌, true, false, not, ◌&&◌, ◌||◌, [], ◌+◌, ◌<◌, ◌≤◌, eqb, ltb, length, ℕ, pos};
+ghost use mathlib.Core.List.{foldl};
+ghost use Rattle.std.specs.Int.Signed.{lt_z};
+ghost use Rattle.loops.specs.Lists.{given, each};
+ghost use Rattle.loops.specs.Ordered.{values};
+ghost use Rattle.rows.specs.Cells.{row_count, cell, num};
+ghost use Rattle.owners.specs.inner.Owners.{owned_by};
+ghost use Rattle.findings.specs.inner.Told.{so_far, tell};
 ghost use Rattle.model.specs.Sheet.{sheet};
-ghost use Rattle.model.specs.inner.Indexed.{Indexed};
-ghost use Rattle.model.specs.Schedule.{violation, duration_too_short};
+ghost use Rattle.model.specs.Schedule.{duration_too_short};
 ghost use Rattle.pieces.specs.inner.Bookings.{key_at};
-ghost use Rattle.definition.specs.CheckParts.{parts_of, work_of, two_works, check_parts};
-ghost use Rattle.check3_parts.specs.inner.Booked.{has_part, part_at, parts_below, whole_in, decoded, outside, measure_of, measured, split_findings, activity_findings, task_findings};
+ghost use Rattle.definition.specs.CheckParts.{work_of, two_works, check_parts};
+ghost use Rattle.check3_parts.specs.inner.Booked.{has_part, part_at, parts_below, parts_in, whole_in, outside_at, some_outside, total_findings, short_parts, split_findings, activity_findings, task_findings};
+ghost use Rattle.check3_parts.specs.inner.Measure.{IsMeasure, measured, short_of};
 
-use findings::Violation;
-use sheet::Found;
+use findings::{Findings, Violation, ViolationKind};
+use model::Sheet;
+use owners::OwnerIndex;
+use rows::Kind;
+use sheet::{KindIndex, Rows};
 
 // ---- a booking
 
-fn has_part(rows: &[i64], k: usize) -> bool
+#[tactic(auto, unfolding(crate::specs::inner::Booked::has_part))]
+fn has_part(rows: &Sheet, k: usize) -> bool
     ensures { result ≡ has_part rows.now k }
 {
-    !rows::is_none(rows::cell_at(rows, k, 7))
+    !rows.is_none(k, 7)
 }
 
-// The work of booking k's part, one more, after booking i; e before it.
-fn work_after(rows: &[i64], i: usize, k: usize, e: u64) -> u64
-    ensures { result ≡ cond (has_part rows.now i && eqb (key_at rows.now i) (key_at rows.now k)) (num rows.now i 8 + 1) e }
+// Whether booking i is of booking k's part.
+fn is_same_part(rows: &Sheet, i: usize, k: usize) -> bool
+    ensures { result ≡ (has_part rows.now i && eqb (key_at rows.now i) (key_at rows.now k)) }
 {
-    if has_part(rows, i) {
-        if pieces::key_at(rows, i) == pieces::key_at(rows, k) {
-            return rows::id_at(rows, i, 8) + 1;
+    has_part(rows, i) && pieces::key_at(rows.as_slice(), i) == pieces::key_at(rows.as_slice(), k)
+}
+
+// The work that bookings above row k gave booking k's part last.
+#[tactic(auto, using(crate::proofs::Works::work_given), unfolding(crate::specs::inner::Booked::given_by))]
+fn work_before(rows: &Sheet, o: usize, k: usize) -> Option<u64>
+    requires { (o ≤ row_count rows.now) × (k < row_count rows.now) × (owned_by rows.now o 23 k ≡ true) × (has_part rows.now k ≡ true) }
+    ensures { result ≡ work_of (parts_below rows.now o k) (cell rows.now k 7) }
+{
+    let mut work = None;
+    for i in rows.owned_above(o, Kind::Booking, k) {
+        if is_same_part(rows, i, k) {
+            work = Some(rows.num(i, 8));
         }
     }
-    e
-}
-
-// The work that bookings above row k gave booking k's part last: 0 for none, else one more.
-fn work_before(rows: &[i64], owned: &[u16; 8810], o: usize, k: usize) -> u64
-    requires { Accepted rows.now × Owned rows.now owned.now × (o ≤ row_count rows.now) × (k < row_count rows.now) × (owned_by rows.now o 23 k ≡ true) × (has_part rows.now k ≡ true) }
-    ensures { decoded result ≡ work_of (parts_below rows.now o k) (cell rows.now k 7) }
-{
-    let mut e: u64 = 0;
-    let mut i = owners::first_owned(rows, owned, o, 23);
-    while i < k {
-        e = work_after(rows, i, k, e);
-        i = owners::next_owned(rows, owned, o, 23, i);
-    }
-    e
+    work
 }
 
 // ---- two works for one index
 
-fn report(activity: u64, kind: u8, severity: u8, yes: bool, out: &mut [i64], n: usize) -> usize
-    requires { activity < 9223372036854775808 }
-    ensures { sink out.new result ≡ emit (sink out.old n) (given yes (violation 3 kind activity severity)) }
-{
-    let f = Violation {
-        check: 3,
-        kind: kind,
-        entity: activity,
-        severity: severity,
-    };
-    findings::report(out, n, yes, f)
-}
-
-fn is_other(before: u64, work: u64) -> bool
-    requires { work < 9223372036854775808 }
-    ensures { result ≡ option (decoded before) false (λ w. not (eqb w work)) }
-{
-    if before == 0 {
-        return false;
-    }
-    before != work + 1
-}
-
-fn check_work(
-    rows: &[i64],
-    owned: &[u16; 8810],
-    o: usize,
-    k: usize,
-    out: &mut [i64],
-    n: usize,
-) -> usize
-    requires { Accepted rows.now × Owned rows.now owned.now × (o ≤ row_count rows.now) × (k < row_count rows.now) × (owned_by rows.now o 23 k ≡ true) }
-    ensures { sink out.new result ≡ emit (sink out.old n) (two_works (num rows.now o 1) (parts_below rows.now o k) (part_at rows.now o k)) }
+#[tactic(auto, using(crate::proofs::Works::work_told, crate::proofs::Works::work_quiet, findings::proofs::SinkLaws::emit_none))]
+fn check_work(rows: &Sheet, o: usize, k: usize, found: &mut Findings)
+    requires { (o ≤ row_count rows.now) × (k < row_count rows.now) × (owned_by rows.now o 23 k ≡ true) }
+    ensures { so_far found.new ≡ tell (so_far found.old) (two_works (num rows.now o 1) (parts_below rows.now o k) (part_at rows.now o k)) }
 {
     if has_part(rows, k) {
-        let before = work_before(rows, owned, o, k);
-        let other = is_other(before, rows::id_at(rows, k, 8));
-        return report(rows::id_at(rows, o, 1), 9, 95, other, out, n);
+        let before = work_before(rows, o, k);
+        let work = rows.num(k, 8);
+        found.report(
+            before.is_some_and(|w| w != work),
+            Violation::of(3, ViolationKind::UnknownActivity, rows.num(o, 1)),
+        );
     }
-    n
 }
 
-fn check_works(rows: &[i64], owned: &[u16; 8810], o: usize, out: &mut [i64], n: usize) -> usize
-    requires { Accepted rows.now × Owned rows.now owned.now × (o ≤ row_count rows.now) }
-    ensures { sink out.new result ≡ emit (sink out.old n) (two_works (num rows.now o 1) [] (parts_below rows.now o (row_count rows.now))) }
+#[tactic(auto, using(chains::proofs::PlaceLaws::left_all, crate::proofs::Works::works_told))]
+fn check_works(rows: &Sheet, o: usize, found: &mut Findings)
+    requires { o ≤ row_count rows.now }
+    ensures { so_far found.new ≡ tell (so_far found.old) (two_works (num rows.now o 1) [] (parts_below rows.now o (row_count rows.now))) }
 {
-    let end = rows::row_count(rows);
-    let mut m = n;
-    let mut k = owners::first_owned(rows, owned, o, 23);
-    while k < end {
-        m = check_work(rows, owned, o, k, out, m);
-        k = owners::next_owned(rows, owned, o, 23, k);
+    for k in rows.owned_by(o, Kind::Booking) {
+        check_work(rows, o, k, found);
     }
-    m
 }
 
-// ---- sums over the indices
+// ---- sums over the parts
 
-fn is_outside(rows: &[i64], x: usize, k: usize) -> bool
-    ensures { result ≡ outside (cell rows.now x 2) (cell rows.now k 7) }
+// What the measure gives of the work of each part, added up: a booking's work stands for that which its part had before.
+fn sum_of<F: Fn(u64) -> u64>(rows: &Sheet, o: usize, measure: F) -> u64
+    requires within { o ≤ row_count rows.now }
+    requires callable { F.IsAlwaysCallable measure }
+    requires steady { (m : ℕ → ℕ) × IsMeasure (F.post measure) m }
+    ensures { (m : ℕ → ℕ) → IsMeasure (F.post measure) m → result ≡ measured m (parts_in rows.now o) }
 {
-    let i = rows::cell_at(rows, k, 7);
-    if i < 0 {
-        return true;
-    }
-    !(i < rows::cell_at(rows, x, 2))
-}
-
-fn measure(rows: &[i64], x: usize, mode: u64, k: usize, w: u64) -> u64
-    ensures { result ≡ measure_of rows.now x mode (cell rows.now k 7) w }
-{
-    if mode == 0 {
-        return 1;
-    }
-    if mode == 1 {
-        return w;
-    }
-    if mode == 2 {
-        return (w < rows::num_at(rows, x, 3)) as u64;
-    }
-    is_outside(rows, x, k) as u64
-}
-
-// The sum with booking k's part: its work stands for that which its index had before.
-fn add_part(
-    rows: &[i64],
-    owned: &[u16; 8810],
-    o: usize,
-    x: usize,
-    mode: u64,
-    k: usize,
-    sum: u64,
-) -> u64
-    requires { Accepted rows.now × Owned rows.now owned.now × (o ≤ row_count rows.now) × (k < row_count rows.now) × (owned_by rows.now o 23 k ≡ true) × (sum ≡ measured (measure_of rows.now x mode) (parts_of (parts_below rows.now o k))) × (sum ≤ k * 4000000000000) }
-    ensures value { result ≡ measured (measure_of rows.now x mode) (parts_of (parts_below rows.now o (k + 1))) }
-    ensures bound { result ≤ k * 4000000000000 + 4000000000000 }
-{
-    if has_part(rows, k) {
-        let before = work_before(rows, owned, o, k);
-        let more = sum + measure(rows, x, mode, k, rows::num_at(rows, k, 8));
-        if before == 0 {
-            return more;
+    let mut sum = 0;
+    for k in rows.owned_by(o, Kind::Booking) {
+        if has_part(rows, k) {
+            sum += measure(rows.num(k, 8));
+            if let Some(work) = work_before(rows, o, k) {
+                sum -= measure(work);
+            }
         }
-        return more - measure(rows, x, mode, k, before - 1);
     }
     sum
 }
 
-fn sum_of(rows: &[i64], owned: &[u16; 8810], o: usize, x: usize, mode: u64) -> u64
-    requires { Accepted rows.now × Owned rows.now owned.now × (o ≤ row_count rows.now) }
-    ensures { result ≡ measured (measure_of rows.now x mode) (parts_of (parts_below rows.now o (row_count rows.now))) }
+fn part_count(rows: &Sheet, o: usize) -> u64
+    requires { o ≤ row_count rows.now }
+    ensures { result ≡ measured (λ _. 1) (parts_in rows.now o) }
 {
-    let end = rows::row_count(rows);
-    let mut sum: u64 = 0;
-    let mut k = owners::first_owned(rows, owned, o, 23);
-    while k < end {
-        sum = add_part(rows, owned, o, x, mode, k, sum);
-        k = owners::next_owned(rows, owned, o, 23, k);
-    }
-    sum
+    sum_of(rows, o, |_| 1)
+}
+
+// The works of the parts, added up.
+fn total_work(rows: &Sheet, o: usize) -> u64
+    requires { o ≤ row_count rows.now }
+    ensures { result ≡ measured (λ work. work) (parts_in rows.now o) }
+{
+    sum_of(rows, o, |work| work)
+}
+
+// How many parts have less work than there is to be.
+fn short_count(rows: &Sheet, o: usize, least: u64) -> u64
+    requires { o ≤ row_count rows.now }
+    ensures { result ≡ measured (short_of least) (parts_in rows.now o) }
+{
+    sum_of(rows, o, |work| u64::from(work < least))
 }
 
 // ---- the findings of an activity
 
 // Whether a booking is of the whole activity.
-fn is_whole(rows: &[i64], owned: &[u16; 8810], o: usize) -> bool
-    requires { Owned rows.now owned.now × (o ≤ row_count rows.now) }
+fn is_whole(rows: &Sheet, o: usize) -> bool
+    requires { o ≤ row_count rows.now }
     ensures { result ≡ whole_in rows.now o }
 {
-    let end = rows::row_count(rows);
-    let mut k = owners::first_owned(rows, owned, o, 23);
-    while k < end {
-        if !has_part(rows, k) {
-            return true;
-        }
-        k = owners::next_owned(rows, owned, o, 23, k);
-    }
-    false
+    rows.owned_by(o, Kind::Booking).any(|k| !has_part(rows, k))
 }
 
-// Whether there are more indices than the split has parts, or some outside.
-fn is_beyond(rows: &[i64], x: usize, indices: u64, outside: u64) -> bool
-    ensures { result ≡ (ltb (num rows.now x 2) indices || ltb 0 outside) }
+// Whether booking k is of a part that the split at row x does not have.
+#[tactic(auto, unfolding(crate::specs::inner::Booked::outside_at))]
+fn is_outside(rows: &Sheet, x: usize, k: usize) -> bool
+    ensures { result ≡ outside_at rows.now x k }
 {
-    if rows::num_at(rows, x, 2) < indices {
-        return true;
-    }
-    0 < outside
+    has_part(rows, k) && !(0..rows.cell(x, 2)).contains(&rows.cell(k, 7))
 }
 
-// A part that is too short, as often as counted.
-fn report_short(activity: u64, times: u64, out: &mut [i64], n: usize) -> usize
-    requires { activity < 9223372036854775808 }
-    ensures { sink out.new result ≡ emit (sink out.old n) (collect (λ _. duration_too_short 3 activity ∷ []) times) }
+// Whether there are more parts than the split at row x has, or one that it does not have.
+fn is_beyond(rows: &Sheet, o: usize, x: usize, count: u64) -> bool
+    requires { (o ≤ row_count rows.now) × (0 < count) }
+    ensures { result ≡ (lt_z (cell rows.now x 2) (pos count) || some_outside rows.now x (parts_in rows.now o)) }
 {
-    let mut m = n;
-    let mut i: u64 = 0;
-    while i < times {
-        m = report(activity, 10, 90, true, out, m);
-        i += 1;
-    }
-    m
+    rows.num(x, 2) < count
+        || rows
+            .owned_by(o, Kind::Booking)
+            .any(|k| is_outside(rows, x, k))
 }
 
-fn check_split(
-    rows: &[i64],
-    owned: &[u16; 8810],
-    o: usize,
-    x: usize,
-    out: &mut [i64],
-    n: usize,
-) -> usize
-    requires { Accepted rows.now × Owned rows.now owned.now × (o ≤ row_count rows.now) }
-    ensures { sink out.new result ≡ emit (sink out.old n) (split_findings rows.now x o) }
+// What is wrong with the parts together.
+#[tactic(auto, using(findings::proofs::SinkLaws::emit_then), unfolding(crate::specs::inner::Booked::total_findings))]
+fn check_totals(rows: &Sheet, o: usize, x: usize, count: u64, found: &mut Findings)
+    requires { (o ≤ row_count rows.now) × (0 < count) × (count ≡ measured (λ _. 1) (parts_in rows.now o)) }
+    ensures { so_far found.new ≡ tell (so_far found.old) (total_findings rows.now x o) }
 {
-    let indices = sum_of(rows, owned, o, x, 0);
-    if indices == 0 {
-        return n;
-    }
-    let activity = rows::id_at(rows, o, 1);
-    let process = rows::num_at(rows, o, 5);
-    let outside = sum_of(rows, owned, o, x, 3);
-    let work = sum_of(rows, owned, o, x, 1);
-    let a = report(activity, 9, 95, is_whole(rows, owned, o), out, n);
-    let b = report(
-        activity,
-        9,
-        95,
-        is_beyond(rows, x, indices, outside),
-        out,
-        a,
-    );
-    let c = report(activity, 10, 90, work < process, out, b);
-    let d = report(activity, 9, 95, process < work, out, c);
-    if 1 < indices {
-        return report_short(activity, sum_of(rows, owned, o, x, 2), out, d);
-    }
-    d
+    let process = rows.num(o, 5);
+    let work = total_work(rows, o);
+    let activity = rows.num(o, 1);
+    let unknown = Violation::of(3, ViolationKind::UnknownActivity, activity);
+    let short = Violation::of(3, ViolationKind::DurationTooShort, activity);
+    found.report(is_whole(rows, o), unknown);
+    found.report(is_beyond(rows, o, x, count), unknown);
+    found.report(work < process, short);
+    found.report(process < work, unknown);
 }
 
-fn check_activity(rows: &[i64], owned: &[u16; 8810], o: usize, out: &mut [i64], n: usize) -> usize
-    requires { Accepted rows.now × Owned rows.now owned.now × (o < row_count rows.now) × (is rows.now o 0 2 ≡ true) }
-    ensures { sink out.new result ≡ emit (sink out.old n) (activity_findings rows.now o) }
+// Each part that is too short.
+#[tactic(auto, using(findings::proofs::SinkLaws::emit_none, findings::proofs::SinkLaws::emit_then, crate::proofs::Sums::repeated_none, crate::proofs::Sums::repeated_more))]
+fn check_minimum(rows: &Sheet, o: usize, x: usize, found: &mut Findings)
+    requires { o ≤ row_count rows.now }
+    ensures { so_far found.new ≡ tell (so_far found.old) (short_parts rows.now x o) }
 {
-    let Found::At(x) = owners::find_owned(rows, owned, o, 4) else {
-        return n;
-    };
-    let m = check_works(rows, owned, o, out, n);
-    check_split(rows, owned, o, x, out, m)
+    let short = Violation::of(3, ViolationKind::DurationTooShort, rows.num(o, 1));
+    for _ in 0..short_count(rows, o, rows.num(x, 3)) {
+        found.tell(short);
+    }
 }
 
-fn check_task(rows: &[i64], owned: &[u16; 8810], t: usize, out: &mut [i64], n: usize) -> usize
-    requires { Accepted rows.now × Owned rows.now owned.now × (t ≤ row_count rows.now) }
-    ensures { sink out.new result ≡ emit (sink out.old n) (task_findings rows.now t) }
+#[tactic(auto, using(findings::proofs::SinkLaws::emit_none, findings::proofs::SinkLaws::emit_then, crate::proofs::Findings::split_none, crate::proofs::Findings::split_one, crate::proofs::Findings::split_more))]
+fn check_split(rows: &Sheet, o: usize, x: usize, found: &mut Findings)
+    requires { o ≤ row_count rows.now }
+    ensures { so_far found.new ≡ tell (so_far found.old) (split_findings rows.now x o) }
 {
-    let end = rows::row_count(rows);
-    let mut m = n;
-    let mut o = owners::first_owned(rows, owned, t, 2);
-    while o < end {
-        m = check_activity(rows, owned, o, out, m);
-        o = owners::next_owned(rows, owned, t, 2, o);
+    let count = part_count(rows, o);
+    if count == 0 {
+        return;
     }
-    m
+    check_totals(rows, o, x, count, found);
+    if 1 < count {
+        check_minimum(rows, o, x, found);
+    }
 }
 
-pub fn check_parts(
-    rows: &[i64],
-    kinds: &[u16; 3680],
-    links: &[u16; 1600],
-    owned: &[u16; 8810],
-    out: &mut [i64],
-    n: usize,
-) -> usize
-    requires { Indexed rows.now kinds.now links.now owned.now }
-    ensures { sink out.new result ≡ emit (sink out.old n) (check_parts (sheet rows.now)) }
+#[tactic(auto, using(findings::proofs::SinkLaws::emit_none, findings::proofs::SinkLaws::emit_then), unfolding(crate::specs::inner::Booked::activity_findings))]
+fn check_activity(rows: &Sheet, o: usize, found: &mut Findings)
+    requires { o ≤ row_count rows.now }
+    ensures { so_far found.new ≡ tell (so_far found.old) (activity_findings rows.now o) }
 {
-    let end = rows::row_count(rows);
-    let mut m = n;
-    let mut t = sheet::first_of(rows, kinds, 1);
-    while t < end {
-        m = check_task(rows, owned, t, out, m);
-        t = sheet::next_of(rows, kinds, 1, t);
+    if let Some(x) = rows.find_owned(o, Kind::Split) {
+        check_works(rows, o, found);
+        check_split(rows, o, x, found);
     }
-    m
+}
+
+#[tactic(auto, using(chains::proofs::PlaceLaws::left_all, crate::proofs::Whole::activities_told))]
+fn check_task(rows: &Sheet, t: usize, found: &mut Findings)
+    requires { t ≤ row_count rows.now }
+    ensures { so_far found.new ≡ tell (so_far found.old) (task_findings rows.now t) }
+{
+    for o in rows.owned_by(t, Kind::Activity) {
+        check_activity(rows, o, found);
+    }
+}
+
+#[tactic(auto, using(chains::proofs::PlaceLaws::left_all, crate::proofs::Whole::tasks_told))]
+pub fn check_parts(rows: &Sheet, found: &mut Findings)
+    ensures { so_far found.new ≡ tell (so_far found.old) (check_parts (sheet rows.now)) }
+{
+    for t in rows.of_kind(Kind::Task) {
+        check_task(rows, t, found);
+    }
 }

@@ -2,4 +2,3 @@ pub mod Lists
 pub mod Claimants
 pub mod Pieced
 pub mod Whole
-pub mod Steps

@@ -2,7 +2,7 @@
 use Prim.Native.Nat.{ℕ, ◌<◌}
 use mathlib.Core.Path.{◌≡◌, refl, ap, ap₂, sym, ◌∙◌}
 use mathlib.Core.Bool.{Bool, true, false, cond, not, ◌&&◌}
-use mathlib.Core.List.{List, [], ◌∷◌, ◌++◌, append-nil}
+use mathlib.Core.List.{List, [], ◌∷◌, ◌++◌, append-nil, foldl}
 use Rattle.std.specs.Prelude.{Option, None, Some}
 use lib.Dec.{eqb}
 use lib.IntN.{ℤ}
@@ -13,15 +13,17 @@ use Rattle.loops.specs.Range.{collect}
 use Rattle.loops.specs.inner.Chain.{only}
 use Rattle.loops.proofs.RangeLaws.{collect_ext}
 use Rattle.loops.proofs.NumberLaws.{eqb_swap}
+use Rattle.chains.specs.Places.{places}
 use Rattle.findings.specs.declared.Violation.{Violation}
-use Rattle.findings.specs.inner.Sink.{Sink, emit}
+use Rattle.findings.specs.inner.Told.{Told, tell, telling}
+use Rattle.findings.proofs.Reporting.{tell_only}
 use Rattle.calendar.specs.Clock.{clock}
 use Rattle.rows.specs.Cells.{row_count, num, is}
 use Rattle.sheet.specs.Places.{of_kind, place_of}
+use Rattle.sheet.specs.Refusals.{refusal_of}
 use Rattle.sheet.specs.inner.Accepted.{Accepted}
 use Rattle.owners.specs.inner.Owners.{owner_kind, owned_by}
 use Rattle.model.specs.Sheet.{sheet}
-use Rattle.model.specs.inner.Indexed.{Indexed}
 use Rattle.model.specs.inner.Records.{activity_of, requirement_of}
 use Rattle.model.specs.Resource.{companions}
 use Rattle.model.specs.Activity.{requirement_at, requirements}
@@ -158,6 +160,11 @@ module _ (rows : List ℤ) (acc : Accepted rows) where
   unfolding check_requirements check_task
   whole = tasks_by_rows rows acc (check_activity_requirements clock (sheet rows)) (check_activity rows) activity_is
 
-pub by_rows : (rows : List ℤ) {kinds links owned : List ℕ} (s : Sink) {s' : Sink} → Indexed rows kinds links owned
-    → s' ≡ emit s (collect (only (of_kind rows 1) (check_task rows)) (row_count rows)) → s' ≡ emit s (check_requirements clock (sheet rows))
-by_rows rows s h w = w ∙ ap (emit s) (whole rows (accepted rows h.accepted))
+-- ---- what is told
+
+pub activities_told : (rows : List ℤ) (o : ℕ) (t : Told) → foldl (telling (check_activity rows)) t (places (owned_by rows o 2) (row_count rows)) ≡ tell t (check_task rows o)
+unfolding check_task
+activities_told rows o t = tell_only (owned_by rows o 2) (check_activity rows) (row_count rows) t
+
+pub tasks_told : (rows : List ℤ) (t : Told) → refusal_of rows ≡ None → foldl (telling (check_task rows)) t (places (of_kind rows 1) (row_count rows)) ≡ tell t (check_requirements clock (sheet rows))
+tasks_told rows t h = tell_only (of_kind rows 1) (check_task rows) (row_count rows) t ∙ ap (tell t) (whole rows (accepted rows h))

@@ -5,9 +5,9 @@ use mathlib.Core.Bool.{Bool}
 use mathlib.Core.List.{List, [], ◌∷◌, ◌++◌, foldl}
 use Rattle.loops.specs.Lists.{each}
 use Rattle.loops.specs.Range.{collect}
-use Rattle.loops.specs.inner.Chain.{Silent}
+use Rattle.loops.specs.inner.Chain.{Silent, only}
 use Rattle.chains.specs.Places.{places}
-use Rattle.chains.proofs.PlaceLaws.{each_places}
+use Rattle.chains.proofs.PlaceLaws.{each_places, each_only}
 use Rattle.findings.specs.declared.Violation.{Violation}
 use Rattle.findings.specs.inner.Told.{Told, tell, telling}
 use Rattle.findings.proofs.SinkLaws.{emit_none, emit_then}
@@ -27,3 +27,7 @@ tell_each f (k ∷ l) t = tell_each f l (tell t (f k)) ∙ tell_append t (f k) (
 -- the places that pass a test, where nothing is told of any other
 pub tell_places : (p : ℕ → Bool) (f : ℕ → List Violation) (n : ℕ) (t : Told) → Silent p f → foldl (telling f) t (places p n) ≡ tell t (collect f n)
 tell_places p f n t s = tell_each f (places p n) t ∙ ap (tell t) (each_places p f n s)
+
+-- the same where nothing is told of any other by `only`
+pub tell_only : (p : ℕ → Bool) (f : ℕ → List Violation) (n : ℕ) (t : Told) → foldl (telling f) t (places p n) ≡ tell t (collect (only p f) n)
+tell_only p f n t = tell_each f (places p n) t ∙ ap (tell t) (each_only p f n)

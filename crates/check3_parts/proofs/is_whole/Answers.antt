@@ -1,20 +1,14 @@
+use mathlib.Core.Path.{ap, ◌∙◌}
 use borrow.Author.Rules.{rules}
-use Rattle.loops.proofs.SearchLaws.{any_hit}
-use Rattle.loops.proofs.Walks.{any_first, any_next, any_end}
-use Rattle.check3_parts.specs.inner.Booked.{whole_in}
-use Rattle.check3_parts.proofs.Sums.{whole_blind, whole_here}
+use Rattle.loops.specs.Lists.{any_of}
+use Rattle.chains.proofs.WalkLaws.{walk_any}
+use Rattle.check3_parts.specs.inner.Booked.{without_part}
+use Rattle.check3_parts.proofs.Findings.{whole_told}
 use Rattle.check3_parts.proofs.is_whole.Goals as goal
 
-pub loop-k-init : goal.loop-k-init
-loop-k-init c = (search rules, any_first _ c.first_owned-k.ensures (whole_blind _ _))
-
-pub returns-then-not-has_part : goal.returns-then-not-has_part
-unfolding whole_in
-returns-then-not-has_part c = search (rules, any_hit, whole_here)
-
-pub loop-k-preserved : goal.loop-k-preserved
-loop-k-preserved c = search (rules, any_next, whole_blind, whole_here)
-
 pub returns : goal.returns
-unfolding whole_in
-returns c = search (rules, any_end)
+unfolding without_part
+returns c =
+    walk_any _ _ (without_part c.args.rows.now) (λ x r f' k. search rules) c.any.ensures.ran
+    ∙ ap (any_of (without_part c.args.rows.now)) c.owned_by.ensures.places
+    ∙ whole_told _ _

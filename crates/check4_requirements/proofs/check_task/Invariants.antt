@@ -1,13 +1,13 @@
+use mathlib.Core.Path.{◌≡◌}
+use mathlib.Core.List.{foldl}
+use Rattle.chains.specs.inner.Left.{Left}
 use Rattle.rows.specs.Cells.{row_count}
 use Rattle.owners.specs.inner.Owners.{owned_by}
-use Prim.Native.Nat.{◌-◌}
-use Rattle.findings.specs.inner.Sink.{sink}
-use Rattle.check4_pieces.proofs.Along.{Reporting}
-use Rattle.check4_requirements.specs.inner.ByRow.{check_activity}
+use Rattle.findings.specs.inner.Told.{so_far, tell, telling}
+use Rattle.check4_requirements.specs.inner.ByRow.{check_activity, check_task}
 use Rattle.check4_requirements.proofs.check_task.Given as goal
 
 abbrev pub invariant-loop-o : goal.invariant-loop-o
-invariant-loop-o l = Reporting (owned_by l.rows l.t 2) (check_activity l.rows) (row_count l.rows) (sink l.initial.out l.n) l.o (sink l.out l.m)
-
-abbrev pub decreases-loop-o : goal.decreases-loop-o
-decreases-loop-o l = l.end - l.o
+invariant-loop-o l =
+    Left (owned_by l.rows l.t 2) (row_count l.rows) l.o-iterator
+    × (foldl (telling (check_activity l.rows)) (so_far l.found) l.o-iterator ≡ tell (so_far l.initial.found) (check_task l.rows l.t))
