@@ -3,111 +3,84 @@
 #![tactic(auto)]
 
 ghost use Rattle.std.specs.Prelude.{◌≡◌, ◌+◌, ◌<◌, ◌≤◌, true, not, ◌||◌, ltb, pos, get_or};
-ghost use Rattle.std.specs.Prelude.{Some};
-ghost use Rattle.loops.specs.Lists.{given};
+ghost use Rattle.std.specs.Prelude.{None, Some};
+ghost use Rattle.loops.specs.Lists.{given, each};
 ghost use Rattle.rows.specs.Cells.{row_count, num, is};
+ghost use Rattle.rows.specs.Kinds.{kind_number};
 ghost use Rattle.sheet.specs.Places.{place_of};
-ghost use Rattle.sheet.specs.inner.Accepted.{Accepted};
-ghost use Rattle.owners.specs.inner.Owners.{Linked, Owned};
+ghost use Rattle.sheet.specs.Refusals.{refusal_of};
 ghost use Rattle.calendar.specs.Clock.{clock};
 ghost use Rattle.calendar.specs.Calendar.{interval_fits, joint_working};
 ghost use Rattle.calendar.specs.Amount.{joint_available_ms};
 ghost use Rattle.calendar.specs.Layout.{calendars_of};
-ghost use Rattle.findings.specs.inner.Sink.{sink, emit};
+ghost use Rattle.findings.specs.inner.Told.{so_far, tell};
 ghost use Rattle.model.specs.Sheet.{sheet};
 ghost use Rattle.model.specs.Resource.{windows};
-ghost use Rattle.model.specs.Schedule.{violation, resource_unavailable, time_window_violation};
+ghost use Rattle.model.specs.Schedule.{assignment_at, resource_unavailable, time_window_violation};
 ghost use Rattle.model.specs.inner.Records.{activity_of, assignment_of};
-ghost use Rattle.model.specs.inner.Indexed.{Indexed};
 ghost use Rattle.definition.specs.CheckCalendars.{piece_calendars, check_resumable, check_plain, check_booking, check_calendars};
 ghost use Rattle.window_rows.specs.inner.Laid.{Holder};
 ghost use Rattle.derived_times.specs.inner.Needs.{Needs};
 ghost use Rattle.check6_calendars.specs.inner.Lacking.{uncovered_at, lacks_time, Lacking};
 
 use calendar::Calendars;
-use findings::Violation;
-use sheet::Found;
-
-fn tell(out: &mut [i64], n: usize, yes: bool, kind: u8, entity: u64, severity: u8) -> usize
-    requires { entity < 9223372036854775808 }
-    ensures { sink out.new result ≡ emit (sink out.old n) (given yes (violation 6 kind entity severity)) }
-{
-    let f = Violation {
-        check: 6,
-        kind: kind,
-        entity: entity,
-        severity: severity,
-    };
-    findings::report(out, n, yes, f)
-}
+use findings::{Findings, Violation, ViolationKind};
+use model::Sheet;
+use owners::LinkIndex;
+use rows::Kind;
+use sheet::{Found, KindIndex, Rows};
 
 // ---- plain bookings
 
-// Whether booking k fits the windows of kind x of row o whole.
-fn fits_windows(rows: &[i64], owned: &[u16; 8810], o: usize, x: usize, k: usize) -> bool
-    requires { Owned rows.now owned.now × (o ≤ row_count rows.now) × Holder rows.now o x }
-    ensures { result ≡ interval_fits clock (windows (sheet rows.now) x (num rows.now o 1)) (pos (num rows.now k 4)) (pos (num rows.now k 5)) }
+// Whether booking k fits the windows of row o, of a resource or of an activity, whole.
+fn fits_windows(rows: &Sheet, o: usize, kind: Kind, k: usize) -> bool
+    requires { (o ≤ row_count rows.now) × Holder rows.now o (kind_number kind) }
+    ensures { result ≡ interval_fits clock (windows (sheet rows.now) (kind_number kind) (num rows.now o 1)) (pos (num rows.now k 4)) (pos (num rows.now k 5)) }
 {
-    let start = rows::num_at(rows, k, 4);
-    let end = rows::num_at(rows, k, 5);
-    window_rows::interval_fits(rows, owned, o, x, start, end)
+    window_rows::interval_fits(&rows.by_owner(), o, kind, rows.num(k, 4), rows.num(k, 5))
 }
 
-fn check_resource(
-    rows: &[i64],
-    owned: &[u16; 8810],
-    o: usize,
-    k: usize,
-    out: &mut [i64],
-    n: usize,
-) -> usize
-    requires { Owned rows.now owned.now × (place_of rows.now 11 (num rows.now k 3) ≡ Some o) }
-    ensures { sink out.new result ≡ emit (sink out.old n) (given (not (interval_fits clock (windows (sheet rows.now) 15 (num rows.now k 3)) (pos (num rows.now k 4)) (pos (num rows.now k 5)))) (resource_unavailable 6 (num rows.now k 3))) }
+#[tactic(auto, using(check6_joint_calendars::proofs::Whole::resource_holder, sheet::proofs::Lookups::place_low, crate::proofs::Plain::resource_fits))]
+fn check_resource(rows: &Sheet, o: usize, k: usize, found: &mut Findings)
+    requires { place_of rows.now 11 (num rows.now k 3) ≡ Some o }
+    ensures { so_far found.new ≡ tell (so_far found.old) (given (not (interval_fits clock (windows (sheet rows.now) 15 (num rows.now k 3)) (pos (num rows.now k 4)) (pos (num rows.now k 5)))) (resource_unavailable 6 (num rows.now k 3))) }
 {
-    let outside = !fits_windows(rows, owned, o, 15, k);
-    tell(out, n, outside, 4, rows::id_at(rows, k, 3), 85)
+    let fits = fits_windows(rows, o, Kind::ResourceWindow, k);
+    found.report(
+        !fits,
+        Violation::of(6, ViolationKind::ResourceUnavailable, rows.num(k, 3)),
+    );
 }
 
-fn check_activity(
-    rows: &[i64],
-    owned: &[u16; 8810],
-    a: usize,
-    k: usize,
-    out: &mut [i64],
-    n: usize,
-) -> usize
-    requires { Owned rows.now owned.now × (place_of rows.now 2 (num rows.now k 1) ≡ Some a) }
-    ensures { sink out.new result ≡ emit (sink out.old n) (given (not (interval_fits clock (windows (sheet rows.now) 16 (num rows.now a 1)) (pos (num rows.now k 4)) (pos (num rows.now k 5)))) (time_window_violation 6 (num rows.now k 1))) }
+#[tactic(auto, using(check6_joint_calendars::proofs::Whole::activity_holder, sheet::proofs::Lookups::place_low))]
+fn check_activity(rows: &Sheet, a: usize, k: usize, found: &mut Findings)
+    requires { place_of rows.now 2 (num rows.now k 1) ≡ Some a }
+    ensures { so_far found.new ≡ tell (so_far found.old) (given (not (interval_fits clock (windows (sheet rows.now) 16 (num rows.now a 1)) (pos (num rows.now k 4)) (pos (num rows.now k 5)))) (time_window_violation 6 (num rows.now k 1))) }
 {
-    let outside = !fits_windows(rows, owned, a, 16, k);
-    tell(out, n, outside, 7, rows::id_at(rows, k, 1), 75)
+    let fits = fits_windows(rows, a, Kind::ActivityWindow, k);
+    found.report(
+        !fits,
+        Violation::of(6, ViolationKind::TimeWindowViolation, rows.num(k, 1)),
+    );
 }
 
 // Booking k, that may not pause, of the activity of row a, on the resource of row o.
-fn check_plain(
-    rows: &[i64],
-    owned: &[u16; 8810],
-    a: usize,
-    o: usize,
-    k: usize,
-    out: &mut [i64],
-    n: usize,
-) -> usize
-    requires { Owned rows.now owned.now × (place_of rows.now 2 (num rows.now k 1) ≡ Some a) × (place_of rows.now 11 (num rows.now k 3) ≡ Some o) }
-    ensures { sink out.new result ≡ emit (sink out.old n) (check_plain clock (sheet rows.now) (assignment_of rows.now k) (Some (activity_of rows.now a))) }
+fn check_plain(rows: &Sheet, a: usize, o: usize, k: usize, found: &mut Findings)
+    requires { (place_of rows.now 2 (num rows.now k 1) ≡ Some a) × (place_of rows.now 11 (num rows.now k 3) ≡ Some o) }
+    ensures { so_far found.new ≡ tell (so_far found.old) (check_plain clock (sheet rows.now) (assignment_of rows.now k) (Some (activity_of rows.now a))) }
 {
-    let m = check_resource(rows, owned, o, k, out, n);
-    check_activity(rows, owned, a, k, out, m)
+    check_resource(rows, o, k, found);
+    check_activity(rows, a, k, found);
 }
 
 // ---- resumable bookings
 
 // What booking k needs: its own setup, and the derived rest of its work.
-fn needed_ms(rows: &[i64], need: &[u64; 800], k: usize) -> u64
-    requires { Accepted rows.now × Needs rows.now need.now × (k < row_count rows.now) × (is rows.now k 0 23 ≡ true) }
+fn needed_ms(rows: &Sheet, need: &[u64; 800], k: usize) -> u64
+    requires { Needs rows.now need.now × (k < row_count rows.now) }
     ensures { result ≡ num rows.now k 6 + get_or need.now k 0 }
 {
-    rows::num_at(rows, k, 6) + need[k]
+    rows.num(k, 6) + need[k]
 }
 
 // Whether so much work does not fit the joint working time of the calendars in [start, end), or starts outside it.
@@ -118,142 +91,87 @@ fn is_uncovered(calendars: Calendars, start: u64, end: u64, needed: u64) -> bool
 }
 
 // Whether booking k, of the activity of row a, is not covered by the working time of its piece.
-fn lacks_time(
-    rows: &[i64],
-    kinds: &[u16; 3680],
-    links: &[u16; 1600],
-    owned: &[u16; 8810],
-    need: &[u64; 800],
-    a: usize,
-    k: usize,
-) -> bool
-    requires { Indexed rows.now kinds.now links.now owned.now × Needs rows.now need.now × (k < row_count rows.now) × (is rows.now k 0 23 ≡ true) × (place_of rows.now 2 (num rows.now k 1) ≡ Some a) }
+#[tactic(auto, using(crate::proofs::Resumable::laid_covered))]
+fn lacks_time(rows: &Sheet, need: &[u64; 800], a: usize, k: usize) -> bool
+    requires { (refusal_of rows.now ≡ None) × Needs rows.now need.now × (k < row_count rows.now) × (is rows.now k 0 23 ≡ true) × (place_of rows.now 2 (num rows.now k 1) ≡ Some a) }
     ensures { result ≡ (not (joint_working clock (piece_calendars clock (sheet rows.now) (assignment_of rows.now k) (activity_of rows.now a)) (pos (num rows.now k 4))) || ltb (joint_available_ms clock (piece_calendars clock (sheet rows.now) (assignment_of rows.now k) (activity_of rows.now a)) (pos (num rows.now k 4)) (pos (num rows.now k 5))) (num rows.now k 6 + get_or need.now k 0)) }
 {
     let mut windows = [window_rows::NO_WINDOW; 800];
     let mut places = [check6_joint_calendars::NO_PLACES; 800];
-    let laid = check6_joint_calendars::lay_calendars(
-        rows,
-        kinds,
-        links,
-        owned,
-        a,
-        k,
-        &mut windows,
-        &mut places,
-    );
-    let start = rows::num_at(rows, k, 4);
-    let end = rows::num_at(rows, k, 5);
+    let laid = check6_joint_calendars::lay_calendars(rows, a, k, &mut windows, &mut places);
     let needed = needed_ms(rows, need, k);
-    is_uncovered(laid.as_calendars(), start, end, needed)
+    is_uncovered(laid.as_calendars(), rows.num(k, 4), rows.num(k, 5), needed)
 }
 
-// Whether row k is a booking on a resource of the sheet, of a resumable activity, that lacks working time.
-fn lacks_at(
-    rows: &[i64],
-    kinds: &[u16; 3680],
-    links: &[u16; 1600],
-    owned: &[u16; 8810],
-    need: &[u64; 800],
-    k: usize,
-) -> bool
-    requires { Indexed rows.now kinds.now links.now owned.now × Needs rows.now need.now × (k < row_count rows.now) }
+// Whether booking k is on a resource of the sheet, of a resumable activity, and lacks working time.
+#[tactic(auto, using(crate::proofs::Resumable::needed_is, owners::proofs::Links::books), unfolding(crate::specs::inner::Lacking::lacks_time))]
+fn lacks_at(rows: &Sheet, need: &[u64; 800], k: usize) -> bool
+    requires { (refusal_of rows.now ≡ None) × Needs rows.now need.now × (k < row_count rows.now) × (is rows.now k 0 23 ≡ true) }
     ensures { result ≡ lacks_time rows.now k }
 {
-    if !rows::is_at(rows, k, 0, 23) {
-        return false;
-    }
-    let Found::At(_) = owners::booked_resource(rows, links, k) else {
+    let Found::At(_) = rows.booked_resource(k) else {
         return false;
     };
-    let Found::At(a) = owners::activity_of(rows, links, k) else {
+    let Found::At(a) = rows.activity_of(k) else {
         return false;
     };
-    rows::is_at(rows, a, 7, 1) && lacks_time(rows, kinds, links, owned, need, a, k)
+    rows.has(a, 7, 1) && lacks_time(rows, need, a, k)
 }
 
 // Which bookings of resumable activities lack working time. Found once for a sheet, since it is the dearest question of all checks. Its calendars
 // need room that the calls after it do not: apart, they share the stack that the header states.
 #[inline(never)]
-pub fn lacking_of(
-    rows: &[i64],
-    kinds: &[u16; 3680],
-    links: &[u16; 1600],
-    owned: &[u16; 8810],
-    need: &[u64; 800],
-) -> [u8; 800]
-    requires { Indexed rows.now kinds.now links.now owned.now × Needs rows.now need.now }
+#[tactic(auto, using(chains::proofs::PlaceLaws::left_all), unfolding(sheet::specs::Places::of_kind))]
+pub fn lacking_of(rows: &Sheet, need: &[u64; 800]) -> [u8; 800]
+    requires { Needs rows.now need.now }
     ensures { Lacking rows.now result }
 {
-    let n = rows::row_count(rows);
-    let mut t = [0u8; 800];
-    for k in 0..n {
-        pieces::mark(&mut t, k, lacks_at(rows, kinds, links, owned, need, k));
+    let mut lacking = [0u8; 800];
+    for k in rows.of_kind(Kind::Booking) {
+        lacking[k] = u8::from(lacks_at(rows, need, k));
     }
-    t
+    lacking
 }
 
 // Booking k, that may pause, of the activity of row a.
-fn check_resumable(
-    rows: &[i64],
-    lacking: &[u8; 800],
-    a: usize,
-    k: usize,
-    out: &mut [i64],
-    n: usize,
-) -> usize
+#[tactic(auto, using(crate::proofs::Resumable::lacking_is), unfolding(definition::specs::CheckCalendars::check_resumable))]
+fn check_resumable(rows: &Sheet, lacking: &[u8; 800], a: usize, k: usize, found: &mut Findings)
     requires { Lacking rows.now lacking.now × (k < row_count rows.now) × (lacks_time rows.now k ≡ uncovered_at rows.now a k) }
-    ensures { sink out.new result ≡ emit (sink out.old n) (check_resumable clock (sheet rows.now) (assignment_of rows.now k) (activity_of rows.now a)) }
+    ensures { so_far found.new ≡ tell (so_far found.old) (check_resumable clock (sheet rows.now) (assignment_of rows.now k) (activity_of rows.now a)) }
 {
-    let bad = lacking[k] == 1;
-    tell(out, n, bad, 4, rows::id_at(rows, k, 3), 85)
+    let lacks = lacking[k] == 1;
+    found.report(
+        lacks,
+        Violation::of(6, ViolationKind::ResourceUnavailable, rows.num(k, 3)),
+    );
 }
 
 // ---- the check
 
 // Booking k, if its resource is in the sheet.
-fn check_booking(
-    rows: &[i64],
-    links: &[u16; 1600],
-    owned: &[u16; 8810],
-    lacking: &[u8; 800],
-    k: usize,
-    out: &mut [i64],
-    n: usize,
-) -> usize
-    requires { Linked rows.now links.now × Owned rows.now owned.now × Lacking rows.now lacking.now × (k < row_count rows.now) × (is rows.now k 0 23 ≡ true) }
-    ensures { sink out.new result ≡ emit (sink out.old n) (check_booking clock (sheet rows.now) (assignment_of rows.now k)) }
+#[tactic(auto, using(crate::proofs::Booking::booking_judged, owners::proofs::Links::books), unfolding(crate::proofs::Booking::judged, crate::specs::inner::Lacking::lacks_time))]
+fn check_booking(rows: &Sheet, lacking: &[u8; 800], k: usize, found: &mut Findings)
+    requires { Lacking rows.now lacking.now × (k < row_count rows.now) × (is rows.now k 0 23 ≡ true) }
+    ensures { so_far found.new ≡ tell (so_far found.old) (each (check_booking clock (sheet rows.now)) (assignment_at (sheet rows.now) k)) }
 {
-    let Found::At(o) = owners::booked_resource(rows, links, k) else {
-        return n;
+    let Found::At(o) = rows.booked_resource(k) else {
+        return;
     };
-    let Found::At(a) = owners::activity_of(rows, links, k) else {
-        return check_resource(rows, owned, o, k, out, n);
+    let Found::At(a) = rows.activity_of(k) else {
+        return check_resource(rows, o, k, found);
     };
-    if rows::is_at(rows, a, 7, 1) {
-        return check_resumable(rows, lacking, a, k, out, n);
+    if rows.has(a, 7, 1) {
+        return check_resumable(rows, lacking, a, k, found);
     }
-    check_plain(rows, owned, a, o, k, out, n)
+    check_plain(rows, a, o, k, found);
 }
 
-pub fn check_calendars(
-    rows: &[i64],
-    kinds: &[u16; 3680],
-    links: &[u16; 1600],
-    owned: &[u16; 8810],
-    lacking: &[u8; 800],
-    out: &mut [i64],
-    n: usize,
-) -> usize
-    requires { Indexed rows.now kinds.now links.now owned.now × Lacking rows.now lacking.now }
-    ensures { sink out.new result ≡ emit (sink out.old n) (check_calendars clock (sheet rows.now)) }
+#[tactic(auto, using(chains::proofs::PlaceLaws::left_all, crate::proofs::Booking::calendars_told), unfolding(sheet::specs::Places::of_kind))]
+pub fn check_calendars(rows: &Sheet, lacking: &[u8; 800], found: &mut Findings)
+    requires { Lacking rows.now lacking.now }
+    ensures { so_far found.new ≡ tell (so_far found.old) (check_calendars clock (sheet rows.now)) }
 {
-    let count = rows::row_count(rows);
-    let mut m = n;
-    let mut k = sheet::first_of(rows, kinds, 23);
-    while k < count {
-        m = check_booking(rows, links, owned, lacking, k, out, m);
-        k = sheet::next_of(rows, kinds, 23, k);
+    for k in rows.of_kind(Kind::Booking) {
+        check_booking(rows, lacking, k, found);
     }
-    m
 }

@@ -16,11 +16,11 @@ use Rattle.loops.specs.Lists.{each}
 use Rattle.loops.specs.Range.{collect}
 use Rattle.loops.specs.Sums.{total}
 use Rattle.loops.specs.Search.{count_below}
-use Rattle.loops.specs.inner.Chain.{First, Stands}
+use Rattle.loops.specs.inner.Chain.{First}
 use Rattle.loops.proofs.BoolLaws.{and_left}
 use Rattle.loops.proofs.ListLaws.{each_append}
 use Rattle.loops.proofs.SearchLaws.{count_le}
-use Rattle.loops.proofs.Walks.{over, stands_end}
+use Rattle.loops.proofs.Walks.{over}
 use Rattle.calendar.specs.declared.TimeWindow.{TimeWindow}
 use Rattle.calendar.specs.Calendar.{Calendar}
 use Rattle.calendar.specs.Layout.{window_of, windows_of, calendar_of, lists_of, calendars_of}
@@ -31,7 +31,6 @@ use Rattle.owners.specs.inner.Owners.{own_place, owned_by}
 use Rattle.model.specs.Sheet.{sheet}
 use Rattle.model.specs.Resource.{windows}
 use Rattle.model.proofs.Requiring.{count_less}
-use Rattle.model.proofs.Standing.{stands_kind}
 use Rattle.model.proofs.OwnedLaws.{owned_kind}
 use Rattle.window_rows.specs.declared.window_list.WindowList.{WindowList}
 use Rattle.window_rows.specs.Listed.{listed, calendar_in}
@@ -41,7 +40,7 @@ use Rattle.check6_joint_calendars.specs.inner.Taken.{marked, OnResources}
 use Rattle.window_rows.proofs.Lists.{room_left}
 use Rattle.check6_joint_calendars.specs.Laid as laid
 use Rattle.check6_joint_calendars.specs.Laid.{in_a_row, places_from, LaidOut}
-use Rattle.check6_joint_calendars.specs.inner.Laying.{Added, calendar_at, AddedAt, window_above, Resources}
+use Rattle.check6_joint_calendars.specs.inner.Laying.{Added, calendar_at, window_above, Resources}
 
 -- ---- calendars one behind the other
 
@@ -149,8 +148,8 @@ module _ (rows : List ℤ) where
   windows_all : (i a n : ℕ) → count_below (window_above rows i) n + count_below (owned_by rows a 16) n ≤ n
   windows_all i a n = count_apart (window_above rows i) (owned_by rows a 16) (λ k e f. two_kinds 15 16 k (λ z. omega arith) (above_kind i k e) (owned_kind rows a 16 k f)) n
 
-  resource_more : (r : ℕ) → is rows r 0 11 ≡ true → count_below (of_kind rows 11) (suc r) ≡ count_below (of_kind rows 11) r + 1
-  unfolding count_below of_kind
+  resource_more : (r : ℕ) → of_kind rows 11 r ≡ true → count_below (of_kind rows 11) (suc r) ≡ count_below (of_kind rows 11) r + 1
+  unfolding count_below
   resource_more r e = rw e
 
   -- a booking is no resource
@@ -169,46 +168,29 @@ module _ (rows : List ℤ) (marks : List Bool) where
     pub room_windows : length (listed l.windows) + count_below (owned_by rows r 15) (row_count rows) ≤ 800
     room_windows = omega (arith, windows_more rows r (row_count rows), count_le (window_above rows (suc r)) (row_count rows), h.windows)
 
-    pub room_calendars : {N : ℕ} → r < N → N ≡ row_count rows → length (laid.placed l) < 800
-    room_calendars m z = omega (arith, count_le (of_kind rows 11) r, h.calendars)
+    pub room_calendars : r < row_count rows → length (laid.placed l) < 800
+    room_calendars m = omega (arith, count_le (of_kind rows 11) r, h.calendars)
 
-  module _ {r : ℕ} (l l' : LaidCalendars) where
-    gather_more : marked marks r ≡ true → is rows r 0 11 ≡ true
-        → Added (windows (sheet rows) 15 (num rows r 1)) (count_below (owned_by rows r 15) (row_count rows)) l l'
-        → Resources rows marks r l → Resources rows marks (suc r) l'
-    gather_more e k a h = record {
-      out =
-          let s : collect (calendar_at rows marks) r ++ windows (sheet rows) 15 (num rows r 1) ∷ [] ≡ collect (calendar_at rows marks) (suc r) =
-          unfold collect calendar_at in rw e in
-          subst (λ c. LaidOut c l') s (out_more _ h.out a);
-      windows = let b = windows_more rows r (row_count rows) in omega (arith, a.count, h.windows);
-      calendars = let q = resource_more rows r k in omega (arith, ap length a.places, length_push (laid.placed l) (record { from = length (listed l.windows); to = length (listed l.windows) + length (windows (sheet rows) 15 (num rows r 1)) }), h.calendars);
-    }
+  pub gather_more : {r : ℕ} (l l' : LaidCalendars) → marked marks r ≡ true → of_kind rows 11 r ≡ true
+      → Added (windows (sheet rows) 15 (num rows r 1)) (count_below (owned_by rows r 15) (row_count rows)) l l'
+      → Resources rows marks r l → Resources rows marks (suc r) l'
+  gather_more {r} l l' e k a h = record {
+    out =
+        let s : collect (calendar_at rows marks) r ++ windows (sheet rows) 15 (num rows r 1) ∷ [] ≡ collect (calendar_at rows marks) (suc r) =
+        unfold collect calendar_at in rw e in
+        subst (λ c. LaidOut c l') s (out_more _ h.out a);
+    windows = let b = windows_more rows r (row_count rows) in omega (arith, a.count, h.windows);
+    calendars = let q = resource_more rows r k in omega (arith, ap length a.places, length_push (laid.placed l) (record { from = length (listed l.windows); to = length (listed l.windows) + length (windows (sheet rows) 15 (num rows r 1)) }), h.calendars);
+  }
 
-    gather_none : marked marks r ≡ false → Resources rows marks r l → Resources rows marks (suc r) l
-    gather_none e h = record {
-      out =
-          let s : collect (calendar_at rows marks) r ≡ collect (calendar_at rows marks) (suc r) = unfold collect calendar_at in rw e (sym (append-nil _)) in
-          subst (λ c. LaidOut c l) s h.out;
-      windows = let b = windows_more rows r (row_count rows) in omega (arith, h.windows);
-      calendars = let b = h.calendars in unfold count_below in omega arith;
-    }
-
-    -- row r is judged
-    gather_at : is rows r 0 11 ≡ true → AddedAt rows marks r l l' → Resources rows marks r l → Resources rows marks (suc r) l'
-    gather_at k a h = go (marked marks r) refl
-      where
-        go : (b : Bool) → marked marks r ≡ b → Resources rows marks (suc r) l'
-        go true e = gather_more e k (a.taken e) h
-        go false e = rw (a.passed e) (gather_none e h)
-
-    -- row r's mark is read
-    pub added_taken : Added (windows (sheet rows) 15 (num rows r 1)) (count_below (owned_by rows r 15) (row_count rows)) l l'
-        → marked marks r ≡ true → AddedAt rows marks r l l'
-    added_taken a q = record { taken = λ e. a; passed = λ e. absurd (true≢false (sym q ∙ e)) }
-
-    pub added_passed : marked marks r ≡ false → AddedAt rows marks r l l
-    added_passed q = record { taken = λ e. absurd (true≢false (sym e ∙ q)); passed = λ e. refl }
+  pub gather_none : {r : ℕ} (l : LaidCalendars) → marked marks r ≡ false → Resources rows marks r l → Resources rows marks (suc r) l
+  gather_none {r} l e h = record {
+    out =
+        let s : collect (calendar_at rows marks) r ≡ collect (calendar_at rows marks) (suc r) = unfold collect calendar_at in rw e (sym (append-nil _)) in
+        subst (λ c. LaidOut c l) s h.out;
+    windows = let b = windows_more rows r (row_count rows) in omega (arith, h.windows);
+    calendars = let b = h.calendars in unfold count_below in omega arith;
+  }
 
   module _ (m : OnResources rows marks) where
     pub holder : {r : ℕ} → r < row_count rows → marked marks r ≡ true → Holder rows r 15
@@ -227,7 +209,7 @@ module _ (rows : List ℤ) (marks : List Bool) where
     still : (l : LaidCalendars) (r : ℕ) → of_kind rows 11 r ≡ false → At l r → At l (r + 1)
     still l r e h b =
         let q : r + 1 ≡ suc r = omega arith in
-        rw q (gather_none l l (unmarked r (omega arith) e (marked marks r) refl) (h (omega arith)))
+        rw q (gather_none l (unmarked r (omega arith) e (marked marks r) refl) (h (omega arith)))
 
     pub gather_first : {i : ℕ} (l : LaidCalendars) → First (of_kind rows 11) 0 (row_count rows) i → LaidOut [] l → Resources rows marks i l
     gather_first {i} l f o =
@@ -240,14 +222,8 @@ module _ (rows : List ℤ) (marks : List Bool) where
         })
         f.high
 
-    pub gather_next : {N i j : ℕ} (l l' : LaidCalendars) → Resources rows marks i l → First (of_kind rows 11) (suc i) (row_count rows) j
-        → i < N → N ≡ row_count rows → Stands (of_kind rows 11) (row_count rows) i → AddedAt rows marks i l l' → Resources rows marks j l'
-    gather_next l l' h f m z s a =
-        over (At l') (of_kind rows 11) (suc _) _ _ (still l') f (λ _. gather_at l l' (stands_kind rows 11 m z s) a h) f.high
-
-  pub gather_end : {N i : ℕ} (l : LaidCalendars) → N ≤ i → N ≡ row_count rows → Stands (of_kind rows 11) (row_count rows) i
-      → Resources rows marks i l → Resources rows marks (row_count rows) l
-  gather_end l m z s h = rw (stands_end s m z) at h
+    pub gather_next : {i j : ℕ} (l : LaidCalendars) → First (of_kind rows 11) (suc i) (row_count rows) j → Resources rows marks (suc i) l → Resources rows marks j l
+    gather_next l f h = over (At l) (of_kind rows 11) (suc _) _ _ (still l) f (λ _. h) f.high
 
   -- there is place for the calendar of the activity of row a, which booking k is of
   module _ (l : LaidCalendars) (h : Resources rows marks (row_count rows) l) (b : row_count rows ≤ 800) where

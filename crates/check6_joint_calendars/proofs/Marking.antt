@@ -12,8 +12,8 @@ use lib.IntN.{ℤ}
 use lib.ListN.{get_or, set, replicate, length-set, length-replicate, get_or-replicate}
 use lib.Seq.{get_or-set_same, get_or-set_other}
 use Rattle.loops.specs.Search.{any_below}
-use Rattle.loops.specs.inner.Chain.{First, Stands}
-use Rattle.loops.proofs.Walks.{over, stands_end}
+use Rattle.loops.specs.inner.Chain.{First}
+use Rattle.loops.proofs.Walks.{over}
 use Rattle.rows.specs.Cells.{row_count, num, is}
 use Rattle.sheet.specs.declared.Found.{Found}
 use Rattle.sheet.specs.declared.Found.TheVariants.{At, Nothing}
@@ -108,9 +108,6 @@ module _ (rows : List ℤ) (k : ℕ) where
 
     pub mark_next : {n i j : ℕ} {marks : List Bool} → First (owned_by rows a 23) (suc i) n j → Marked rows k (suc i) marks → Marked rows k j marks
     mark_next {i = i} {marks = marks} f g = over (λ j. Marked rows k j marks) (owned_by rows a 23) (suc i) _ _ (still marks) f g
-
-  pub mark_end : {p : ℕ → Bool} {N i : ℕ} {marks : List Bool} → N ≤ i → N ≡ row_count rows → Stands p (row_count rows) i → Marked rows k i marks → Marked rows k (row_count rows) marks
-  mark_end l z s g = rw (stands_end s l z) at g
 
   -- the mark tells
   pub marked_is : {i : ℕ} {marks : List Bool} → Marked rows k i marks → (r : ℕ) → r < row_count rows → marked marks r ≡ taken_below rows k i r

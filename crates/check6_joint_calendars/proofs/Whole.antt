@@ -3,7 +3,7 @@ use Prim.Native.Nat.{ℕ, ◌<◌}
 use mathlib.Core.Path.{◌≡◌, refl, ap, sym, subst, ◌∙◌}
 use mathlib.Core.Bool.{Bool, true, false, not, ◌&&◌, and-true, or-false}
 use mathlib.Core.List.{List, [], ◌∷◌, ◌++◌}
-use mathlib.Core.Logic.{inl}
+use mathlib.Core.Logic.{inl, inr}
 use Rattle.std.specs.Prelude.{Some}
 use lib.IntN.{ℤ}
 use Rattle.loops.specs.Lists.{given, any_of, all_of}
@@ -33,9 +33,12 @@ use Rattle.check6_joint_calendars.proofs.Gathering.{out_more}
 use Rattle.check6_joint_calendars.proofs.Marking.{marked_is}
 use Rattle.check6_joint_calendars.proofs.Once.{taken_rests, once_each}
 
--- the activity of a booking holds its windows
-pub activity_holder : (rows : List ℤ) (k : ℕ) {a : ℕ} → place_of rows 2 (num rows k 1) ≡ Some a → Holder rows a 16
-activity_holder rows k {a} q = inl (refl, found_self rows 2 (num rows k 1) a q)
+-- what a lookup finds holds its windows
+pub activity_holder : (rows : List ℤ) (id : ℕ) {a : ℕ} → place_of rows 2 id ≡ Some a → Holder rows a 16
+activity_holder rows id {a} q = inl (refl, found_self rows 2 id a q)
+
+pub resource_holder : (rows : List ℤ) (id : ℕ) {o : ℕ} → place_of rows 11 id ≡ Some o → Holder rows o 15
+resource_holder rows id {o} q = inr (refl, found_self rows 11 id o q)
 
 module _ (rows : List ℤ) (acc : Accepted rows) (k : ℕ) (l : k < row_count rows) (h : is rows k 0 23 ≡ true) (t : ℤ) where
   given_rests : (b : Bool) (x : Calendar ℤ) → any_of (λ c. not (is_working_time clock c t)) (given b x) ≡ (b && not (is_working_time clock x t))

@@ -1,8 +1,11 @@
 // Calendars laid out one behind the other.
+#![tactic(auto, unfolding(crate::specs::Laid::placed))]
 
 ghost use Rattle.std.specs.Prelude.{◌≡◌, ◌≤◌, ◌<◌, ◌+◌, [], ◌∷◌, ◌++◌, length};
 
 use calendar::{Calendars, Places, TimeWindow};
+use owners::ByOwner;
+use rows::Kind;
 use window_rows::WindowList;
 
 // What stands in room before a calendar is laid out there.
@@ -21,8 +24,9 @@ pub struct LaidCalendars<'a> {
 impl<'a> LaidCalendars<'a> {
     ghost use Rattle.loops.specs.Search.{count_below};
     ghost use Rattle.rows.specs.Cells.{row_count, num};
+    ghost use Rattle.rows.specs.Kinds.{kind_number};
     ghost use Rattle.calendar.specs.Layout.{calendars_of};
-    ghost use Rattle.owners.specs.inner.Owners.{Owned, owned_by};
+    ghost use Rattle.owners.specs.inner.Owners.{owned_by};
     ghost use Rattle.model.specs.Sheet.{sheet};
     ghost use Rattle.model.specs.Resource.{windows};
     ghost use Rattle.window_rows.specs.Listed.{listed};
@@ -31,6 +35,7 @@ impl<'a> LaidCalendars<'a> {
     ghost use Rattle.check6_joint_calendars.specs.inner.Laying.{Added};
 
     // Without calendars.
+    #[tactic(auto, unfolding(crate::specs::Laid::placed, crate::specs::Laid::in_a_row, window_rows::specs::Listed::calendar_in, loops::specs::Lists::each))]
     pub fn over(
         windows: &'a mut [TimeWindow; 800],
         places: &'a mut [Places; 800],
@@ -44,13 +49,13 @@ impl<'a> LaidCalendars<'a> {
         }
     }
 
-    // The windows of kind x of row o, as one calendar more.
-    pub fn add(&mut self, rows: &[i64], owned: &[u16; 8810], o: usize, x: usize)
-        requires { Owned rows.now owned.now × (o ≤ row_count rows.now) × Holder rows.now o x × (length (listed self.old.windows) + count_below (owned_by rows.now o x) (row_count rows.now) ≤ 800) × (length (placed self.old) < 800) }
-        ensures { Added (windows (sheet rows.now) x (num rows.now o 1)) (count_below (owned_by rows.now o x) (row_count rows.now)) self.old self.new }
+    // The windows of row o, of a resource or of an activity, as one calendar more.
+    pub fn add(&mut self, rows: &ByOwner, o: usize, kind: Kind)
+        requires { (o ≤ row_count rows.now) × Holder rows.now o (kind_number kind) × (length (listed self.old.windows) + count_below (owned_by rows.now o (kind_number kind)) (row_count rows.now) ≤ 800) × (length (placed self.old) < 800) }
+        ensures { Added (windows (sheet rows.now) (kind_number kind) (num rows.now o 1)) (count_below (owned_by rows.now o (kind_number kind)) (row_count rows.now)) self.old self.new }
     {
         let from = self.windows.len();
-        window_rows::gather_windows(rows, owned, o, x, &mut self.windows);
+        window_rows::gather_windows(rows, o, kind, &mut self.windows);
         let to = self.windows.len();
         self.places[self.count] = Places { from, to };
         self.count += 1;

@@ -15,6 +15,7 @@ use lib.IntN.{ℤ, pos, negsuc}
 use lib.Signed.{le_z}
 use Rattle.loops.specs.Numbers.{to_nat}
 use Rattle.loops.specs.Range.{collect}
+use Rattle.loops.specs.Search.{count_below}
 use lib.ListN.{length}
 use Rattle.loops.specs.Lists.{given}
 use Rattle.loops.proofs.BoolLaws.{and_left, and_right}
@@ -37,23 +38,21 @@ use Rattle.sheet.specs.Places.{place_of}
 use Rattle.sheet.specs.declared.Found.{Found}
 use Rattle.sheet.specs.declared.Found.TheVariants.{At, Nothing}
 use Rattle.sheet.specs.inner.Found.{found_of}
-use Rattle.sheet.specs.inner.Index.{Kinds}
 use Rattle.sheet.proofs.Lookups.{placed, found_some, found_none}
-use Rattle.owners.specs.inner.Owners.{Owned}
+use Rattle.owners.specs.inner.Owners.{owned_by}
 use Rattle.validation.specs.inner.Answer.{Indexing}
 use Rattle.validation.proofs.Order.{tables_of}
 use Rattle.model.specs.Sheet.{sheet}
 use Rattle.model.specs.Resource.{windows}
+use Rattle.model.specs.inner.Indexed.{Indexed}
 use Rattle.model.proofs.Accepting.{accepted, at_most}
 use Rattle.model.proofs.Finds.{found_self}
 use Rattle.window_rows.specs.declared.window_list.WindowList.{WindowList}
 use Rattle.window_rows.specs.Listed.{listed, calendar_in}
 use Rattle.window_rows.specs.inner.Laid.{Holder}
-use Rattle.window_rows.proofs.WindowRows.{window_row, window_naming, resource_windows, windows_none}
+use Rattle.window_rows.proofs.WindowRows.{window_row, window_naming, resource_windows, windows_none, all_fit}
 use Rattle.calendar.specs.declared.WorkEnd as calendar
-use Rattle.calendar.specs.declared.WorkEnd.TheVariants as ending
 use Rattle.work_end_inquiry.specs.declared.InquiryEnd.{InquiryEnd}
-use Rattle.work_end_inquiry.specs.declared.InquiryEnd.TheVariants as ending_of
 use Rattle.work_end_inquiry.specs.inner.Said.{said}
 use Rattle.work_end_inquiry.specs.Inquiry.{InquiryOutcome, ends, refused, outcome_of, in_order, inquiry_refusal, inquired_calendar, inquiry}
 
@@ -151,9 +150,6 @@ work_in (negsuc n) e = omega arith
 abbrev read : ℤ → ℤ
 read x = to_z w64 (of_z w64 x)
 
-pub said_end : {a : calendar.WorkEnd} {e : ℕ} → a ≡ ending.End e → Ok (ending_of.End e) ≡ said a
-said_end h = sym (ap said h)
-
 -- no windows
 none_listed : (l : WindowList) → listed l ≡ [] → calendar_in l ≡ []
 unfolding calendar_in
@@ -180,6 +176,10 @@ module _ (rows : List ℤ) where
 
     pub found_holder : (o : ℕ) → f ≡ At o → Holder rows o 15
     found_holder o g = inr (refl, found_self rows 11 id o (found_some g e))
+
+-- there is room for its windows
+pub laid_fits : (rows : List ℤ) (o : ℕ) {l : List TimeWindow} → refusal_of rows ≡ None → l ≡ [] → length l + count_below (owned_by rows o 15) (row_count rows) ≤ 800
+laid_fits rows o ok h = let s = (accepted rows ok).short in all_fit rows o 15 _ h (omega arith)
 
 -- ---- the answers
 
@@ -211,12 +211,11 @@ module _ (rows : List ℤ) {v : Result Unit Refusal} where
   pub no_refusal : verdict_of v ≡ refusal_of rows → v ≡ Ok tt → refusal_of rows ≡ None
   no_refusal e f = sym e ∙ ap verdict_of f
 
-  module _ {k₀ l₀ o₀ k l o : List ℕ} (i : Indexing rows k₀ l₀ o₀ v k l o) (f : v ≡ Ok tt) where
-    pub kinds_of : Kinds rows k
-    kinds_of = (tables_of rows i (no_refusal i.verdict f)).kinds
-
-    pub owned_of : Owned rows o
-    owned_of = (tables_of rows i (no_refusal i.verdict f)).owned
+  pub indexed_of : {k₀ l₀ o₀ k l o : List ℕ} → Indexing rows k₀ l₀ o₀ v k l o → v ≡ Ok tt → Indexed rows k l o
+  indexed_of i f =
+      let e = no_refusal i.verdict f in
+      let t = tables_of rows i e in
+      record { accepted = e; by_kind = t.kinds; linked = t.links; by_owner = t.owned }
 
   pub inquiry_refused : (resource start work : ℤ) {x : Refusal} {a : Result InquiryEnd Refusal} → verdict_of v ≡ refusal_of rows → v ≡ Err x → a ≡ Err x
       → outcome_of a ≡ inquiry rows resource start work

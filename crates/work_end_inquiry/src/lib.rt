@@ -5,9 +5,7 @@ ghost use Rattle.std.specs.Prelude.{◌≡◌, true, [], ◌∷◌};
 ghost use Rattle.std.specs.Prelude.{None};
 ghost use Rattle.calendar.specs.Clock.{clock};
 ghost use Rattle.calendar.specs.WorkEnd.{joint_work_end};
-ghost use Rattle.sheet.specs.inner.Index.{Kinds};
 ghost use Rattle.sheet.specs.Refusals.{refusal_of};
-ghost use Rattle.owners.specs.inner.Owners.{Owned};
 ghost use Rattle.model.specs.Sheet.{sheet};
 ghost use Rattle.model.specs.Resource.{windows};
 ghost use Rattle.window_rows.specs.Listed.{listed, calendar_in};
@@ -15,9 +13,10 @@ ghost use Rattle.work_end_inquiry.specs.Inquiry.{ends, outcome_of, in_order, inq
 ghost use Rattle.work_end_inquiry.specs.inner.Said.{said};
 
 use calendar::{Calendars, Places};
+use model::Sheet;
 use refusals::{Reason, Refusal};
-use rows::Class;
-use sheet::Found;
+use rows::{Class, Kind};
+use sheet::{Found, KindIndex, Rows};
 use window_rows::WindowList;
 
 // The work ends at an instant; or the start is no working time; or too little working time follows.
@@ -38,35 +37,27 @@ fn in_order(start: i64, work: i64) -> bool
 }
 
 // Lays out the windows of the resource of that id: none where the sheet has no such resource.
-fn resource_windows(
-    rows: &[i64],
-    kinds: &[u16; 3680],
-    owned: &[u16; 8810],
-    id: u64,
-    list: &mut WindowList,
-)
-    requires { (refusal_of rows.now ≡ None) × Kinds rows.now kinds.now × Owned rows.now owned.now × (listed list.old ≡ []) }
+#[tactic(auto, using(crate::proofs::Ends::laid_absent, crate::proofs::Ends::laid_found))]
+fn resource_windows(rows: &Sheet, id: u64, list: &mut WindowList)
+    requires { (refusal_of rows.now ≡ None) × (listed list.old ≡ []) }
     ensures { calendar_in list.new ≡ windows (sheet rows.now) 15 id }
 {
-    let Found::At(o) = sheet::find_resource(rows, kinds, id) else {
-        return;
-    };
-    window_rows::gather_windows(rows, owned, o, 15, list);
+    match rows.find_resource(id) {
+        Found::At(o) => {
+            window_rows::gather_windows(&rows.by_owner(), o, Kind::ResourceWindow, list)
+        }
+        Found::Nothing => {}
+    }
 }
 
 // Lays out the windows of the resource that a number names: none where it is no id.
-fn resource_calendar(
-    rows: &[i64],
-    kinds: &[u16; 3680],
-    owned: &[u16; 8810],
-    resource: i64,
-    list: &mut WindowList,
-)
-    requires { (refusal_of rows.now ≡ None) × Kinds rows.now kinds.now × Owned rows.now owned.now × (listed list.old ≡ []) }
+#[tactic(auto, using(crate::proofs::Ends::laid_known, crate::proofs::Ends::laid_unknown))]
+fn resource_calendar(rows: &Sheet, resource: i64, list: &mut WindowList)
+    requires { (refusal_of rows.now ≡ None) × (listed list.old ≡ []) }
     ensures { calendar_in list.new ≡ inquired_calendar rows.now resource }
 {
     if Class::Id.allows(resource) {
-        resource_windows(rows, kinds, owned, rows::nat(resource), list);
+        resource_windows(rows, rows::nat(resource), list);
     }
 }
 
@@ -77,25 +68,18 @@ fn answer_of(a: calendar::WorkEnd) -> InquiryAnswer
     match a {
         calendar::WorkEnd::End(e) => Ok(InquiryEnd::End(e)),
         calendar::WorkEnd::Pause => Ok(InquiryEnd::Pause),
-        calendar::WorkEnd::Never => Ok(InquiryEnd::Never),
-        calendar::WorkEnd::Beyond => Ok(InquiryEnd::Never),
+        calendar::WorkEnd::Never | calendar::WorkEnd::Beyond => Ok(InquiryEnd::Never),
     }
 }
 
-fn ending(
-    rows: &[i64],
-    kinds: &[u16; 3680],
-    owned: &[u16; 8810],
-    resource: i64,
-    start: i64,
-    work: i64,
-) -> InquiryAnswer
-    requires { (refusal_of rows.now ≡ None) × Kinds rows.now kinds.now × Owned rows.now owned.now × (in_order start work ≡ true) }
+#[tactic(auto, using(crate::proofs::Ends::ending_said))]
+fn ending(rows: &Sheet, resource: i64, start: i64, work: i64) -> InquiryAnswer
+    requires { (refusal_of rows.now ≡ None) × (in_order start work ≡ true) }
     ensures { outcome_of result ≡ ends (joint_work_end clock (inquired_calendar rows.now resource ∷ []) start work) }
 {
     let mut room = [window_rows::NO_WINDOW; 800];
     let mut list = WindowList::over(&mut room);
-    resource_calendar(rows, kinds, owned, resource, &mut list);
+    resource_calendar(rows, resource, &mut list);
     let all = [Places {
         from: 0,
         to: list.len(),
@@ -107,6 +91,7 @@ fn ending(
     answer_of(calendar.joint_work_end(rows::nat(start), work))
 }
 
+#[tactic(auto, using(crate::proofs::Ends::no_refusal, crate::proofs::Ends::inquiry_own, crate::proofs::Ends::inquiry_ends))]
 pub fn work_end(rows: &[i64], resource: i64, start: i64, work: i64) -> InquiryAnswer
     ensures { outcome_of result ≡ inquiry rows.now resource start work }
 {
@@ -117,5 +102,10 @@ pub fn work_end(rows: &[i64], resource: i64, start: i64, work: i64) -> InquiryAn
     if !in_order(start, work) {
         return Err(Reason::OutOfRange.at(0));
     }
-    ending(rows, &kinds, &owned, resource, start, work)
+    ending(
+        &Sheet::new(rows, &kinds, &links, &owned),
+        resource,
+        start,
+        work,
+    )
 }

@@ -1,12 +1,12 @@
 -- How calendars come to be laid out one behind the other. Assumes nothing.
-use Rattle.std.specs.Prelude.{ℕ, ◌+◌, ◌≤◌, ◌≡◌, Bool, true, false, ◌&&◌, List, [], ◌∷◌, ◌++◌, ltb, ℤ, length}
+use Rattle.std.specs.Prelude.{ℕ, ◌+◌, ◌≤◌, ◌≡◌, Bool, ◌&&◌, List, [], ◌∷◌, ◌++◌, ltb, ℤ, length}
 use Rattle.loops.specs.Lists.{given}
 use Rattle.loops.specs.Range.{collect}
 use Rattle.loops.specs.Search.{count_below}
 use Rattle.calendar.specs.Calendar.{Calendar}
 use Rattle.rows.specs.Cells.{row_count, num, is}
 use Rattle.sheet.specs.Places.{of_kind}
-use Rattle.owners.specs.inner.Owners.{own_place, owned_by}
+use Rattle.owners.specs.inner.Owners.{own_place}
 use Rattle.model.specs.Sheet.{sheet}
 use Rattle.model.specs.Resource.{windows}
 use Rattle.window_rows.specs.Listed.{listed, calendar_in}
@@ -23,11 +23,6 @@ pub record Added (x : Calendar ℤ) (m : ℕ) (l l' : LaidCalendars) : Type 0 wh
 -- the calendar of row r's resource, where it is marked
 unfoldable pub calendar_at : List ℤ → List Bool → ℕ → List (Calendar ℤ)
 calendar_at rows marks r = given (marked marks r) (windows (sheet rows) 15 (num rows r 1))
-
--- the calendar of row r's resource is laid out behind the others, where it is marked; else nothing is changed
-pub record AddedAt (rows : List ℤ) (marks : List Bool) (r : ℕ) (l l' : LaidCalendars) : Type 0 where
-  pub taken : marked marks r ≡ true → Added (windows (sheet rows) 15 (num rows r 1)) (count_below (owned_by rows r 15) (row_count rows)) l l'
-  pub passed : marked marks r ≡ false → l' ≡ l
 
 -- row j is a window of a resource above row i
 unfoldable pub window_above : List ℤ → ℕ → ℕ → Bool
