@@ -1,9 +1,11 @@
 -- Some piece starts before the work reaches it: the test of the pieces is a test of the bookings. Assumes nothing.
-use Prim.Native.Nat.{ℕ, zero, suc, ◌+◌, ◌<◌, ◌≤◌}
+use Prim.Native.Nat.{ℕ, zero, suc, ◌+◌, ◌<◌}
 use mathlib.Core.Path.{◌≡◌, refl, sym, ap, ◌∙◌}
-use mathlib.Core.Bool.{Bool, true, false, cond, not, ◌&&◌, true≢false, and-false, or-false}
+use mathlib.Core.Bool.{Bool, true, false, cond, not, ◌&&◌, true≢false, or-false}
 use mathlib.Core.List.{List, [], ◌∷◌, foldl}
-use Rattle.std.specs.Prelude.{Option, None, Some}
+use Rattle.std.specs.Prelude.{Option, None, Some, MatchOption}
+use Rattle.spans.specs.declared.Span.{Span}
+use Rattle.spans.specs.inner.Activities.{span_meant}
 use native.Mathlib.Omega.{arith}
 use lib.Dec.{eqb, ltb}
 use lib.IntN.{ℤ, pos}
@@ -11,24 +13,20 @@ use lib.Signed.{lt_z}
 use borrow.Author.Tests.{ltb-true, lt-ltb, eq-eqb, eqb-true}
 use Rattle.loops.specs.Lists.{any_of, option}
 use Rattle.loops.specs.Range.{fold}
-use Rattle.loops.specs.Search.{any_below, first_place}
-use Rattle.loops.specs.inner.Chain.{only, only_at, Blind, Stands}
+use Rattle.loops.specs.Search.{any_below}
+use Rattle.loops.specs.inner.Chain.{only, only_at, Blind}
 use Rattle.loops.specs.Ordered.{Entry, upsert, values}
 use Rattle.loops.proofs.OrderedLaws.{alike, not_self, lookup, any_stored, stored_any}
 use Rattle.loops.proofs.BoolLaws.{and_left, and_right, both, not_true, both_ways}
 use Rattle.loops.proofs.ListLaws.{foldl_collect}
 use Rattle.loops.proofs.RangeLaws.{fold_ext}
-use Rattle.loops.proofs.SearchLaws.{any_hit}
-use Rattle.loops.proofs.PlaceLaws.{found_at, place_none, hit}
+use Rattle.loops.proofs.SearchLaws.{any_hit, any_none}
+use Rattle.loops.proofs.PlaceLaws.{hit}
+use Rattle.chains.specs.Places.{places}
+use Rattle.chains.proofs.PlaceLaws.{any_places}
 use Rattle.calendar.specs.Clock.{clock}
 use Rattle.rows.specs.Cells.{row_count, num, is}
 use Rattle.sheet.specs.inner.Accepted.{Accepted}
-use Rattle.sheet.specs.declared.Found.{Found}
-use Rattle.sheet.specs.declared.Found.TheVariants.{At, Nothing}
-use Rattle.sheet.specs.inner.Found.{found_of}
-use Rattle.spans.specs.declared.ActivitySpan.{ActivitySpan}
-use Rattle.spans.specs.declared.ActivitySpan.TheVariants.{Between}
-use Rattle.spans.specs.inner.Activities.{span_meant}
 use Rattle.sheet.proofs.Lookups.{is_num}
 use Rattle.owners.specs.inner.Owners.{owner_kind, own_place, owned_by}
 use Rattle.model.specs.Sheet.{sheet}
@@ -176,7 +174,7 @@ module _ (rows : List ℤ) (acc : Accepted rows) (o : ℕ) (l : o < row_count ro
 
     -- ---- the pieces of an activity that is booked, and of one that is not
 
-    pub booked_is : (k : ℕ) {b : Bool} → k < row_count rows → owned_by rows o 23 k ≡ true → b ≡ any_below judged (row_count rows) → b ≡ any_of too_early (pieces_of clock (sheet rows) (num rows o 1))
+    booked_is : (k : ℕ) {b : Bool} → k < row_count rows → owned_by rows o 23 k ≡ true → b ≡ any_below judged (row_count rows) → b ≡ any_of too_early (pieces_of clock (sheet rows) (num rows o 1))
     unfolding pieces_of
     booked_is k c e f = f ∙ judged_is ∙ ap (any_of too_early) (go (by_part clock (sheet rows) (num rows o 1)) refl)
       where
@@ -194,7 +192,7 @@ module _ (rows : List ℤ) (acc : Accepted rows) (o : ℕ) (l : o < row_count ro
     none_mapped zero e = refl
     none_mapped (suc n) e = rw (e n (omega arith)) (none_mapped n (λ k c. e k (omega arith)))
 
-    pub timed_is : {b : Bool} → ((k : ℕ) → k < row_count rows → owned_by rows o 23 k ≡ false)
+    timed_is : {b : Bool} → ((k : ℕ) → k < row_count rows → owned_by rows o 23 k ≡ false)
         → b ≡ option (activity_span clock (sheet rows) (num rows o 1)) false (λ y. clock.before y.start (pos from)) → b ≡ any_of too_early (pieces_of clock (sheet rows) (num rows o 1))
     unfolding pieces_of
     timed_is e f = f ∙ go (activity_span clock (sheet rows) (num rows o 1)) ∙ ap (λ m. any_of too_early (or_time_only clock (sheet rows) (num rows o 1) (values m))) (sym (pieces_are ∙ none_mapped (row_count rows) e))
@@ -206,19 +204,23 @@ module _ (rows : List ℤ) (acc : Accepted rows) (o : ℕ) (l : o < row_count ro
         go None = unfold any_of in refl
         go (Some y) = sym (unfold any_of in (or-false _ ∙ none_far y.start))
 
--- ---- one booking, one span
+    -- the two answers, by whether there is a booking
+    module _ {booked b : Bool} (e : booked ≡ any_below (owned_by rows o 23) (row_count rows)) where
+      pub by_bookings : booked ≡ true → b ≡ any_of (unreached_at rows a from) (places (owned_by rows o 23) (row_count rows)) → b ≡ any_of too_early (pieces_of clock (sheet rows) (num rows o 1))
+      by_bookings f g =
+          let k = hit (owned_by rows o 23) (row_count rows) (sym e ∙ f) in
+          booked_is k.place k.below k.passes (g ∙ any_places (owned_by rows o 23) (unreached_at rows a from) (row_count rows))
 
-module _ (rows : List ℤ) (k j bound : ℕ) {r : Bool} (e : r ≡ in_piece rows k j) where
-  pub starts_in : {x : ℕ} → r ≡ true → x ≡ num rows j 4 → ltb x bound ≡ starts_at rows k bound j
-  unfolding starts_at
-  starts_in h f = rw (sym e ∙ h) (ap (λ z. ltb z bound) f)
-
-  pub starts_apart : r ≡ false → false ≡ starts_at rows k bound j
-  unfolding starts_at
-  starts_apart h = rw (sym e ∙ h)
-
-pub span_starts : {x : ActivitySpan} {a e : ℕ} (from : ℕ) → x ≡ Between a e → ltb a from ≡ option (span_meant x) false (λ y. clock.before y.start (pos from))
-span_starts from z = rw z
+      pub by_span : booked ≡ false → {id : ℕ} (x : Option Span) → id ≡ num rows o 1 → span_meant x ≡ activity_span clock (sheet rows) id
+          → {P : Span → Type 0} → MatchOption x (b ≡ false) P → ((y : Span) → P y → b ≡ ltb y.start from) → b ≡ any_of too_early (pieces_of clock (sheet rows) (num rows o 1))
+      by_span f x i s m p =
+          timed_is (λ k c. any_none (owned_by rows o 23) (row_count rows) k (sym e ∙ f) c)
+          (go x m p ∙ ap (λ y. option y false (λ y. clock.before y.start (pos from))) (s ∙ ap (activity_span clock (sheet rows)) i))
+        where
+          go : (x : Option Span) {P : Span → Type 0} → MatchOption x (b ≡ false) P → ((y : Span) → P y → b ≡ ltb y.start from)
+              → b ≡ option (span_meant x) false (λ y. clock.before y.start (pos from))
+          go None m p = m
+          go (Some y) m p = p y m
 
 -- ---- along the chain of the bookings
 
@@ -229,34 +231,9 @@ module _ (rows : List ℤ) where
       chains.piece_owned rows k o (owned_kind rows o 23 k e) (sym (eqb-true (own_place rows k) o (and_right (is rows k 0 23) (eqb (own_place rows k) o) e))) j
       (and_left (in_piece rows k j) (ltb (num rows j 4) bound) f)
 
-  pub judged_blind : (o a from : ℕ) → Blind (owned_by rows o 23) (λ k. owned_by rows o 23 k && unreached_at rows a from k)
-  judged_blind o a from = blind_if _ _ λ k f. and_left (owned_by rows o 23 k) (unreached_at rows a from k) f
-
   pub unreached_told : (a from k : ℕ) {r : Bool} {m x : ℕ} → r ≡ any_below (starts_at rows k (from + m)) (row_count rows)
       → m ≡ transport_between (sheet rows) (runs_on_all clock (sheet rows) a) (x ∷ []) → x ≡ num rows k 3 → r ≡ unreached_at rows a from k
   unfolding unreached_at
   unreached_told a from k e f g =
       e
       ∙ ap (λ z. any_below (starts_at rows k (from + z)) (row_count rows)) (f ∙ ap (λ z. transport_between (sheet rows) (runs_on_all clock (sheet rows) a) (z ∷ [])) g)
-
-  module _ (o a from k : ℕ) {b : Bool} (e : b ≡ unreached_at rows a from k) where
-    pub judged_here : {n N : ℕ} → k < N → N ≡ n → Stands (owned_by rows o 23) n k → b ≡ true → (owned_by rows o 23 k && unreached_at rows a from k) ≡ true
-    judged_here l z s h = both (s.here (omega arith)) (sym e ∙ h)
-
-    pub judged_not : b ≡ false → (owned_by rows o 23 k && unreached_at rows a from k) ≡ false
-    judged_not h = rw (sym e ∙ h) (and-false (owned_by rows o 23 k))
-
--- the two answers of `piece_is_early`, by the first booking; m and u only say which row and which instant are meant, since `early` shows them under a binder
-module _ (rows : List ℤ) (acc : Accepted rows) (o : ℕ) (l : o < row_count rows) (h : is rows o 0 2 ≡ true) (before from : ℕ) (m : before < row_count rows) (u : from ≤ 4000000000000)
-    (early : PlacedPiece ℤ → Bool) (t : early ≡ too_early rows acc o l h (num rows before 1) from) {f : Found} (q : found_of f ≡ first_place (owned_by rows o 23) (row_count rows)) {b : Bool} where
-  pub some_booked : {k : ℕ} → f ≡ At k → b ≡ any_below (λ k. owned_by rows o 23 k && unreached_at rows (num rows before 1) from k) (row_count rows)
-      → b ≡ any_of early (pieces_of clock (sheet rows) (num rows o 1))
-  some_booked {k} z e = let g = found_at _ (row_count rows) k (sym q ∙ ap found_of z) in rw t (booked_is rows acc o l h (num rows before 1) from k g.0 g.1 e)
-
-  pub none_booked : f ≡ Nothing → {x : Option (page.Span ℤ)} {id : ℕ} → b ≡ option x false (λ y. clock.before y.start (pos from))
-      → x ≡ activity_span clock (sheet rows) id → id ≡ num rows o 1
-      → b ≡ any_of early (pieces_of clock (sheet rows) (num rows o 1))
-  none_booked z e g i =
-      rw t
-      (timed_is rows acc o l h (num rows before 1) from (place_none _ (row_count rows) (sym q ∙ ap found_of z))
-      (e ∙ ap (λ y. option y false (λ y. clock.before y.start (pos from))) (g ∙ ap (activity_span clock (sheet rows)) i)))

@@ -19,17 +19,15 @@ use Rattle.loops.proofs.BoolLaws.{and_left, and_right, both}
 use Rattle.calendar.specs.Clock.{clock}
 use Rattle.rows.specs.Cells.{row_count, cell, num, is}
 use Rattle.rows.proofs.Signed.{signed_time}
-use Rattle.sheet.specs.Places.{of_kind, place_of}
+use Rattle.sheet.specs.Places.{named, place_of}
 use Rattle.sheet.specs.inner.Accepted.{Accepted}
-use Rattle.sheet.specs.declared.Found.TheVariants.{At, Nothing}
 use Rattle.sheet.proofs.Lookups.{placed}
 use Rattle.model.specs.Sheet.{sheet}
 use Rattle.model.proofs.Accepting.{at_most, in_class_lem}
 use Rattle.definition.specs.ActivitySpan as page
 use Rattle.definition.specs.ActivitySpan.{activity_span}
-use Rattle.spans.specs.declared.ActivitySpan.{ActivitySpan}
-use Rattle.spans.specs.declared.ActivitySpan.TheVariants.{Between}
-use Rattle.spans.specs.inner.Activities.{span_meant, widened, widen_if}
+use Rattle.spans.specs.declared.Span.{Span}
+use Rattle.spans.specs.inner.Activities.{span_meant, widened, widen_by}
 use Rattle.spans.proofs.Running.{runs_booked, runs_timed}
 
 -- an instant in its class
@@ -67,16 +65,16 @@ module _ (rows : List ℤ) (acc : Accepted rows) where
   unfolding early
   instant_early k x c l = le-leb (num rows k c) 4000000000000 l
 
-  booked_step : (id : ℕ) (x : Option (page.Span ℤ)) (k : ℕ) → bounded x ≡ true → bounded (only_at (of_kind rows 23) (widen_if rows id) x k) ≡ true
-  unfolding only_at of_kind widen_if
+  booked_step : (id : ℕ) (x : Option (page.Span ℤ)) (k : ℕ) → bounded x ≡ true → bounded (only_at (named rows 23 id) (widen_by rows) x k) ≡ true
+  unfolding only_at named
   booked_step id x k h = go (is rows k 0 23) (is rows k 1 id) refl
     where
-      go : (b c : Bool) → is rows k 0 23 ≡ b → bounded (cond b (cond c (widened x (pos (num rows k 4)) (pos (num rows k 5))) x) x) ≡ true
+      go : (b c : Bool) → is rows k 0 23 ≡ b → bounded (cond (b && c) (widened x (pos (num rows k 4)) (pos (num rows k 5))) x) ≡ true
       go true true e = wider x _ _ (instant_early k 23 4 (at_most rows acc k 23 4 e)) (instant_early k 23 5 (at_most rows acc k 23 5 e)) h
       go true false e = h
       go false c e = h
 
-  booked_early : (id n : ℕ) → bounded (fold (only_at (of_kind rows 23) (widen_if rows id)) None n) ≡ true
+  booked_early : (id n : ℕ) → bounded (fold (only_at (named rows 23 id) (widen_by rows)) None n) ≡ true
   unfolding fold bounded
   booked_early id zero = refl
   booked_early id (suc n) = booked_step id _ n (booked_early id n)
@@ -85,17 +83,17 @@ module _ (rows : List ℤ) (acc : Accepted rows) where
   span_early id = go (place_of rows 24 id) refl
     where
       go : (o : Option ℕ) → place_of rows 24 id ≡ o → bounded (activity_span clock (sheet rows) id) ≡ true
-      go None e = rw (← runs_booked rows id {f = Nothing} (sym e) refl refl) (booked_early id (row_count rows))
+      go None e = rw (← runs_booked rows id {f = None} (sym e) refl refl) (booked_early id (row_count rows))
       go (Some k) e =
           let h : is rows k 0 24 ≡ true = unfold is in eq-eqb (num rows k 0) 24 (placed rows 24 id k e).kind in
-          rw (← runs_timed rows id {f = At k} (sym e) refl refl refl) (pair_early _ _ (instant_early k 24 3 (at_most rows acc k 24 3 h)) (instant_early k 24 4 (at_most rows acc k 24 4 h)))
+          rw (← runs_timed rows id {f = Some k} (sym e) refl refl refl) (pair_early _ _ (instant_early k 24 3 (at_most rows acc k 24 3 h)) (instant_early k 24 4 (at_most rows acc k 24 4 h)))
 
-  module _ (id : ℕ) {x : ActivitySpan} {a e : ℕ} (q : span_meant x ≡ activity_span clock (sheet rows) id) (z : x ≡ Between a e) where
-    pub start_most : a ≤ 4000000000000
-    start_most = (pair_of a e (rw (← q, z) at (span_early id))).0
+  module _ (id : ℕ) {x : Option Span} {s : Span} (q : span_meant x ≡ activity_span clock (sheet rows) id) (z : x ≡ Some s) where
+    pub start_most : s.start ≤ 4000000000000
+    start_most = (pair_of s.start s.end (rw (← q, z) at (span_early id))).0
 
-    pub end_most : e ≤ 4000000000000
-    end_most = (pair_of a e (rw (← q, z) at (span_early id))).1
+    pub end_most : s.end ≤ 4000000000000
+    end_most = (pair_of s.start s.end (rw (← q, z) at (span_early id))).1
 
   -- a delay in its class
   pub delay_most : (k : ℕ) (d : ℤ) → is rows k 0 17 ≡ true → d ≡ cell rows k 3 → mag d < 2 ^ hbits w64 → nat_abs (to_z w64 (of_z w64 d)) ≤ 8000000000000

@@ -7,20 +7,21 @@ ghost use Rattle.std.specs.Int.Signed.{lt_z};
 ghost use Rattle.loops.specs.Lists.{each};
 ghost use Rattle.calendar.specs.Clock.{clock};
 ghost use Rattle.rows.specs.Cells.{row_count, num, is};
-ghost use Rattle.sheet.specs.inner.Index.{Kinds};
 ghost use Rattle.sheet.specs.inner.Accepted.{Accepted};
-ghost use Rattle.owners.specs.inner.Owners.{Owned};
-ghost use Rattle.findings.specs.inner.Sink.{sink, emit};
+ghost use Rattle.findings.specs.inner.Told.{so_far, tell};
 ghost use Rattle.model.specs.Sheet.{sheet};
 ghost use Rattle.model.specs.Activity.{activities_of, predecessors};
 ghost use Rattle.model.specs.Constraint.{constraint_at, constraints};
 ghost use Rattle.definition.specs.CheckPrecedence.{end_to_start, check_precedence_constraint};
 ghost use Rattle.check7_end_to_start.specs.inner.Early.{starts_early};
 
-use findings::Violation;
-use spans::ActivitySpan;
+use findings::{Findings, Violation, ViolationKind};
+use owners::{ByOwner, OwnerIndex};
+use rows::Kind;
+use sheet::{ByKind, KindIndex, Rows};
 
 // Whether an instant is before another and a signed delay.
+#[tactic(auto, using(loops::proofs::IntegerLaws::sum_mag))]
 pub fn is_before(start: u64, end: u64, delay: i64) -> bool
     requires { (start ≤ 4000000000000) × (end ≤ 4000000000000) × (nat_abs delay ≤ 8000000000000) }
     ensures { result ≡ lt_z (pos start) (pos end +ℤ delay) }
@@ -29,120 +30,73 @@ pub fn is_before(start: u64, end: u64, delay: i64) -> bool
 }
 
 // Whether `after` starts before `delay` after `before` ends.
-fn starts_early(rows: &[i64], kinds: &[u16; 3680], before: u64, after: u64, delay: i64) -> bool
-    requires { Accepted rows.now × Kinds rows.now kinds.now × (nat_abs delay ≤ 8000000000000) }
+#[tactic(auto, unfolding(crate::specs::inner::Early::starts_early))]
+fn starts_early(rows: &ByKind, before: u64, after: u64, delay: i64) -> bool
+    requires { Accepted rows.now × (nat_abs delay ≤ 8000000000000) }
     ensures { result ≡ starts_early rows.now before after delay }
 {
-    let first = spans::activity_span(rows, kinds, before);
-    let ActivitySpan::Between(_, end) = first else {
+    let Some(first) = spans::activity_span(rows, before) else {
         return false;
     };
-    let second = spans::activity_span(rows, kinds, after);
-    let ActivitySpan::Between(start, _) = second else {
+    let Some(second) = spans::activity_span(rows, after) else {
         return false;
     };
-    is_before(start, end, delay)
+    is_before(second.start, first.end, delay)
 }
 
-fn end_to_start(
-    rows: &[i64],
-    kinds: &[u16; 3680],
-    before: u64,
-    after: u64,
-    delay: i64,
-    out: &mut [i64],
-    n: usize,
-) -> usize
-    requires { Accepted rows.now × Kinds rows.now kinds.now × (nat_abs delay ≤ 8000000000000) × (after < 9223372036854775808) }
-    ensures { sink out.new result ≡ emit (sink out.old n) (end_to_start clock (sheet rows.now) before after delay) }
+#[tactic(auto, using(crate::proofs::Told::early_found))]
+fn end_to_start(rows: &ByKind, before: u64, after: u64, delay: i64, found: &mut Findings)
+    requires { Accepted rows.now × (nat_abs delay ≤ 8000000000000) × (after < 9223372036854775808) }
+    ensures { so_far found.new ≡ tell (so_far found.old) (end_to_start clock (sheet rows.now) before after delay) }
 {
-    let early = starts_early(rows, kinds, before, after, delay);
-    let f = Violation {
-        check: 7,
-        kind: 3,
-        entity: after,
-        severity: 95,
-    };
-    findings::report(out, n, early, f)
+    let early = starts_early(rows, before, after, delay);
+    found.report(
+        early,
+        Violation::of(7, ViolationKind::PrecedenceViolation, after),
+    );
 }
 
 // The activity of row o against its predecessors.
-fn check_predecessors(
-    rows: &[i64],
-    kinds: &[u16; 3680],
-    owned: &[u16; 8810],
-    o: usize,
-    out: &mut [i64],
-    n: usize,
-) -> usize
-    requires { Accepted rows.now × Kinds rows.now kinds.now × Owned rows.now owned.now × (o < row_count rows.now) × (is rows.now o 0 2 ≡ true) }
-    ensures { sink out.new result ≡ emit (sink out.old n) (each (λ p. end_to_start clock (sheet rows.now) p (num rows.now o 1) (pos 0)) (predecessors (sheet rows.now) (num rows.now o 1))) }
+#[tactic(auto, using(crate::proofs::Told::predecessors_told))]
+fn check_predecessors(rows: &ByKind, owners: &ByOwner, o: usize, found: &mut Findings)
+    requires { (owners.now ≡ rows.now) × Accepted rows.now × (o < row_count rows.now) × (is rows.now o 0 2 ≡ true) }
+    ensures { so_far found.new ≡ tell (so_far found.old) (each (λ p. end_to_start clock (sheet rows.now) p (num rows.now o 1) (pos 0)) (predecessors (sheet rows.now) (num rows.now o 1))) }
 {
-    let count = rows::row_count(rows);
-    let after = rows::id_at(rows, o, 1);
-    let mut m = n;
-    let mut i = owners::first_owned(rows, owned, o, 8);
-    while i < count {
-        m = end_to_start(rows, kinds, rows::num_at(rows, i, 2), after, 0, out, m);
-        i = owners::next_owned(rows, owned, o, 8, i);
+    let after = rows.num(o, 1);
+    for k in owners.owned_by(o, Kind::Predecessor) {
+        end_to_start(rows, rows.num(k, 2), after, 0, found);
     }
-    m
 }
 
 // The activities of the task of row t against their predecessors.
-pub fn check_all_predecessors(
-    rows: &[i64],
-    kinds: &[u16; 3680],
-    owned: &[u16; 8810],
-    t: usize,
-    out: &mut [i64],
-    n: usize,
-) -> usize
-    requires { Accepted rows.now × Kinds rows.now kinds.now × Owned rows.now owned.now × (t < row_count rows.now) × (is rows.now t 0 1 ≡ true) }
-    ensures { sink out.new result ≡ emit (sink out.old n) (each (λ a. each (λ p. end_to_start clock (sheet rows.now) p a.id (pos 0)) (predecessors (sheet rows.now) a.id)) (activities_of (sheet rows.now) (num rows.now t 1))) }
+#[tactic(auto, using(chains::proofs::PlaceLaws::left_all, crate::proofs::Told::activities_told, model::proofs::OwnedLaws::owned_kind))]
+pub fn check_all_predecessors(rows: &ByKind, owners: &ByOwner, t: usize, found: &mut Findings)
+    requires { (owners.now ≡ rows.now) × Accepted rows.now × (t < row_count rows.now) × (is rows.now t 0 1 ≡ true) }
+    ensures { so_far found.new ≡ tell (so_far found.old) (each (λ a. each (λ p. end_to_start clock (sheet rows.now) p a.id (pos 0)) (predecessors (sheet rows.now) a.id)) (activities_of (sheet rows.now) (num rows.now t 1))) }
 {
-    let count = rows::row_count(rows);
-    let mut m = n;
-    let mut i = owners::first_owned(rows, owned, t, 2);
-    while i < count {
-        m = check_predecessors(rows, kinds, owned, i, out, m);
-        i = owners::next_owned(rows, owned, t, 2, i);
+    for k in owners.owned_by(t, Kind::Activity) {
+        check_predecessors(rows, owners, k, found);
     }
-    m
 }
 
 // The precedence constraint of row k.
-fn check_precedence_constraint(
-    rows: &[i64],
-    kinds: &[u16; 3680],
-    k: usize,
-    out: &mut [i64],
-    n: usize,
-) -> usize
-    requires { Accepted rows.now × Kinds rows.now kinds.now × (is rows.now k 0 17 ≡ true) }
-    ensures { sink out.new result ≡ emit (sink out.old n) (each (check_precedence_constraint clock (sheet rows.now)) (constraint_at (sheet rows.now) k)) }
+#[tactic(auto, using(crate::proofs::Told::constraint_found, crate::proofs::Bounds::delay_most))]
+fn check_precedence_constraint(rows: &ByKind, k: usize, found: &mut Findings)
+    requires { Accepted rows.now × (is rows.now k 0 17 ≡ true) }
+    ensures { so_far found.new ≡ tell (so_far found.old) (each (check_precedence_constraint clock (sheet rows.now)) (constraint_at (sheet rows.now) k)) }
 {
-    let before = rows::num_at(rows, k, 1);
-    let after = rows::id_at(rows, k, 2);
-    let delay = rows::cell_at(rows, k, 3);
-    end_to_start(rows, kinds, before, after, delay, out, n)
+    let before = rows.num(k, 1);
+    let after = rows.num(k, 2);
+    let delay = rows.cell(k, 3);
+    end_to_start(rows, before, after, delay, found);
 }
 
-pub fn check_precedence_constraints(
-    rows: &[i64],
-    kinds: &[u16; 3680],
-    out: &mut [i64],
-    n: usize,
-) -> usize
-    requires { Accepted rows.now × Kinds rows.now kinds.now }
-    ensures { sink out.new result ≡ emit (sink out.old n) (each (check_precedence_constraint clock (sheet rows.now)) (constraints (sheet rows.now))) }
+#[tactic(auto, using(chains::proofs::PlaceLaws::left_all, crate::proofs::Told::constraints_told), unfolding(sheet::specs::Places::of_kind))]
+pub fn check_precedence_constraints(rows: &ByKind, found: &mut Findings)
+    requires { Accepted rows.now }
+    ensures { so_far found.new ≡ tell (so_far found.old) (each (check_precedence_constraint clock (sheet rows.now)) (constraints (sheet rows.now))) }
 {
-    let count = rows::row_count(rows);
-    let mut m = n;
-    let mut i = sheet::first_of(rows, kinds, 17);
-    while i < count {
-        m = check_precedence_constraint(rows, kinds, i, out, m);
-        i = sheet::next_of(rows, kinds, 17, i);
+    for k in rows.of_kind(Kind::Precedence) {
+        check_precedence_constraint(rows, k, found);
     }
-    m
 }

@@ -15,18 +15,14 @@ use borrow.Author.Rules.{sfits_of}
 use Rattle.loops.specs.Lists.{given, head, option}
 use Rattle.loops.specs.Search.{first_place, some_if}
 use Rattle.loops.proofs.ListLaws.{head_collect, head_given}
-use Rattle.loops.proofs.BoolLaws.{and_left}
 use Rattle.loops.proofs.PlaceLaws.{found_at}
 use Rattle.model.proofs.Finds.{first_same, first_placed}
 use Rattle.rows.specs.Cells.{row_count, cell, num, is}
 use Rattle.rows.proofs.Signed.{signed_time}
 use Rattle.sheet.specs.Places.{place_of}
 use Rattle.sheet.specs.inner.Accepted.{Accepted}
-use Rattle.sheet.specs.declared.Found.{Found}
-use Rattle.sheet.specs.declared.Found.TheVariants.{At, Nothing}
-use Rattle.sheet.specs.inner.Found.{found_of}
 use Rattle.sheet.proofs.Lookups.{is_num}
-use Rattle.owners.specs.inner.Owners.{owner_kind, own_place, owned_by}
+use Rattle.owners.specs.inner.Owners.{owner_kind, owned_by}
 use Rattle.calendar.specs.Clock.{clock}
 use Rattle.overlap.specs.declared.Overlap.{Overlap}
 use Rattle.overlap.specs.Bounds.{overlap_of, earliest_end}
@@ -37,7 +33,7 @@ use Rattle.model.specs.inner.Records.{num_at, int_at}
 use Rattle.model.specs.Activity.{overlap}
 use Rattle.model.proofs.RowLaws.{row_none, row_here}
 use Rattle.model.proofs.Accepting.{at_most, in_class_lem}
-use Rattle.model.proofs.OwnedLaws.{of_activity}
+use Rattle.model.proofs.OwnedLaws.{of_activity, owned_kind}
 
 -- ---- the first row of kind 3 of activity `id`, the head-given of row o
 
@@ -59,16 +55,14 @@ module _ (rows : List ℤ) (o id : ℕ) where
       ∙ first_same _ _ (row_count rows) (lap_at q)
       ∙ first_placed (owned_by rows o 3) (λ k. overlap_of (num rows k 2) (cell rows k 3)) (row_count rows)
 
-  module _ {f : Found} (e : found_of f ≡ first_place (owned_by rows o 3) (row_count rows)) where
-    pub overlap_row : (k : ℕ) → f ≡ At k → place_of rows 2 id ≡ Some o → overlap (sheet rows) id ≡ Some (overlap_of (num rows k 2) (cell rows k 3))
-    overlap_row k z q = overlap_is q ∙ ap (λ x. option x None (λ k. Some (overlap_of (num rows k 2) (cell rows k 3)))) (sym e ∙ ap found_of z)
+  pub overlap_row : (k : ℕ) → Some k ≡ first_place (owned_by rows o 3) (row_count rows) → place_of rows 2 id ≡ Some o → overlap (sheet rows) id ≡ Some (overlap_of (num rows k 2) (cell rows k 3))
+  overlap_row k e q = overlap_is q ∙ ap (λ x. option x None (λ k. Some (overlap_of (num rows k 2) (cell rows k 3)))) (sym e)
 
-    pub no_overlap_lem : f ≡ Nothing → place_of rows 2 id ≡ Some o → overlap (sheet rows) id ≡ None
-    no_overlap_lem z q = overlap_is q ∙ ap (λ x. option x None (λ k. Some (overlap_of (num rows k 2) (cell rows k 3)))) (sym e ∙ ap found_of z)
+  pub no_overlap_lem : None ≡ first_place (owned_by rows o 3) (row_count rows) → place_of rows 2 id ≡ Some o → overlap (sheet rows) id ≡ None
+  no_overlap_lem e q = overlap_is q ∙ ap (λ x. option x None (λ k. Some (overlap_of (num rows k 2) (cell rows k 3)))) (sym e)
 
-pub first_kind : (rows : List ℤ) (o k : ℕ) {f : Found} → found_of f ≡ first_place (owned_by rows o 3) (row_count rows) → f ≡ At k → is rows k 0 3 ≡ true
-unfolding owned_by
-first_kind rows o k e z = and_left (is rows k 0 3) (eqb (own_place rows k) o) (found_at (owned_by rows o 3) (row_count rows) k (sym e ∙ ap found_of z)).1
+pub first_kind : (rows : List ℤ) (o k : ℕ) → Some k ≡ first_place (owned_by rows o 3) (row_count rows) → is rows k 0 3 ≡ true
+first_kind rows o k e = owned_kind rows o 3 k (found_at (owned_by rows o 3) (row_count rows) k (sym e)).1
 
 -- ---- the numbers of an overlap
 

@@ -1,15 +1,15 @@
 -- The longest of moves, booking by booking. Assumes nothing.
-use Prim.Native.Nat.{ℕ, zero, suc, ◌<◌, max}
+use Prim.Native.Nat.{ℕ, ◌<◌, max}
 use mathlib.Core.Path.{◌≡◌, refl, sym, ap, ◌∙◌}
 use mathlib.Core.Bool.{Bool, true, false, cond}
 use mathlib.Core.List.{List, [], ◌∷◌, ◌++◌, map, foldl, foldl-append}
 use native.Mathlib.Omega.{arith}
 use lib.IntN.{ℤ}
-use Rattle.loops.specs.Lists.{each}
-use Rattle.loops.specs.Range.{fold, collect}
-use Rattle.loops.specs.inner.Chain.{only, only_at}
-use Rattle.loops.proofs.ListLaws.{map_collect, map_append, each_collect, foldl_collect}
-use Rattle.loops.proofs.RangeLaws.{fold_ext, collect_ext}
+use Rattle.loops.specs.Lists.{given, each}
+use Rattle.loops.specs.inner.Chain.{only}
+use Rattle.loops.proofs.ListLaws.{map_collect, map_append}
+use Rattle.loops.proofs.RangeLaws.{collect_ext}
+use Rattle.chains.specs.Places.{places}
 use Rattle.calendar.specs.Clock.{clock}
 use Rattle.rows.specs.Cells.{row_count, num, is}
 use Rattle.sheet.specs.inner.Accepted.{Accepted}
@@ -52,10 +52,20 @@ module _ {T : Type 0} (s : Sheet T) where
   between_none [] = refl
   between_none (a ∷ l) = between_none l
 
-  pub between_collect : (l : List ℕ) (g : ℕ → List ℕ) (n : ℕ) → transport_between s l (collect g n) ≡ fold (λ t k. max t (transport_between s l (g k))) 0 n
-  unfolding collect fold
-  between_collect l g zero = between_none l
-  between_collect l g (suc n) = between_both l (collect g n) (g n) ∙ ap (λ z. max z (transport_between s l (g n))) (between_collect l g n)
+  -- a resource more that work is moved to
+  between_more : (m : List ℕ) (r : ℕ → ℕ) (l : List ℕ) (t : ℕ)
+      → max t (transport_between s m (map r l)) ≡ foldl (λ t k. max t (transport_between s m (r k ∷ []))) t l
+  between_more m r [] t = let e = between_none m in omega arith
+  between_more m r (k ∷ l) t =
+      let e = between_both m (r k ∷ []) (map r l) in
+      let q : max t (transport_between s m (r k ∷ map r l)) ≡ max (max t (transport_between s m (r k ∷ []))) (transport_between s m (map r l)) = omega arith in
+      q ∙ between_more m r l (max t (transport_between s m (r k ∷ [])))
+
+  -- and one more that it is moved from
+  between_from : (b : ℕ) (r : ℕ → ℕ) (l : List ℕ) (t : ℕ) → foldl max t (each (λ a. transport_to s a b ∷ []) (map r l)) ≡ foldl (λ t k. max t (transport_to s (r k) b)) t l
+  unfolding each
+  between_from b r [] t = refl
+  between_from b r (k ∷ l) t = between_from b r l (max t (transport_to s (r k) b))
 
 -- a booking more: a move from its resource to b, and one to its resource from one of m
 abbrev pub from_step : List ℤ → ℕ → ℕ → ℕ → ℕ
@@ -64,58 +74,25 @@ from_step rows b t k = max t (transport_to (sheet rows) (num rows k 3) b)
 abbrev pub to_step : List ℤ → List ℕ → ℕ → ℕ → ℕ
 to_step rows m t k = max t (transport_between (sheet rows) m (num rows k 3 ∷ []))
 
-pub from_turn : (rows : List ℤ) (b t k : ℕ) {t' x : ℕ} → t' ≡ max t x → x ≡ transport_to (sheet rows) (num rows k 3) b → t' ≡ from_step rows b t k
-from_turn rows b t k e q = e ∙ ap (max t) q
-
-pub to_turn : (rows : List ℤ) (m : List ℕ) (t k : ℕ) {t' x y : ℕ} → t' ≡ max t x → x ≡ transport_between (sheet rows) m (y ∷ []) → y ≡ num rows k 3 → t' ≡ to_step rows m t k
-to_turn rows m t k e q r = e ∙ ap (max t) (q ∙ ap (λ z. transport_between (sheet rows) m (z ∷ [])) r)
-
-module _ (rows : List ℤ) (acc : Accepted rows) where
-  -- what an activity runs on, row by row
-  pub runs_on_lem : (o : ℕ) → o < row_count rows → is rows o 0 2 ≡ true
-      → runs_on_all clock (sheet rows) (num rows o 1) ≡ collect (only (owned_by rows o 23) (λ k. num rows k 3 ∷ [])) (row_count rows)
-  unfolding runs_on_all only
-  runs_on_lem o l h =
+module _ (rows : List ℤ) (acc : Accepted rows) (o : ℕ) (l : o < row_count rows) (h : is rows o 0 2 ≡ true) where
+  -- what an activity runs on, booking by booking
+  runs_on_lem : runs_on_all clock (sheet rows) (num rows o 1) ≡ map (λ k. num rows k 3) (places (owned_by rows o 23) (row_count rows))
+  unfolding runs_on_all only places
+  runs_on_lem =
       ap resources_of (bookings_of rows o (activity_at_lem rows acc o l h))
       ∙ map_collect (λ a. a.resource) (only (owned_by rows o 23) (λ k. booking rows k ∷ [])) (row_count rows)
       ∙ collect_ext _ _ (row_count rows) (λ k m. one k (owned_by rows o 23 k))
+      ∙ sym (map_collect (λ k. num rows k 3) (λ k. given (owned_by rows o 23 k) k) (row_count rows))
     where
-      one : (k : ℕ) (b : Bool) → map (λ a. a.resource) (cond b (booking rows k ∷ []) []) ≡ cond b (num rows k 3 ∷ []) []
+      one : (k : ℕ) (b : Bool) → map (λ a. a.resource) (cond b (booking rows k ∷ []) []) ≡ map (λ k. num rows k 3) (given b k)
       one k true = refl
       one k false = refl
 
-  module _ (o : ℕ) (l : o < row_count rows) (h : is rows o 0 2 ≡ true) where
-    pub from_is : (b : ℕ) {t : ℕ} → t ≡ fold (only_at (owned_by rows o 23) (from_step rows b)) 0 (row_count rows)
-        → t ≡ transport_between (sheet rows) (runs_on_all clock (sheet rows) (num rows o 1)) (b ∷ [])
-    unfolding transport_between only only_at each
-    from_is b {t} e =
-        e
-        ∙ sym
-        (ap (λ z. foldl max 0 (each (λ a. transport_to (sheet rows) a b ∷ []) z)) (runs_on_lem o l h)
-        ∙ ap (foldl max 0) (each_collect (λ a. transport_to (sheet rows) a b ∷ []) (only (owned_by rows o 23) (λ k. num rows k 3 ∷ [])) (row_count rows))
-        ∙ foldl_collect max 0 (λ k. each (λ a. transport_to (sheet rows) a b ∷ []) (only (owned_by rows o 23) (λ k. num rows k 3 ∷ []) k)) (row_count rows)
-        ∙ fold_ext _ _ 0 (row_count rows) one)
-      where
-        one : (t k : ℕ) → foldl max t (each (λ a. transport_to (sheet rows) a b ∷ []) (only (owned_by rows o 23) (λ k. num rows k 3 ∷ []) k)) ≡ only_at (owned_by rows o 23) (from_step rows b) t k
-        one t k = go (owned_by rows o 23 k)
-          where
-            go : (c : Bool) → foldl max t (each (λ a. transport_to (sheet rows) a b ∷ []) (cond c (num rows k 3 ∷ []) [])) ≡ cond c (max t (transport_to (sheet rows) (num rows k 3) b)) t
-            go true = refl
-            go false = refl
+  pub from_is : (b : ℕ) → foldl (from_step rows b) 0 (places (owned_by rows o 23) (row_count rows)) ≡ transport_between (sheet rows) (runs_on_all clock (sheet rows) (num rows o 1)) (b ∷ [])
+  unfolding transport_between
+  from_is b = rw runs_on_lem (sym (between_from (sheet rows) b (λ k. num rows k 3) (places (owned_by rows o 23) (row_count rows)) 0))
 
-  pub to_is : (m : List ℕ) (p : ℕ) → p < row_count rows → is rows p 0 2 ≡ true → {t : ℕ} → t ≡ fold (only_at (owned_by rows p 23) (to_step rows m)) 0 (row_count rows)
-      → t ≡ transport_between (sheet rows) m (runs_on_all clock (sheet rows) (num rows p 1))
-  unfolding only only_at
-  to_is m p l h e =
-      e
-      ∙ sym
-      (ap (transport_between (sheet rows) m) (runs_on_lem p l h)
-      ∙ between_collect (sheet rows) m (only (owned_by rows p 23) (λ k. num rows k 3 ∷ [])) (row_count rows)
-      ∙ fold_ext _ _ 0 (row_count rows) (λ t k. one t k))
-    where
-      one : (t k : ℕ) → max t (transport_between (sheet rows) m (only (owned_by rows p 23) (λ k. num rows k 3 ∷ []) k)) ≡ only_at (owned_by rows p 23) (to_step rows m) t k
-      one t k = go (owned_by rows p 23 k)
-        where
-          go : (c : Bool) → max t (transport_between (sheet rows) m (cond c (num rows k 3 ∷ []) [])) ≡ cond c (max t (transport_between (sheet rows) m (num rows k 3 ∷ []))) t
-          go true = refl
-          go false = let z = between_none (sheet rows) m in omega arith
+  pub to_is : (m : List ℕ) → foldl (to_step rows m) 0 (places (owned_by rows o 23) (row_count rows)) ≡ transport_between (sheet rows) m (runs_on_all clock (sheet rows) (num rows o 1))
+  to_is m =
+      let e = between_more (sheet rows) m (λ k. num rows k 3) (places (owned_by rows o 23) (row_count rows)) 0 in
+      rw runs_on_lem (omega (arith, e))

@@ -15,7 +15,7 @@ use Rattle.sheet.specs.Places.{place_of}
 use Rattle.sheet.specs.Refusals.{lacks}
 use Rattle.sheet.specs.inner.Accepted.{Accepted}
 use Rattle.sheet.specs.declared.Found.{Found}
-use Rattle.sheet.specs.declared.Found.TheVariants.{At, Nothing}
+use Rattle.sheet.specs.declared.Found.TheVariants.{Nothing}
 use Rattle.sheet.specs.inner.Found.{found_of}
 use Rattle.sheet.proofs.Lookups.{is_num}
 use Rattle.model.specs.Sheet.{sheet, row_at}
@@ -52,15 +52,15 @@ module _ (rows : List ℤ) where
         go None = refl
         go (Some k) = refl
 
-    module _ {f : Found} (e : found_of f ≡ first_place (names rows 14 a b) (row_count rows)) where
-      pub move_is : (k : ℕ) {r v : ℕ} → a ≡ v → f ≡ At k → r ≡ num rows k 3 → r ≡ transport_to (sheet rows) v b
-      move_is k q z g = rw (← q) (g ∙ sym (moves ∙ ap (λ x. option x 0 (λ k. num rows k 3)) (sym e ∙ ap found_of z)))
+    module _ {f : Option ℕ} (e : f ≡ first_place (names rows 14 a b) (row_count rows)) where
+      pub move_is : (k : ℕ) {r v : ℕ} → a ≡ v → f ≡ Some k → r ≡ num rows k 3 → r ≡ transport_to (sheet rows) v b
+      move_is k q z g = rw (← q) (g ∙ sym (moves ∙ ap (λ x. option x 0 (λ k. num rows k 3)) (sym e ∙ z)))
 
-      pub no_move : {v : ℕ} → a ≡ v → f ≡ Nothing → 0 ≡ transport_to (sheet rows) v b
-      no_move q z = rw (← q) (sym (moves ∙ ap (λ x. option x 0 (λ k. num rows k 3)) (sym e ∙ ap found_of z)))
+      pub no_move : {v : ℕ} → a ≡ v → f ≡ None → 0 ≡ transport_to (sheet rows) v b
+      no_move q z = rw (← q) (sym (moves ∙ ap (λ x. option x 0 (λ k. num rows k 3)) (sym e ∙ z)))
 
-      pub move_most : Accepted rows → (k : ℕ) {r : ℕ} → f ≡ At k → r ≡ num rows k 3 → r ≤ 4000000000000
-      move_most acc k z g = rw g (at_most rows acc k 14 3 (names_kind rows 14 a b k (found_at _ (row_count rows) k (sym e ∙ ap found_of z)).1))
+      pub move_most : Accepted rows → (k : ℕ) {r : ℕ} → f ≡ Some k → r ≡ num rows k 3 → r ≤ 4000000000000
+      move_most acc k z g = rw g (at_most rows acc k 14 3 (names_kind rows 14 a b k (found_at _ (row_count rows) k (sym e ∙ z)).1))
 
   -- a resource that is not in the sheet has none
   pub unmoved : Accepted rows → (a b : ℕ) {f : Found} → found_of f ≡ place_of rows 11 a → f ≡ Nothing → 0 ≡ transport_to (sheet rows) a b

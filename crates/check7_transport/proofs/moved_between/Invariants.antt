@@ -1,17 +1,16 @@
-use Prim.Native.Nat.{◌-◌, ◌≤◌}
+use Prim.Native.Nat.{◌≤◌}
 use mathlib.Core.Path.{◌≡◌}
+use mathlib.Core.List.{foldl}
 use Rattle.calendar.specs.Clock.{clock}
-use Rattle.loops.specs.Range.{fold}
-use Rattle.loops.specs.inner.Chain.{Stands, only_at}
-use Rattle.rows.specs.Cells.{row_count, num}
-use Rattle.owners.specs.inner.Owners.{owned_by}
+use Rattle.rows.specs.Cells.{num}
 use Rattle.model.specs.Sheet.{sheet}
+use Rattle.model.specs.Resource.{transport_between}
 use Rattle.definition.specs.CheckPrecedence.{runs_on_all}
 use Rattle.check7_transport.proofs.Longest.{to_step}
 use Rattle.check7_transport.proofs.moved_between.Given as goal
 
 abbrev pub invariant-loop-i : goal.invariant-loop-i
-invariant-loop-i l = Stands (owned_by l.rows l.p 23) (row_count l.rows) l.i × (l.t ≡ fold (only_at (owned_by l.rows l.p 23) (to_step l.rows (runs_on_all clock (sheet l.rows) (num l.rows l.o 1)))) 0 l.i) × (l.t ≤ 4000000000000)
-
-abbrev pub decreases-loop-i : goal.decreases-loop-i
-decreases-loop-i l = l.n - l.i
+invariant-loop-i l =
+    (foldl (to_step l.rows (runs_on_all clock (sheet l.rows) (num l.rows l.o 1))) l.t l.i-iterator
+    ≡ transport_between (sheet l.rows) (runs_on_all clock (sheet l.rows) (num l.rows l.o 1)) (runs_on_all clock (sheet l.rows) (num l.rows l.p 1)))
+    × (l.t ≤ 4000000000000)
