@@ -1,7 +1,7 @@
 -- What the steps of the reader come to, by their tests: verdicts, windows, the parts of a value, the lines of a text. Assumes nothing.
 use Rattle.std.specs.Prelude.{Result, Ok, Err, IfOk}
 use Rattle.std.specs.Result.{result_and}
-use Prim.Native.Nat.{ℕ, ◌+◌, ◌-◌, ◌^◌, ◌≤◌, ◌<◌, min}
+use Prim.Native.Nat.{ℕ, ◌+◌, ◌^◌, ◌≤◌, ◌<◌}
 use mathlib.Core.Bool.{Bool, true, false, cond, ◌&&◌, not}
 use mathlib.Core.List.{List, [], ◌∷◌, map}
 use Rattle.std.specs.Prelude.{Option, None, Some}
@@ -10,7 +10,7 @@ use native.Mathlib.Omega.{arith}
 use native.Mathlib.Numerals.{add-one}
 use lib.Dec.{ltb}
 use lib.IntN.{ℤ, pos}
-use lib.ListN.{length, take, drop}
+use lib.ListN.{length}
 use mir.Facts.{to_z_pos, to_z-of_z}
 use mir.Syntax.{w64}
 use mir.Val.{SFits, to_z, of_z}
@@ -23,14 +23,12 @@ use Rattle.refusals.specs.declared.Reason.{Reason}
 use Rattle.refusals.specs.declared.Reason.TheVariants.{Overfull}
 use Rattle.refusals.specs.declared.Refusal.{Refusal}
 use Rattle.text_fields.specs.Parts.{parts}
-use Rattle.freebusy_lines.specs.Lines.{unfolded, lines}
-use Rattle.freebusy_lines.specs.inner.Reading.{first_sent}
-use Rattle.freebusy_lines.proofs.LineLaws.{lines_on}
+use Rattle.freebusy_lines.specs.Lines.{Line, sent_lines, unfolded, lines}
 use Rattle.freebusy_periods.specs.Period.{window_of}
 use Rattle.freebusy_periods.specs.declared.Span.{Span}
 use Rattle.freebusy_property.specs.Property.{is_freebusy, is_free, value_of, periods_of}
 use Rattle.freebusy_components.specs.Components.{Busy, busy, open_after, periods_at, periods_from}
-use Rattle.freebusy_components.proofs.LineLaws.{lines_none as no_lines, past_part}
+use Rattle.freebusy_components.proofs.WalkLaws.{unfolded_all}
 use Rattle.freebusy.specs.declared.Reading.{Reading}
 use Rattle.freebusy.specs.Call.{closure, closure_row, window_closures, closures_of, window_refusal, period_refusal, periods_in}
 use Rattle.freebusy.specs.inner.Reading.{put_closures, ReadOn, unread}
@@ -115,19 +113,18 @@ short_read room resource rows from b p l h = rw (short_periods l h b p) (read_no
 
 -- ---- the lines of a text
 
-pub text_start : (room : ℕ) (resource : ℤ) (rows : List ℤ) (text : List ℕ) → Going room resource rows unread (periods_in text) rows unread (periods_from None 0 (lines text))
-unfolding periods_in
-text_start room resource rows text = going_start room resource rows unread (periods_in text)
+pub text_start : (room : ℕ) (resource : ℤ) (rows : List ℤ) (text : List ℕ) {left : List Line} → left ≡ sent_lines text
+    → Going room resource rows unread (periods_in text) rows unread (periods_from None 0 (unfolded_all left))
+unfolding periods_in lines
+text_start room resource rows text e = rw e (going_start room resource rows unread (periods_in text))
 
-module _ {room : ℕ} {resource : ℤ} {rows₀ : List ℤ} {from : Reading} {all : List Busy} {rows : List ℤ} {so_far : Reading} (rest : List ℕ) (b : Option ℕ) (p : ℕ)
-    (g : Going room resource rows₀ from all rows so_far (periods_from b p (lines rest))) where
-  pub text_end : length rest ≤ 0 → ReadOn room resource rows₀ from all rows so_far
+module _ {room : ℕ} {resource : ℤ} {rows₀ : List ℤ} {from : Reading} {all : List Busy} {rows : List ℤ} {so_far : Reading} {left : List Line} (b : Option ℕ) (p : ℕ)
+    (g : Going room resource rows₀ from all rows so_far (periods_from b p (unfolded_all left))) where
+  pub text_end : left ≡ [] → ReadOn room resource rows₀ from all rows so_far
   unfolding periods_from
-  text_end h = going_end g (rw (no_lines rest h))
+  text_end e = going_end g (rw e)
 
-  pub text_on : {sent l : List ℕ} {rows' : List ℤ} {to : Reading} → ReadOn room resource rows so_far (periods_at b p l) rows' to → l ≡ unfolded sent → sent ≡ first_sent rest
-      → {b' : Option ℕ} → b' ≡ open_after b p l → (next : ℕ) → next ≡ min (length sent + 2) (length rest) → 0 < length rest → room < 2 ^ 60
-      → Going room resource rows₀ from all rows' to (periods_from b' (p + 1) (lines (take (length rest - next) (drop next rest))))
+  pub text_on : {x : Line} {ls : List Line} → left ≡ x ∷ ls → {l : List ℕ} → l ≡ unfolded x.bytes → (k : ℕ) → k ≡ p → {rows' : List ℤ} {to : Reading} → ReadOn room resource rows so_far (periods_at b k l) rows' to
+      → {b' : Option ℕ} → b' ≡ open_after b k l → {p' : ℕ} → p' ≡ p + 1 → room < 2 ^ 60 → Going room resource rows₀ from all rows' to (periods_from b' p' (unfolded_all ls))
   unfolding periods_from
-  text_on {sent} {l} r u e o next n h small =
-      going_on g small (periods_at b p l) _ (rw (past_part rest (length sent) next n, o, u, e, add-one p, lines_on rest h)) r
+  text_on e {l} u k q r o n small = going_on g small (periods_at b k l) _ (rw (e, n, add-one p, o, u, q)) r

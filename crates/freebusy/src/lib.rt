@@ -14,6 +14,7 @@ ghost use Rattle.freebusy_components.specs.inner.Room.{space_after};
 ghost use Rattle.freebusy.specs.Call.{window_closures, closures, closure_row, window_refusal, periods_in, periods_refusal, freebusy_answer, freebusy_after};
 ghost use Rattle.freebusy.specs.inner.Reading.{put_closures, ReadOn, unread, space_read, text_refusal};
 
+use freebusy_lines::SentLines;
 use freebusy_periods::Span;
 use refusals::{Answer, Reason, Verdict};
 use rows::Class;
@@ -142,12 +143,10 @@ impl Lent {
 
     // The periods of a text. Lines are unfolded in the lent space.
     fn read_periods(self, text: &[u8], rows: &mut [i64], space: &mut [u8]) -> Reading
-        requires { (length text.now ≤ length space.old) × (length text.now < 65537) }
+        requires { length text.now ≤ length space.old }
         ensures read_on { ReadOn self.room self.resource rows.old unread (periods_in text.now) rows.new result }
         ensures space_after { space.new ≡ space_after text.now space.old }
     {
-        let mut rest = text;
-        let mut p: usize = 0;
         let mut so_far = LineRead {
             begun: None,
             found: Reading {
@@ -155,19 +154,10 @@ impl Lent {
                 refused: Ok(()),
             },
         };
-        while 0 < rest.len() {
-            let sent = freebusy_lines::first_line(rest);
-            let k = sent.len();
-            let n = freebusy_components::unfold(sent, space);
-            so_far = self.read_line(
-                so_far,
-                freebusy_components::front_or(n, space, sent),
-                p,
-                rows,
-            );
-            p += 1;
-            let next = freebusy_components::past_line(k, rest.len());
-            rest = &rest[next..];
+        for (p, sent) in SentLines::new(text).enumerate() {
+            let n = freebusy_components::unfold(sent.bytes, space);
+            let l = freebusy_components::front_or(n, space, sent.bytes);
+            so_far = self.read_line(so_far, l, p, rows);
         }
         so_far.found
     }
@@ -175,7 +165,7 @@ impl Lent {
 
 // The periods of a text whose lines have passed. They are read first with none of the rows lent, so that a refusal changes none.
 fn read_closures(text: &[u8], resource: i64, rows: &mut [i64], space: &mut [u8]) -> Answer
-    requires { (length text.now ≤ length space.old) × (length text.now < 65537) }
+    requires { length text.now ≤ length space.old }
     ensures value { result ≡ answered (periods_refusal (length rows.old / 10) 0 (periods_in text.now)) (length (closures text.now)) }
     ensures rows_after { rows.new ≡ lent_after (periods_refusal (length rows.old / 10) 0 (periods_in text.now)) (flat_lines (closure_row resource) (closures text.now)) rows.old }
     ensures space_after { space.new ≡ space_read (periods_refusal (length rows.old / 10) 0 (periods_in text.now)) text.now space.old }

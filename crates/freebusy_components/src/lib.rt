@@ -1,10 +1,12 @@
 // The components VFREEBUSY of an office calendar, by its unfolded lines: which is open, and the first line that is against the rules.
 #![tactic(auto)]
 
-ghost use Rattle.std.specs.Prelude.{◌≡◌, ◌+◌, ◌<◌, ◌≤◌, min, length, None, IfSome};
+ghost use Rattle.std.specs.Prelude.{◌≡◌, ◌≤◌, length, None, IfSome};
 ghost use Rattle.freebusy_lines.specs.Lines.{line, unfolded, lines};
 ghost use Rattle.freebusy_components.specs.Components.{open_after, against, wrong_at, least, wrong_from};
 ghost use Rattle.freebusy_components.specs.inner.Room.{front_or, after_line, space_after};
+
+use freebusy_lines::SentLines;
 
 // What the lines so far come to: where the open component begins, and the least place against the rules.
 #[derive(Clone, Copy)]
@@ -92,34 +94,19 @@ pub fn front_or<'a>(n: Option<usize>, space: &'a [u8], sent: &'a [u8]) -> &'a [u
     }
 }
 
-// Where the lines after a line of k bytes begin, in a text of that length: after its CRLF, if it has one.
-pub fn past_line(k: usize, length: usize) -> usize
-    requires { k < 65537 }
-    ensures { result ≡ min (k + 2) length }
-{
-    (k + 2).min(length)
-}
-
 // The least place against the rules. Lines are unfolded in the lent space.
 pub fn first_wrong(text: &[u8], space: &mut [u8]) -> Option<usize>
-    requires { (length text.now ≤ length space.old) × (length text.now < 65537) }
+    requires { length text.now ≤ length space.old }
     ensures result_value { result ≡ wrong_from None 0 (lines text.now) }
     ensures space_after { space.new ≡ space_after text.now space.old }
 {
-    let mut rest = text;
-    let mut p: usize = 0;
     let mut w = Walked {
         begun: None,
         wrong: None,
     };
-    while 0 < rest.len() {
-        let sent = freebusy_lines::first_line(rest);
-        let k = sent.len();
-        let n = unfold(sent, space);
-        w = w.past(p, front_or(n, space, sent), k < rest.len());
-        p += 1;
-        let next = past_line(k, rest.len());
-        rest = &rest[next..];
+    for (p, sent) in SentLines::new(text).enumerate() {
+        let n = unfold(sent.bytes, space);
+        w = w.past(p, front_or(n, space, sent.bytes), sent.ended);
     }
     lesser(w.wrong, w.begun)
 }

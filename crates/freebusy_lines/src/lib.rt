@@ -4,7 +4,10 @@
 ghost use Rattle.std.specs.Prelude.{◌≡◌, ◌++◌, ◌≤◌, length, drop};
 ghost use Rattle.freebusy_lines.specs.Bytes.{spells, is_name_byte};
 ghost use Rattle.freebusy_lines.specs.Lines.{is_blank, unfolded};
+ghost use Rattle.std.specs.Iterator.{YieldsFirstBy, item_count};
 ghost use Rattle.freebusy_lines.specs.inner.Reading.{fold_first, end_first, is_folded, first_sent};
+ghost use Rattle.freebusy_lines.specs.Lines.{sent_lines};
+ghost use Rattle.freebusy_lines.specs.inner.Sent.{as_sent, lines_left};
 
 // A space or a tab.
 fn is_blank(x: u8) -> bool
@@ -46,6 +49,46 @@ pub fn first_line(s: &[u8]) -> &[u8]
         }
     }
     s
+}
+
+// A line as it is sent, folds and all, and whether its CRLF stands.
+#[derive(Clone, Copy)]
+pub struct SentLine<'a> {
+    pub bytes: &'a [u8],
+    pub ended: bool,
+}
+
+// The lines of a text as they are sent.
+#[derive(Drop)]
+pub struct SentLines<'a> {
+    rest: &'a [u8],
+}
+
+impl<'a> SentLines<'a> {
+    pub fn new(text: &'a [u8]) -> SentLines<'a>
+        ensures { lines_left result ≡ sent_lines text.now }
+    {
+        SentLines { rest: text }
+    }
+}
+
+impl<'a> Iterator for SentLines<'a> {
+    type Item = SentLine<'a>;
+
+    ghost next_gives = { YieldsFirstBy as_sent lines_left };
+
+    ghost remaining = { item_count lines_left };
+
+    fn next(&mut self) -> Option<SentLine<'a>> {
+        if self.rest.is_empty() {
+            return None;
+        }
+        let bytes = first_line(self.rest);
+        let ended = bytes.len() < self.rest.len();
+        let next = (bytes.len() + 2).min(self.rest.len());
+        self.rest = &self.rest[next..];
+        Some(SentLine { bytes, ended })
+    }
 }
 
 // Whether a line holds a fold; one that holds none is as it is unfolded.

@@ -26,8 +26,6 @@ use Rattle.model.specs.Sheet.{as_instant, read, sheet}
 use Rattle.model.specs.Schedule.{later_of, task_completion_time}
 use Rattle.model.specs.inner.Records.{maybe_at}
 use Rattle.model.proofs.Accepting.{at_most}
-use Rattle.spans.specs.declared.Instant.{Instant}
-use Rattle.spans.specs.declared.Instant.TheVariants.{At}
 use Rattle.spans.specs.inner.Instants.{meant, end_if}
 use Rattle.spans.proofs.Completion.{completion}
 
@@ -63,7 +61,7 @@ module _ (rows : List ℤ) (acc : Accepted rows) where
       go (pos n) l = le-leb n 4000000000000 l
       go (negsuc n) l = refl
 
-  module _ (k : ℕ) {e : Instant} {d : ℕ} (h : is rows k 0 1 ≡ true) (m : meant e ≡ maybe_at rows k 2) (q : e ≡ At d) where
+  module _ (k : ℕ) {e : Option ℕ} {d : ℕ} (h : is rows k 0 1 ≡ true) (m : meant e ≡ maybe_at rows k 2) (q : e ≡ Some d) where
     deadline_most : d ≤ 4000000000000
     deadline_most = early_is (deadline_early k h) (sym m ∙ ap meant q)
 
@@ -96,7 +94,7 @@ module _ (rows : List ℤ) (acc : Accepted rows) where
       (ends_early_lem 24 4 task (λ k h. at_most rows acc k 24 4 h) _
       (ends_early_lem 23 5 task (λ k h. at_most rows acc k 23 5 h) None (unfold early in refl) (row_count rows)) (row_count rows))
 
-  pub completion_most : (task : ℕ) {e : Instant} {c : ℕ} → meant e ≡ task_completion_time clock (sheet rows) task → e ≡ At c → c ≤ 4000000000000
+  pub completion_most : (task : ℕ) {e : Option ℕ} {c : ℕ} → meant e ≡ task_completion_time clock (sheet rows) task → e ≡ Some c → c ≤ 4000000000000
   completion_most task m q = early_is (completion_early task) (sym m ∙ ap meant q)
 
 -- ---- what is left

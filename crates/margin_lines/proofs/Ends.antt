@@ -10,26 +10,24 @@ use borrow.Author.Tests.{le-ltb}
 use lib.Dec.{ltb}
 use lib.IntN.{ℤ}
 use lib.ListN.{length}
-use Rattle.loops.specs.Lists.{each}
 use Rattle.loops.specs.Search.{or_else}
-use Rattle.calendar.specs.Clock.{clock}
 use Rattle.refusals.specs.Refusals.{refuse, at}
 use Rattle.refusals.specs.declared.Refusal.{Refusal}
 use Rattle.refusals.specs.declared.Reason.TheVariants as refusals
+use Rattle.loops.proofs.PlaceLaws.{or_none_left}
+use Rattle.sheet.specs.Refusals.{refusal_of}
+use Rattle.derived_times.specs.Times.{time_refusal}
 use Rattle.line_buffer.specs.declared.Handed.{Handed}
 use Rattle.line_buffer.specs.declared.Handed.TheVariants.{Over, Full, Longer}
 use Rattle.line_buffer.specs.inner.Handing.{handed, after_handing}
 use Rattle.line_buffer.proofs.Handing.{not_longer}
-use Rattle.line_buffer.proofs.LineLaws.{lines_then, lines_kept}
+use Rattle.line_buffer.proofs.LineLaws.{lines_kept}
 use Rattle.line_buffer.proofs.Whole.{count_fits}
-use Rattle.model.specs.Sheet.{sheet}
-use Rattle.model.specs.Task.{tasks}
-use Rattle.load.specs.Load.{booked_resources}
 use Rattle.acceptance.specs.Refusals.{sheet_refusal, call_refusal}
 use Rattle.acceptance.specs.inner.Accepting.{Accepting}
 use Rattle.acceptance.proofs.Order.{refused_by, sheet_accepted}
 use Rattle.acceptance.proofs.Ending.{ends_refused, ends_over, ends_full}
-use Rattle.margin_lines.specs.Margins.{three, task_margin, resource_margin, margin_lines, margins, flat_margins}
+use Rattle.margin_lines.specs.Margins.{three, margins, flat_margins}
 use Rattle.margin_lines.specs.Call.{margins_refusal, margins_answer, margins_after, RoomForAll}
 use Rattle.margin_lines.specs.inner.Sink.{sink, emit_margins}
 use Rattle.margin_lines.proofs.Count.{margins_short}
@@ -37,6 +35,11 @@ use Rattle.margin_lines.proofs.Count.{margins_short}
 -- the call on these rows, lent the buffer o, answers so and leaves the buffer o'
 abbrev Ends : List ℤ → List ℤ → Result ℕ Refusal → List ℤ → Type 0
 Ends rows o answer o' = (answer ≡ margins_answer rows (length o / 3)) × (o' ≡ margins_after rows o)
+
+-- an accepted sheet is refused by no row
+pub rows_pass : (rows : List ℤ) → sheet_refusal rows ≡ None → refusal_of rows ≡ None
+unfolding sheet_refusal
+rows_pass rows h = or_none_left (refusal_of rows) (time_refusal rows) h
 
 -- each line is of a row, and a sheet has 800 rows at most
 few_margins : (rows : List ℤ) → sheet_refusal rows ≡ None → length (margins rows) ≤ 800
@@ -63,26 +66,21 @@ module _ (rows o : List ℤ) {v : Result Unit Refusal} {x : Refusal} {k₀ l₀ 
   pub refused_left : o ≡ margins_after rows o
   refused_left = refused_sheet.1
 
--- ---- the tasks, then the resources, found in a buffer for 800 lines, and handed over
+-- ---- the margins, found in a buffer for 800 lines, and handed over
 
-module _ (rows o o₀ : List ℤ) {x y : List ℤ} {n k : ℕ} {r : Handed} (passed : sheet_refusal rows ≡ None)
-    (of-tasks : sink x n ≡ emit_margins (sink o₀ 0) (each (task_margin clock (sheet rows)) (tasks (sheet rows))))
-    (of-resources : sink y k ≡ emit_margins (sink x n) (each (resource_margin clock (sheet rows)) (booked_resources (sheet rows))))
+module _ (rows o o₀ : List ℤ) {y : List ℤ} {k : ℕ} {r : Handed} (passed : sheet_refusal rows ≡ None) (ran : sink y k ≡ emit_margins (sink o₀ 0) (margins rows))
     (told : r ≡ handed (length o / 3) (length y / 3) k) (room : length o₀ ≡ 2400) where
-  ran : sink y k ≡ emit_margins (sink o₀ 0) (margins rows)
-  unfolding margins margin_lines
-  ran = lines_then 3 three _ _ (sink o₀ 0) of-tasks of-resources
-
   counted : k ≡ length (margins rows)
+  unfolding emit_margins
   counted = omega (arith, count_fits 3 three o₀ (margins rows) ran, few_margins rows passed)
 
   module _ {o' : List ℤ} (left : o' ≡ after_handing r (k * 3) y o) where
     ends_copied : r ≡ Over → Ends rows o (Ok k) o'
-    unfolding margins_refusal margins_answer margins_after flat_margins
+    unfolding margins_refusal margins_answer margins_after flat_margins emit_margins
     ends_copied over = ends_over 3 three (omega arith) (λ m. refl) rows (margins rows) o passed o₀ ran told counted (omega arith) left over
 
     ends_refused_full : r ≡ Full → Ends rows o (Err (at refusals.Full 0)) o'
-    unfolding margins_refusal margins_answer margins_after flat_margins
+    unfolding margins_refusal margins_answer margins_after flat_margins emit_margins
     ends_refused_full full = ends_full 3 three (omega arith) (λ m. refl) rows (margins rows) o passed o₀ ran told left full
 
     pub over_answer : r ≡ Over → Ok k ≡ margins_answer rows (length o / 3)
@@ -99,6 +97,7 @@ module _ (rows o o₀ : List ℤ) {x y : List ℤ} {n k : ℕ} {r : Handed} (pas
 
     -- never: 800 lines are held
     all_held : r ≡ Longer → ⊥
+    unfolding emit_margins
     all_held longer =
         let held : length y ≡ length o₀ = lines_kept 3 three o₀ 0 (margins rows) ran in
         not_longer (length o / 3) (length y / 3) k (omega (arith, counted, few_margins rows passed)) told longer

@@ -24,7 +24,7 @@ use Rattle.definition.specs.CheckDeadlines.{check_deadline, check_deadlines}
 use Rattle.definition.specs.CheckCapacity.{check_resource, check_capacity}
 use Rattle.definition.specs.CheckSchedule.{findings}
 use Rattle.finding_numbers.proofs.Listed.{deadlines_listed, capacity_listed}
-use Rattle.margin_lines.specs.declared.Margin.{Margin}
+use Rattle.margin_lines.specs.declared.lines.Margin.{Margin}
 use Rattle.margin_lines.specs.Margins.{TASK, RESOURCE, margin_of, task_margin, resource_margin, margin_lines, margins}
 use Rattle.margin_lines.specs.Findings.{finding_of, Exactly}
 

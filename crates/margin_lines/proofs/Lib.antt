@@ -6,4 +6,5 @@ pub mod Findings
 pub mod Peaks
 pub mod Reach
 pub mod Sliding
+pub mod Telling
 pub mod Told

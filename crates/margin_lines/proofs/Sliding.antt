@@ -25,7 +25,7 @@ use Rattle.refusals.proofs.AnswerLaws.{accepted_lines}
 use Rattle.acceptance.specs.Refusals.{sheet_refusal}
 use Rattle.acceptance.proofs.Ending.{same_refusal}
 use Rattle.acceptance.proofs.Order.{sheet_accepted}
-use Rattle.margin_lines.specs.declared.Margin.{Margin}
+use Rattle.margin_lines.specs.declared.lines.Margin.{Margin}
 use Rattle.margin_lines.specs.Margins.{three, task_margin, resource_margin, margin_lines, margins, flat_margins}
 use Rattle.margin_lines.specs.Call.{margins_refusal, margins_answer, margins_after}
 use Rattle.margin_lines.specs.Sliding.{MarginsSlide}

@@ -11,7 +11,7 @@ use Rattle.model.specs.Schedule.{deadline_miss, capacity_exceeded}
 use Rattle.definition.specs.CheckDeadlines.{check_deadline}
 use Rattle.definition.specs.CheckCapacity.{check_resource}
 use Rattle.definition.specs.CheckSchedule.{findings}
-use Rattle.margin_lines.specs.declared.Margin.{Margin}
+use Rattle.margin_lines.specs.declared.lines.Margin.{Margin}
 use Rattle.margin_lines.specs.Margins.{TASK, RESOURCE, task_margin, resource_margin, margins}
 
 -- the finding that a margin tells of, where it is below zero

@@ -6,10 +6,13 @@ use Rattle.loops.specs.Lists.{option, each}
 use Rattle.line_buffer.specs.Lines.{flat_lines}
 use Rattle.calendar.specs.Clock.{Clock, clock}
 use Rattle.model.specs.Sheet.{Sheet, sheet}
-use Rattle.model.specs.Task.{Task, tasks}
+use Rattle.model.specs.Task as model
+use Rattle.model.specs.Task.{tasks}
 use Rattle.model.specs.Schedule.{task_completion_time}
 use Rattle.load.specs.Load.{cap_of, peak, booked_resources}
-use Rattle.margin_lines.specs.declared.Margin.{Margin}
+use Rattle.margin_lines.specs.declared.lines.Margin.{Margin}
+use Rattle.margin_lines.specs.declared.lines.MarginKind.{MarginKind}
+use Rattle.margin_lines.specs.declared.lines.MarginKind.TheVariants.{Task, Resource}
 
 -- what a margin is of
 abbrev pub TASK : ℕ
@@ -18,12 +21,16 @@ TASK = 1
 abbrev pub RESOURCE : ℕ
 RESOURCE = 2
 
+abbrev pub number_of : MarginKind → ℕ
+number_of Task = TASK
+number_of Resource = RESOURCE
+
 abbrev pub margin_of : ℕ → ℕ → ℤ → Margin
 margin_of of id margin = record { of = of; id = id; margin = margin }
 
 module _ {T : Type 0} (K : Clock T) (s : Sheet T) where
   -- a task without a deadline, or of which nothing is planned, has none
-  unfoldable pub task_margin : Task T → List Margin
+  unfoldable pub task_margin : model.Task T → List Margin
   task_margin t =
       option t.deadline [] λ deadline. option (task_completion_time K s t.id) [] λ completion.
       margin_of TASK t.id (K.minus deadline completion) ∷ []

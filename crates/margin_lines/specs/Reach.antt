@@ -8,7 +8,7 @@ use Rattle.model.specs.Sheet.{sheet}
 use Rattle.model.specs.Task.{tasks}
 use Rattle.load.specs.Load.{booked_resources}
 use Rattle.acceptance.specs.Refusals.{sheet_refusal}
-use Rattle.margin_lines.specs.declared.Margin.{Margin}
+use Rattle.margin_lines.specs.declared.lines.Margin.{Margin}
 use Rattle.margin_lines.specs.Margins.{task_margin, resource_margin}
 
 -- at most so far from zero, either way

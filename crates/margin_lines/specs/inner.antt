@@ -1,1 +1,2 @@
 pub mod Sink
+pub mod Told

@@ -1,48 +1,30 @@
 // Margins for the morning meeting: of each task with a deadline and a completion, and of each booked resource.
 #![tactic(auto)]
 
-ghost use Rattle.std.specs.Prelude.{◌≡◌, true, [], ◌∷◌, ◌/◌, ◌<◌, ◌≤◌, pos, ◌-ℤ◌, nat_abs, length};
-ghost use Rattle.std.specs.Prelude.{None};
+ghost use Rattle.std.specs.Prelude.{◌≡◌, true, ◌/◌, ◌<◌, ◌≤◌, pos, ◌-ℤ◌, nat_abs, length, None};
 ghost use Rattle.loops.specs.Lists.{each};
 ghost use Rattle.calendar.specs.Clock.{clock};
 ghost use Rattle.rows.specs.Cells.{is};
-ghost use Rattle.sheet.specs.inner.Accepted.{Accepted};
-ghost use Rattle.sheet.specs.inner.Index.{Kinds};
+ghost use Rattle.sheet.specs.Refusals.{refusal_of};
 ghost use Rattle.model.specs.Sheet.{sheet};
 ghost use Rattle.model.specs.Task.{task_at, tasks};
-ghost use Rattle.model.specs.inner.Indexed.{Indexed};
-ghost use Rattle.load.specs.Load.{bookings_on, booked_resources};
-ghost use Rattle.load.specs.inner.Lent.{Gathered};
+ghost use Rattle.load.specs.Load.{booked_resources};
 ghost use Rattle.acceptance.specs.Refusals.{sheet_refusal};
 ghost use Rattle.margin_lines.specs.Margins.{task_margin, resource_margin, margins};
 ghost use Rattle.margin_lines.specs.Call.{margins_answer, margins_after};
 ghost use Rattle.margin_lines.specs.inner.Sink.{sink, emit_margins};
+ghost use Rattle.margin_lines.specs.inner.Told.{so_far, tell};
+
+mod lines;
 
 use line_buffer::Handed;
+use lines::Lines;
+pub use lines::{Margin, MarginKind};
+use load::{Bookings, NO_BOOKING};
+use model::Sheet;
 use refusals::{Answer, Reason};
-use spans::Instant;
-
-// What a margin is of.
-pub const TASK: u8 = 1;
-
-pub const RESOURCE: u8 = 2;
-
-// A margin: of a task or of a resource, of which one, and how much; below zero where the task is late or the resource overloaded.
-#[derive(Clone, Copy)]
-pub struct Margin {
-    pub of: u8,
-    pub id: u64,
-    pub margin: i64,
-}
-
-// One line more: written where the buffer holds it, and counted in any case.
-fn put(out: &mut [i64], n: usize, m: Margin) -> usize
-    requires { m.id < 9223372036854775808 }
-    ensures { sink out.new result ≡ emit_margins (sink out.old n) (m ∷ []) }
-{
-    let line = [m.of as i64, m.id as i64, m.margin];
-    line_buffer::put(out, n, &line)
-}
+use rows::Kind;
+use sheet::{KindIndex, Rows};
 
 // What is left of a limit.
 fn left_of(limit: i64, taken: u64) -> i64
@@ -55,114 +37,90 @@ fn left_of(limit: i64, taken: u64) -> i64
 // ---- the tasks
 
 // The margin of the task of row k, where it has a deadline and a completion.
-fn put_task(rows: &[i64], kinds: &[u16; 3680], k: usize, out: &mut [i64], n: usize) -> usize
-    requires { Accepted rows.now × Kinds rows.now kinds.now × (is rows.now k 0 1 ≡ true) }
-    ensures { sink out.new result ≡ emit_margins (sink out.old n) (each (task_margin clock (sheet rows.now)) (task_at (sheet rows.now) k)) }
+fn put_task(rows: &Sheet, k: usize, lines: &mut Lines)
+    requires { (refusal_of rows.now ≡ None) × (is rows.now k 0 1 ≡ true) }
+    ensures { so_far lines.new ≡ tell (so_far lines.old) (each (task_margin clock (sheet rows.now)) (task_at (sheet rows.now) k)) }
 {
-    let deadline = spans::instant_at(rows, k, 2);
-    let Instant::At(d) = deadline else {
-        return n;
+    let Some(d) = spans::instant_at(rows.as_slice(), k, 2) else {
+        return;
     };
-    let id = rows::id_at(rows, k, 1);
-    let completion = spans::task_completion_time(rows, kinds, id);
-    let Instant::At(c) = completion else {
-        return n;
+    let id = rows.num(k, 1);
+    let Some(c) = spans::task_completion_time(&rows.by_kind(), id) else {
+        return;
     };
-    let m = Margin {
-        of: TASK,
-        id: id,
-        margin: left_of(d as i64, c),
-    };
-    put(out, n, m)
+    lines.put(Margin::of(MarginKind::Task, id, left_of(d as i64, c)));
 }
 
-fn put_tasks(rows: &[i64], kinds: &[u16; 3680], out: &mut [i64], n: usize) -> usize
-    requires { Accepted rows.now × Kinds rows.now kinds.now }
-    ensures { sink out.new result ≡ emit_margins (sink out.old n) (each (task_margin clock (sheet rows.now)) (tasks (sheet rows.now))) }
+#[tactic(auto, using(chains::proofs::PlaceLaws::left_all, crate::proofs::Told::tasks_told), unfolding(sheet::specs::Places::of_kind))]
+fn put_tasks(rows: &Sheet, lines: &mut Lines)
+    ensures { so_far lines.new ≡ tell (so_far lines.old) (each (task_margin clock (sheet rows.now)) (tasks (sheet rows.now))) }
 {
-    let count = rows::row_count(rows);
-    let mut m = n;
-    let mut i = sheet::first_of(rows, kinds, 1);
-    while i < count {
-        m = put_task(rows, kinds, i, out, m);
-        i = sheet::next_of(rows, kinds, 1, i);
+    for k in rows.of_kind(Kind::Task) {
+        put_task(rows, k, lines);
     }
-    m
 }
 
 // ---- the booked resources
 
 // The margin of the resource x.
-fn put_resource(
-    rows: &[i64],
-    kinds: &[u16; 3680],
-    links: &[u16; 1600],
-    owned: &[u16; 8810],
-    x: u64,
-    b: &mut [u64; 2400],
-    out: &mut [i64],
-    n: usize,
-) -> usize
-    requires { Indexed rows.now kinds.now links.now owned.now × (length b.old ≡ 2400) × (x < 9223372036854775808) }
-    ensures wrote { sink out.new result ≡ emit_margins (sink out.old n) (resource_margin clock (sheet rows.now) x) }
-    ensures bookings { Gathered rows.now x b.old b.new (length (bookings_on (sheet rows.now) x)) }
+#[tactic(auto, using(load::proofs::Told::peak_is), unfolding(crate::specs::Margins::resource_margin))]
+fn put_resource(rows: &Sheet, x: u64, bookings: &mut Bookings, lines: &mut Lines)
+    requires { (refusal_of rows.now ≡ None) × (x < 9223372036854775808) }
+    ensures { so_far lines.new ≡ tell (so_far lines.old) (resource_margin clock (sheet rows.now) x) }
 {
-    let m = load::gather_bookings(rows, kinds, links, owned, x, b);
-    let peak = load::peak_of(b, m);
-    let limit = load::cap_of(rows, kinds, x);
-    let line = Margin {
-        of: RESOURCE,
-        id: x,
-        margin: left_of(limit, peak),
-    };
-    put(out, n, line)
+    bookings.gather(rows, x);
+    let limit = load::cap_of(&rows.by_kind(), x);
+    let line = Margin::of(MarginKind::Resource, x, left_of(limit, bookings.peak()));
+    lines.put(line);
 }
 
 // Apart from its caller, so that the call keeps to the stack that the header states.
 #[inline(never)]
-fn put_resources(
-    rows: &[i64],
-    kinds: &[u16; 3680],
-    links: &[u16; 1600],
-    owned: &[u16; 8810],
-    out: &mut [i64],
-    n: usize,
-) -> usize
-    requires { Indexed rows.now kinds.now links.now owned.now }
-    ensures { sink out.new result ≡ emit_margins (sink out.old n) (each (resource_margin clock (sheet rows.now)) (booked_resources (sheet rows.now))) }
+#[tactic(auto, using(chains::proofs::PlaceLaws::left_all, crate::proofs::Told::resource_first, crate::proofs::Told::resources_told))]
+fn put_resources(rows: &Sheet, lines: &mut Lines)
+    requires { refusal_of rows.now ≡ None }
+    ensures { so_far lines.new ≡ tell (so_far lines.old) (each (resource_margin clock (sheet rows.now)) (booked_resources (sheet rows.now))) }
 {
-    let count = rows::row_count(rows);
-    let mut b = [0u64; 2400];
-    let mut m = n;
-    let mut k = load::first_booked(rows, kinds);
-    while k < count {
-        let x = rows::id_at(rows, k, 3);
-        m = put_resource(rows, kinds, links, owned, x, &mut b, out, m);
-        k = load::next_booked(rows, kinds, k);
+    let mut room = [NO_BOOKING; 800];
+    let mut bookings = Bookings::over(&mut room);
+    let by_kind = rows.by_kind();
+    for k in load::booked(&by_kind) {
+        put_resource(rows, rows.num(k, 3), &mut bookings, lines);
     }
-    m
 }
 
 // ---- the call
 
+// The lines of the tasks, then those of the resources.
+#[tactic(auto, using(crate::proofs::Told::all_told))]
+fn put_all(rows: &Sheet, lines: &mut Lines)
+    requires { refusal_of rows.now ≡ None }
+    ensures { so_far lines.new ≡ tell (so_far lines.old) (margins rows.now) }
+{
+    put_tasks(rows, lines);
+    put_resources(rows, lines);
+}
+
+// The lines of a sheet, and how many.
+fn put_margins(rows: &Sheet, out: &mut [i64]) -> usize
+    requires { refusal_of rows.now ≡ None }
+    ensures { sink out.new result ≡ emit_margins (sink out.old 0) (margins rows.now) }
+{
+    let mut lines = Lines::new(out);
+    put_all(rows, &mut lines);
+    lines.len()
+}
+
 // The lines of an accepted sheet, where the buffer holds them. They are written to a buffer of their own first, so that nothing is written before their
 // count is known; that buffer holds a line for each row, and each line is of a row.
-fn write_margins(
-    rows: &[i64],
-    kinds: &[u16; 3680],
-    links: &[u16; 1600],
-    owned: &[u16; 8810],
-    out: &mut [i64],
-) -> Answer
-    requires { Indexed rows.now kinds.now links.now owned.now × (sheet_refusal rows.now ≡ None) }
+fn write_margins(rows: &Sheet, out: &mut [i64]) -> Answer
+    requires { sheet_refusal rows.now ≡ None }
     ensures value { result ≡ margins_answer rows.now (length out.old / 3) }
     ensures out_after { out.new ≡ margins_after rows.now out.old }
 {
     let mut lines = [0i64; 2400];
-    let n = put_tasks(rows, kinds, &mut lines, 0);
-    let count = put_resources(rows, kinds, links, owned, &mut lines, n);
-    let handed = line_buffer::hand_over(out, 3, count, &lines);
-    match handed {
+    let count = put_margins(rows, &mut lines);
+    match line_buffer::hand_over(out, 3, count, &lines) {
         Handed::Over => Ok(count),
         Handed::Full => Err(Reason::Full.at(0)),
         Handed::Longer => Err(Reason::Full.at(0)), // never: a line is of a row, and 800 lines are held
@@ -178,5 +136,5 @@ pub fn margins(rows: &[i64], out: &mut [i64]) -> Answer
     let mut links = [0u16; 1600];
     let mut owned = [0u16; 8810];
     acceptance::accept(rows, &mut kinds, &mut links, &mut owned)?;
-    write_margins(rows, &kinds, &links, &owned, out)
+    write_margins(&Sheet::new(rows, &kinds, &links, &owned), out)
 }

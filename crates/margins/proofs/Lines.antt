@@ -5,7 +5,6 @@ use mathlib.Core.Path.{◌≡◌, refl, sym, ap, ap₂, ◌∙◌}
 use mathlib.Core.Bool.{Bool, true, false, cond}
 use mathlib.Core.List.{List, [], ◌∷◌, ◌++◌}
 use native.Mathlib.Omega.{arith}
-use borrow.Author.Tests.{eq-eqb, ne_eqb}
 use lib.Dec.{eqb}
 use lib.IntN.{ℤ, pos}
 use lib.ListN.{length, get_or, take, drop, length-append, length-take, length-drop}
@@ -24,18 +23,10 @@ use Rattle.line_buffer.specs.Lines.{flat_lines}
 use Rattle.printing.specs.NumberLines.{number_line, line_at}
 use Rattle.printing.proofs.PutLaws.{wrote_line}
 use Rattle.printing.proofs.FitLaws.{Small, small_take, small_drop, line_length}
-use Rattle.margin_lines.specs.declared.Margin.{Margin}
+use Rattle.margin_lines.specs.declared.lines.Margin.{Margin}
 use Rattle.margin_lines.specs.Margins.{three, flat_margins}
 use Rattle.margins.specs.Program.{task_word, resource_word, word_of, margin_line}
 use Rattle.margins.specs.inner.Bytes.{line_bytes, lines_bytes}
-
--- ---- the word by which a line begins
-
-pub wrote_task : {l m : List ℕ} {i j of : ℕ} → of ≡ 1 → Wrote l i m j task_word → Wrote l i m j (word_of of)
-wrote_task {of = of} e w = wrote_as (rw (eq-eqb of 1 e)) w
-
-pub wrote_resource : {l m : List ℕ} {i j of : ℕ} → (of ≡ 1 → ⊥) → Wrote l i m j resource_word → Wrote l i m j (word_of of)
-wrote_resource {of = of} e w = wrote_as (rw (ne_eqb of 1 e)) w
 
 -- ---- how long a line can be
 

@@ -4,7 +4,7 @@ use Rattle.std.specs.Prelude.{ℕ, cond, List, [], ◌∷◌, ◌++◌, eqb, ℤ
 use Rattle.loops.specs.Lists.{each}
 use Rattle.printing.specs.NumberLines.{number_line}
 use Rattle.printing.specs.Printed.{printed_alone}
-use Rattle.margin_lines.specs.declared.Margin.{Margin}
+use Rattle.margin_lines.specs.declared.lines.Margin.{Margin}
 use Rattle.margin_lines.specs.Margins.{TASK, margins}
 use Rattle.margin_lines.specs.Call.{margins_answer}
 

@@ -7,6 +7,7 @@ ghost use Rattle.text_program.specs.Text.{printed_text};
 ghost use Rattle.margins.specs.Program.{word_of, printed_margins};
 ghost use Rattle.margins.specs.inner.Bytes.{line_bytes, lines_bytes};
 
+use margin_lines::MarginKind;
 use text_program::Words;
 
 // The word that a line begins with.
@@ -14,7 +15,7 @@ fn put_word(out: &mut [u8], at: usize, of: u64) -> usize
     requires { at ≤ length out.old }
     ensures { Wrote out.old at out.new result (word_of of) }
 {
-    if of == 1 {
+    if of == u64::from(MarginKind::Task.number()) {
         return lent_room::put_all(out, at, b"task,");
     }
     lent_room::put_all(out, at, b"resource,")

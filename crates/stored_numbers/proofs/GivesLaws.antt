@@ -2,19 +2,21 @@
 use Rattle.stored_numbers.proofs.PutLaws.{yet_less, yet_none, yet_as}
 use Rattle.stored_numbers.specs.inner.Yet.{Yet}
 use Rattle.loops.specs.inner.Wrote.{Wrote}
-use lib.IntN.{ℤ}
 use Prim.Native.Nat.{ℕ}
 use mathlib.Core.Bool.{Bool, true, false, cond}
 use mathlib.Core.List.{List, [], ◌∷◌, map}
-use mathlib.Core.Path.{◌≡◌, refl, sym, ap}
-use borrow.Author.Tests.{eq-eqb, ne_eqb}
+use mathlib.Core.Path.{◌≡◌, refl, ap, ◌∙◌}
+use Rattle.std.specs.Prelude.{Option, None, Some}
+use Rattle.loops.specs.Lists.{option}
 use lib.Dec.{eqb}
 use Rattle.loops.specs.Lists.{each}
 use Rattle.loops.proofs.ListLaws.{each_ext}
 use Rattle.text_line.specs.Line.{row_of}
 use Rattle.stored_lines.specs.inner.Line.{letter, count, piece, body}
 use Rattle.stored_numbers.specs.inner.Numbers.{times, numbers_in, numbers_of, expected_of}
-use Rattle.stored_numbers.specs.inner.Gives.{piece_as, line_gives}
+use Rattle.stored_numbers.specs.declared.Piece.{Piece}
+use Rattle.stored_numbers.specs.declared.Piece.TheVariants.{Numbers, Row}
+use Rattle.stored_numbers.specs.inner.Gives.{piece_as, piece_by, line_gives}
 
 -- what is yet to be written is given by the parts that are left: the first of them, f, is written; none is left
 module _ {B : Type 0} {l m : List B} {i j : ℕ} {all : List B} {ps : List (List ℕ)} where
@@ -34,34 +36,30 @@ module _ {B : Type 0} {l m : List B} {i j : ℕ} {all : List B} {ps : List (List
     unfolding each
     each_none g y = yet_none (yet_as (ap (each g) e) y)
 
--- a piece as a row, or as plain numbers
-module _ {l m : List ℤ} {i j : ℕ} (row : Bool) (s : List ℕ) where
-  pub as_row : row ≡ true → Wrote l i m j (row_of s) → Wrote l i m j (piece_as row s)
-  unfolding piece_as
-  as_row t w = rw t w
-
-  pub as_numbers : row ≡ false → Wrote l i m j (numbers_in s) → Wrote l i m j (piece_as row s)
-  unfolding piece_as
-  as_numbers t w = rw t w
-
--- what a line gives, by its letter
-module _ (plain rows : ℕ) (l : List ℕ) {x n : ℕ} {s : List ℕ} (e : x ≡ letter l) where
-  pub gives_plain : x ≡ plain → n ≡ count l → s ≡ piece l → times n (piece_as false s) ≡ line_gives plain rows l
+-- what a line gives, by its pieces
+module _ (plain rows : ℕ) (l : List ℕ) {o : Option Piece} {x : ℕ} (e : o ≡ piece_by plain rows x) (f : x ≡ letter l) where
+  pub gives_some : {p : Piece} {n : ℕ} {s : List ℕ} → o ≡ Some p → n ≡ count l → s ≡ piece l → times n (piece_as p s) ≡ line_gives plain rows l
   unfolding line_gives
-  gives_plain t p q = rw (sym e, eq-eqb x plain t, p, q)
+  gives_some t n s = rw (← f, ← e, t, n, s)
 
-  pub gives_rows : (x ≡ plain → ⊥) → x ≡ rows → n ≡ count l → s ≡ piece l → times n (piece_as true s) ≡ line_gives plain rows l
+  pub gives_none : o ≡ None → [] ≡ line_gives plain rows l
   unfolding line_gives
-  gives_rows d t p q = rw (sym e, ne_eqb x plain d, eq-eqb x rows t, p, q)
+  gives_none t = rw (← f, ← e, t)
 
-module _ (l : List ℕ) {x : ℕ} (e : x ≡ letter l) where
-  pub gives_none : (plain rows : ℕ) → (x ≡ plain → ⊥) → (x ≡ rows → ⊥) → [] ≡ line_gives plain rows l
-  unfolding line_gives
-  gives_none plain rows d t = rw (sym e, ne_eqb x plain d, ne_eqb x rows t)
+by_letter : (plain rows : ℕ) (l : List ℕ)
+    → line_gives plain rows l ≡ cond (eqb (letter l) plain) (times (count l) (numbers_in (piece l))) (cond (eqb (letter l) rows) (times (count l) (row_of (piece l))) [])
+unfolding line_gives piece_by
+by_letter plain rows l = go (eqb (letter l) plain) (eqb (letter l) rows)
+  where
+    go : (a b : Bool) → option (cond a (Some Numbers) (cond b (Some Row) None)) [] (λ p. times (count l) (piece_as p (piece l)))
+        ≡ cond a (times (count l) (numbers_in (piece l))) (cond b (times (count l) (row_of (piece l))) [])
+    go true b = refl
+    go false true = refl
+    go false false = refl
 
 plain_or_rows : (l : List ℕ) → line_gives 110 114 l ≡ numbers_of l
-unfolding line_gives numbers_of piece_as
-plain_or_rows l = refl
+unfolding numbers_of
+plain_or_rows l = by_letter 110 114 l
 
 pub all_numbers : (ls : List (List ℕ)) → each (line_gives 110 114) ls ≡ each numbers_of ls
 all_numbers ls = each_ext (line_gives 110 114) numbers_of plain_or_rows ls
@@ -71,8 +69,8 @@ once true a b c = refl
 once false a b c = refl
 
 plain_only : (l : List ℕ) → line_gives 101 101 l ≡ expected_of l
-unfolding line_gives expected_of piece_as
-plain_only l = once (eqb (letter l) 101) (times (count l) (numbers_in (piece l))) (times (count l) (row_of (piece l))) []
+unfolding expected_of
+plain_only l = by_letter 101 101 l ∙ once (eqb (letter l) 101) (times (count l) (numbers_in (piece l))) (times (count l) (row_of (piece l))) []
 
 pub all_expected : (ls : List (List ℕ)) → each (line_gives 101 101) ls ≡ each expected_of ls
 all_expected ls = each_ext (line_gives 101 101) expected_of plain_only ls

@@ -10,7 +10,7 @@ ghost use Rattle.text_fields.specs.Parts.{parts};
 ghost use Rattle.text_line.specs.Line.{row_of};
 ghost use Rattle.stored_lines.specs.inner.Line.{body};
 ghost use Rattle.stored_numbers.specs.inner.Numbers.{times, numbers_in, numbers_of, expected_of, gathered};
-ghost use Rattle.stored_numbers.specs.inner.Gives.{piece_as, line_gives};
+ghost use Rattle.stored_numbers.specs.inner.Gives.{piece_as, piece_by, line_gives};
 
 use text_fields::Parts;
 
@@ -53,52 +53,60 @@ fn put_row(out: &mut [i64], at: usize, fields: &[u8]) -> usize
     put_zeros(out, end, 10usize.saturating_sub(end - at))
 }
 
-fn put_piece(out: &mut [i64], at: usize, fields: &[u8], row: bool) -> usize
-    requires { at ≤ length out.old }
-    ensures { Wrote out.old at out.new result (piece_as row fields.now) }
-{
-    if row {
-        return put_row(out, at, fields);
-    }
-    put_numbers(out, at, fields)
+// What the pieces of a line are: the numbers of its fields as they are, or a row of them.
+#[derive(Clone, Copy)]
+enum Piece {
+    Numbers,
+    Row,
 }
 
-fn put_pieces(out: &mut [i64], from: usize, n: u64, fields: &[u8], row: bool) -> usize
+impl Piece {
+    fn put(self, out: &mut [i64], at: usize, fields: &[u8]) -> usize
+        requires { at ≤ length out.old }
+        ensures { Wrote out.old at out.new result (piece_as self fields.now) }
+    {
+        match self {
+            Piece::Numbers => put_numbers(out, at, fields),
+            Piece::Row => put_row(out, at, fields),
+        }
+    }
+}
+
+// The pieces of a line that starts with that letter: plain numbers after the one, or else rows after the other.
+#[tactic(auto, unfolding(crate::specs::inner::Gives::piece_by))]
+fn piece_by(letter: u8, plain: u8, rows: u8) -> Option<Piece>
+    ensures { result ≡ piece_by plain rows letter }
+{
+    if letter == plain {
+        Some(Piece::Numbers)
+    } else if letter == rows {
+        Some(Piece::Row)
+    } else {
+        None
+    }
+}
+
+fn put_pieces(out: &mut [i64], from: usize, n: u64, fields: &[u8], piece: Piece) -> usize
     requires { from ≤ length out.old }
-    ensures { Wrote out.old from out.new result (times n (piece_as row fields.now)) }
+    ensures { Wrote out.old from out.new result (times n (piece_as piece fields.now)) }
 {
     let mut at = from;
     for _i in 0..n {
-        at = put_piece(out, at, fields, row);
+        at = piece.put(out, at, fields);
     }
     at
 }
 
-// What a line gives: plain numbers, where it starts with that letter, or else rows, where it starts with the other.
+// What a line gives, by the letters that are asked for.
 fn put_line(out: &mut [i64], at: usize, line: &[u8], plain: u8, rows: u8) -> usize
     requires { at ≤ length out.old }
     ensures { Wrote out.old at out.new result (line_gives plain rows line.now) }
 {
-    let letter = stored_lines::letter_of(line);
-    if letter == plain {
-        return put_pieces(
-            out,
-            at,
-            stored_lines::count_of(line),
-            stored_lines::piece_of(line),
-            false,
-        );
-    }
-    if letter == rows {
-        return put_pieces(
-            out,
-            at,
-            stored_lines::count_of(line),
-            stored_lines::piece_of(line),
-            true,
-        );
-    }
-    at
+    let Some(piece) = piece_by(stored_lines::letter_of(line), plain, rows) else {
+        return at;
+    };
+    let n = stored_lines::count_of(line);
+    put_pieces(out, at, n, stored_lines::piece_of(line), piece)
 }
 
 fn put_lines(out: &mut [i64], lines: &[u8], plain: u8, rows: u8) -> usize

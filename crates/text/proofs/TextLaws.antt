@@ -1,24 +1,24 @@
 -- Laws of reading a text's lines one after the other. Assumes nothing.
-use Rattle.std.specs.Prelude.{Result, Ok, Err}
+use Rattle.std.specs.Prelude.{Result, Ok, Err, ⊤}
 use Rattle.refusals.specs.Refusals.{at}
 use Rattle.refusals.specs.declared.Reason.{Reason}
 use Rattle.refusals.specs.declared.Reason.TheVariants.{UnknownKind, Crowded, Misspelt, Overlong}
 use Rattle.refusals.specs.declared.Refusal.{Refusal}
-use Prim.Native.Nat.{ℕ, suc, ◌+◌, ◌*◌, ◌-◌, ◌/◌, ◌≤◌, ◌<◌}
+use Prim.Native.Nat.{ℕ, suc, ◌+◌, ◌*◌, ◌/◌, ◌≤◌, ◌<◌}
 use mathlib.Core.Bool.{Bool, true, false, cond, ◌&&◌, not}
 use mathlib.Core.List.{List, [], ◌∷◌, ◌++◌, append-nil}
 use mathlib.Core.Path.{◌≡◌, refl, sym, ap, ◌∙◌}
 use native.Mathlib.Omega.{arith}
 use native.Mathlib.Numerals.{add-one}
 use lib.Dec.{ltb, eqb}
-use lib.ListN.{length, get_or, drop, take, length-append, length-replicate, length-map, length-drop}
+use lib.ListN.{length, get_or, drop, length-append, length-replicate, length-map}
 use lib.Seq.{sets, length-sets, sets-eq}
 use lib.IntN.{ℤ}
-use borrow.Author.Tests.{lt-ltb, le-ltb, ltb-true, eqb-true}
+use borrow.Author.Tests.{lt-ltb, le-ltb, ltb-true, eqb-true, ne_eqb}
 use Rattle.loops.specs.Lists.{is_empty}
 use Rattle.loops.specs.Numbers.{to_nat}
 use Rattle.rows.specs.Table.{width}
-use Rattle.text_fields.specs.Parts.{until_byte, parts}
+use Rattle.text_fields.specs.Parts.{parts, on_first}
 use Rattle.text_line.specs.Line.{by_kind, fields_of, spelled, value_of, line_of, row_of}
 use Rattle.text.specs.inner.Stored.{rows_read, on_row}
 use Rattle.text.specs.Text.{answer_from, rows_of, rows_after, after_line, answer_of}
@@ -26,8 +26,8 @@ use Rattle.refusals.proofs.AnswerLaws.{no_accept, same_count}
 use Rattle.rows.proofs.Tables.{width_most}
 use Rattle.text_line.proofs.LineLaws.{no_row}
 use Rattle.loops.proofs.StoreLaws.{sets_append}
-use Rattle.loops.proofs.ListLaws.{rest_is, none_ahead, not_empty}
-use Rattle.text_fields.proofs.PartLaws.{parts_only, parts_more, parts_first}
+use Rattle.loops.proofs.ListLaws.{none_ahead}
+use Rattle.text_fields.proofs.PartLaws.{parts_first, parts_count}
 
 -- ---- a row has ten numbers
 
@@ -53,81 +53,100 @@ row_long l e = simp (length-append, length-map, length-replicate) (omega (arith,
 
 -- ---- the lines
 
--- where the lines before place were read to the rows, and rest is left of the text
-pub record LinesRead (text : List ℕ) (lent : ℕ) (rows₀ rows : List ℤ) (rest : List ℕ) (place : ℕ) : Type 0 where
-  pub answer : answer_from lent place (parts 10 rest) ≡ answer_from lent 0 (parts 10 text)
-  pub stores : sets rows (place * 10) (rows_read lent place (parts 10 rest)) ≡ sets rows₀ 0 (rows_read lent 0 (parts 10 text))
-  pub within : place + length rest ≤ length text
+-- none of the parts is longer than n bytes
+abbrev Within : ℕ → List (List ℕ) → Type 0
+Within n [] = ⊤
+Within n (p ∷ ps) = (length p ≤ n) × Within n ps
+
+within_more : (m n : ℕ) (ps : List (List ℕ)) → m ≤ n → Within m ps → Within n ps
+within_more m n [] l w = tt
+within_more m n (p ∷ ps) l w = (omega (arith, w.0), within_more m n ps l w.1)
+
+parts_within : (b : ℕ) (xs : List ℕ) → Within (length xs) (parts b xs)
+unfolding parts
+parts_within b [] = (omega arith, tt)
+parts_within b (x ∷ xs) = go (eqb x b) (parts b xs) (parts_within b xs)
+  where
+    go : (t : Bool) (ps : List (List ℕ)) → Within (length xs) ps → Within (suc (length xs)) (cond t ([] ∷ ps) (on_first x ps))
+    go true ps w = (omega arith, within_more (length xs) (suc (length xs)) ps (omega arith) w)
+    go false [] w = (omega arith, tt)
+    go false (p ∷ ps) w = (omega (arith, w.0), within_more (length xs) (suc (length xs)) ps (omega arith) w.1)
+
+-- where the lines before place were read to the rows, and a part and those after it are left of the text
+pub record LinesRead (text : List ℕ) (lent : ℕ) (rows₀ rows : List ℤ) (line : List ℕ) (left : List (List ℕ)) (place : ℕ) : Type 0 where
+  pub answer : answer_from lent place (line ∷ left) ≡ answer_from lent 0 (parts 10 text)
+  pub stores : sets rows (place * 10) (rows_read lent place (line ∷ left)) ≡ sets rows₀ 0 (rows_read lent 0 (parts 10 text))
+  pub few : place + length left ≤ length text
+  pub short : Within (length text) (line ∷ left)
   pub long : length rows ≡ length rows₀
 
-pub lines_none : (text : List ℕ) (lent : ℕ) (rows : List ℤ) → LinesRead text lent rows rows text 0
-lines_none text lent rows = record { answer = refl; stores = refl; within = omega arith; long = refl }
+pub lines_none : (text : List ℕ) (lent : ℕ) (rows : List ℤ) {line : List ℕ} {left : List (List ℕ)} → parts 10 text ≡ line ∷ left → LinesRead text lent rows rows line left 0
+lines_none text lent rows e = record {
+  answer = rw e;
+  stores = rw e;
+  few = omega (arith, parts_count 10 text, ap length e);
+  short = rw e at (parts_within 10 text);
+  long = refl;
+}
 
-nil_of : (xs : List ℕ) → length xs ≤ 0 → xs ≡ []
-nil_of [] h = refl
-nil_of (x ∷ xs) h = absurd (omega arith)
+-- a text has a part
+pub some_part : (text : List ℕ) → parts 10 text ≡ [] → ⊥
+some_part text e = let p = parts_first 10 text in let z : ◌≡◌ {A = ℕ} 0 (suc (length p.0)) = ap length (sym e ∙ p.1) in omega arith
 
-module _ (text : List ℕ) (lent : ℕ) (rows₀ rows : List ℤ) (rest : List ℕ) (place : ℕ) (w : LinesRead text lent rows₀ rows rest place) where
-  -- nothing is left
-  pub end_answer : length rest ≤ 0 → Ok place ≡ answer_from lent 0 (parts 10 text)
-  unfolding answer_from parts
-  end_answer h = rw (nil_of rest h) at w.answer
+is_nil : (l : List ℕ) → eqb (length l) 0 ≡ is_empty l
+is_nil [] = refl
+is_nil (x ∷ l) = ne_eqb (suc (length l)) 0 (λ e. omega arith)
 
-  pub end_rows : length rest ≤ 0 → rows ≡ sets rows₀ 0 (rows_read lent 0 (parts 10 text))
-  unfolding rows_read parts
-  end_rows h = rw (nil_of rest h) at w.stores
-
-  module _ (l : List ℕ) (e : l ≡ until_byte 10 rest) where
-    -- no line feed
-    pub open_answer : {e : Refusal} → e ≡ at Misspelt place → 0 < length rest → length rest ≤ length l → Err e ≡ answer_from lent 0 (parts 10 text)
-    unfolding answer_from
-    open_answer a h k = rw a (rw (parts_only 10 rest l e k, not_empty l (omega arith)) at w.answer)
-
-    pub open_rows : length rest ≤ length l → rows ≡ sets rows₀ 0 (rows_read lent 0 (parts 10 text))
+module _ (text : List ℕ) (lent : ℕ) (rows₀ rows : List ℤ) (line : List ℕ) (left : List (List ℕ)) (place : ℕ) (w : LinesRead text lent rows₀ rows line left place) where
+  -- no part follows
+  module _ (n : left ≡ []) where
+    pub end_rows : rows ≡ sets rows₀ 0 (rows_read lent 0 (parts 10 text))
     unfolding rows_read
-    open_rows k = rw (parts_only 10 rest l e k) at w.stores
+    end_rows = rw n at w.stores
 
-    module _ (h : length l < length rest) where
-      -- the line and those after it
-      opened : (ps : List (List ℕ)) × (parts 10 rest ≡ l ∷ until_byte 10 (drop (length l + 1) rest) ∷ ps) × (parts 10 (drop (length l + 1) rest) ≡ until_byte 10 (drop (length l + 1) rest) ∷ ps)
-      opened =
-          let o : parts 10 rest ≡ l ∷ parts 10 (drop (length l + 1) rest) = rw e (parts_more 10 rest (rw e at h)) in
-          let p = parts_first 10 (drop (length l + 1) rest) in
-          (p.0, o ∙ ap (λ (ps : List (List ℕ)). l ∷ ps) p.1, p.1)
+    module _ {b : Bool} (e : b ≡ eqb (length line) 0) where
+      pub end_answer : b ≡ true → Ok place ≡ answer_from lent 0 (parts 10 text)
+      unfolding answer_from
+      end_answer t = rw (n, sym (is_nil line), sym e ∙ t) at w.answer
 
-      module _ {x : Result Unit Reason} (j : x ≡ line_of l) where
-        pub wrong_answer : (k : Reason) {e : Refusal} → e ≡ at k place → x ≡ Err k → Err e ≡ answer_from lent 0 (parts 10 text)
-        unfolding answer_from
-        wrong_answer k a q = rw a (rw (opened.1, sym j ∙ q) at w.answer)
+      pub open_answer : {x : Refusal} → x ≡ at Misspelt place → b ≡ false → Err x ≡ answer_from lent 0 (parts 10 text)
+      unfolding answer_from
+      open_answer a t = rw a (rw (n, sym (is_nil line), sym e ∙ t) at w.answer)
 
-        pub full_answer : {e : Refusal} → e ≡ at Crowded place → x ≡ Ok tt → lent ≤ place → Err e ≡ answer_from lent 0 (parts 10 text)
-        unfolding answer_from
-        full_answer a q k = rw a (rw (opened.1, sym j ∙ q, le-ltb place lent k) at w.answer)
+  -- another does: the part is a line
+  module _ {next : List ℕ} {more : List (List ℕ)} (n : left ≡ next ∷ more) {x : Result Unit Reason} (j : x ≡ line_of line) where
+    pub wrong_answer : (k : Reason) {e : Refusal} → e ≡ at k place → x ≡ Err k → Err e ≡ answer_from lent 0 (parts 10 text)
+    unfolding answer_from
+    wrong_answer k a q = rw a (rw (n, sym j ∙ q) at w.answer)
 
-        module _ {rows' : List ℤ} (s : rows' ≡ sets rows (place * 10) (row_of l)) where
-          pub wrong_rows : (k : Reason) → x ≡ Err k → rows' ≡ sets rows₀ 0 (rows_read lent 0 (parts 10 text))
-          unfolding rows_read
-          wrong_rows k q = s ∙ (rw (opened.1, sym j ∙ q, append-nil (row_of l)) at w.stores)
+    pub full_answer : {e : Refusal} → e ≡ at Crowded place → x ≡ Ok tt → lent ≤ place → Err e ≡ answer_from lent 0 (parts 10 text)
+    unfolding answer_from
+    full_answer a q k = rw a (rw (n, sym j ∙ q, le-ltb place lent k) at w.answer)
 
-          pub full_rows : x ≡ (Ok tt) → lent ≤ place → rows' ≡ sets rows₀ 0 (rows_read lent 0 (parts 10 text))
-          unfolding rows_read
-          full_rows q k = s ∙ (rw (opened.1, sym j ∙ q, le-ltb place lent k, append-nil (row_of l)) at w.stores)
+    module _ {rows' : List ℤ} (s : rows' ≡ sets rows (place * 10) (row_of line)) where
+      pub wrong_rows : (k : Reason) → x ≡ Err k → rows' ≡ sets rows₀ 0 (rows_read lent 0 (parts 10 text))
+      unfolding rows_read
+      wrong_rows k q = s ∙ (rw (n, sym j ∙ q, append-nil (row_of line)) at w.stores)
 
-          pub lines_more : x ≡ (Ok tt) → place < lent → LinesRead text lent rows₀ rows' (take (length rest - (length l + 1)) (drop (length l + 1) rest)) (place + 1)
-          unfolding answer_from rows_read
-          lines_more q k =
-              let r = row_of l in
-              let i : (place + 1) * 10 ≡ place * 10 + length r = omega (arith, row_long l (sym j ∙ q)) in
-              rw (rest_is (length l + 1) rest)
-              (record {
-                answer = rw (add-one place, opened.2) (rw (opened.1, sym j ∙ q, lt-ltb place lent k) at w.answer);
-                stores =
-                    rw (s, i, add-one place, opened.2)
-                    (sets_append rows (place * 10) r (rows_read lent (suc place) (until_byte 10 (drop (length l + 1) rest) ∷ opened.0))
-                    ∙ (rw (opened.1, sym j ∙ q, lt-ltb place lent k) at w.stores));
-                within = simp length-drop (omega (arith, w.within));
-                long = ap length s ∙ length-sets rows (place * 10) r ∙ w.long;
-              })
+      pub full_rows : x ≡ (Ok tt) → lent ≤ place → rows' ≡ sets rows₀ 0 (rows_read lent 0 (parts 10 text))
+      unfolding rows_read
+      full_rows q k = s ∙ (rw (n, sym j ∙ q, le-ltb place lent k, append-nil (row_of line)) at w.stores)
+
+      pub lines_more : x ≡ (Ok tt) → place < lent → LinesRead text lent rows₀ rows' next more (place + 1)
+      unfolding answer_from rows_read
+      lines_more q k =
+          let r = row_of line in
+          let i : (place + 1) * 10 ≡ place * 10 + length r = omega (arith, row_long line (sym j ∙ q)) in
+          record {
+            answer = rw (add-one place) (rw (n, sym j ∙ q, lt-ltb place lent k) at w.answer);
+            stores =
+                rw (s, i, add-one place)
+                (sets_append rows (place * 10) r (rows_read lent (suc place) (next ∷ more))
+                ∙ (rw (n, sym j ∙ q, lt-ltb place lent k) at w.stores));
+            few = omega (arith, w.few, ap length n);
+            short = rw n at w.short.1;
+            long = ap length s ∙ length-sets rows (place * 10) r ∙ w.long;
+          }
 
 -- ---- an accepted text
 

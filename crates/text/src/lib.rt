@@ -8,6 +8,7 @@ ghost use Rattle.text.specs.Text.{answer_from, answer_of, rows_after};
 ghost use Rattle.text.specs.inner.Stored.{rows_read};
 
 use refusals::{Answer, Reason};
+use text_fields::Parts;
 
 // Reads a text's lines, where `lent` rows are lent. The rows' numbers go to `rows`, as far as they lie within it.
 fn read_lines(text: &[u8], rows: &mut [i64], lent: usize) -> Answer
@@ -15,14 +16,13 @@ fn read_lines(text: &[u8], rows: &mut [i64], lent: usize) -> Answer
     ensures value { result ≡ answer_from lent 0 (parts 10 text.now) }
     ensures rows_after { rows.new ≡ sets rows.old 0 (rows_read lent 0 (parts 10 text.now)) }
 {
-    let mut rest = text;
     let mut place: usize = 0;
-    while 0 < rest.len() {
-        let line = text_fields::first_part(rest, b'\n');
-        let n = line.len();
-        if rest.len() <= n {
-            return Err(Reason::Misspelt.at(place));
-        }
+    let mut parts = Parts::new(text, b'\n');
+    let Some(mut line) = parts.next() else {
+        return Ok(place);
+    };
+    // A part is a line where another follows it: what stands after the last line feed is none.
+    for next in parts {
         if let Err(reason) = text_line::read_line(line, rows, place * 10) {
             return Err(reason.at(place));
         }
@@ -30,9 +30,13 @@ fn read_lines(text: &[u8], rows: &mut [i64], lent: usize) -> Answer
             return Err(Reason::Crowded.at(place));
         }
         place += 1;
-        rest = &rest[n + 1..];
+        line = next;
     }
-    Ok(place)
+    if line.is_empty() {
+        Ok(place)
+    } else {
+        Err(Reason::Misspelt.at(place))
+    }
 }
 
 // Reads a text to the lent rows. A text that is refused changes no number of them: it is read first with none of them lent.

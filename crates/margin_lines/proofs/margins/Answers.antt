@@ -3,8 +3,11 @@ use Rattle.margin_lines.proofs.Ends.{refused_answer, refused_left}
 use borrow.Author.Rules.{rules}
 use Rattle.margin_lines.proofs.margins.Goals as goal
 
+pub new-requires : goal.new-requires
+new-requires c = index_of _ c.accept.ensures (search rules)
+
 pub write_margins-requires : goal.write_margins-requires
-write_margins-requires c = (index_of _ c.accept.ensures (search rules), passed_all _ c.accept.ensures (search rules))
+write_margins-requires c = rw c.new.ensures (passed_all _ c.accept.ensures (search rules))
 
 pub returns-in_err-accept : goal.returns-in_err-accept
 returns-in_err-accept c =

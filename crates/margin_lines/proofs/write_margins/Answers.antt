@@ -1,10 +1,9 @@
-use Rattle.model.proofs.Accepting.{accepted}
-use Rattle.margin_lines.proofs.Ends.{over_answer, over_left, full_answer, full_left, longer_answer, longer_left}
+use Rattle.margin_lines.proofs.Ends.{rows_pass, over_answer, over_left, full_answer, full_left, longer_answer, longer_left}
 use borrow.Author.Rules.{rules}
 use Rattle.margin_lines.proofs.write_margins.Goals as goal
 
-pub put_tasks-n-requires : goal.put_tasks-n-requires
-put_tasks-n-requires c = search (rules, accepted)
+pub put_margins-count-requires : goal.put_margins-count-requires
+put_margins-count-requires c = search (rules, rows_pass)
 
 pub returns-in-Over : goal.returns-in-Over
 returns-in-Over c =

@@ -9,14 +9,8 @@ pub loop-c-init : goal.loop-c-init
 unfolding collect
 loop-c-init c = search (rules, wrote_none)
 
-pub put_field-at-requires : goal.put_field-at-requires
-put_field-at-requires c = search (rules, wrote_within)
-
 pub loop-c-preserved : goal.loop-c-preserved
 loop-c-preserved c = search (rules, wrote_line)
-
-pub shape_of-out : goal.shape_of-out
-shape_of-out c = search (rules, wrote_long)
 
 pub returns : goal.returns
 unfolding number_line

@@ -8,15 +8,5 @@ use Rattle.printing.proofs.put_lines.Goals as goal
 pub loop-k-init : goal.loop-k-init
 loop-k-init c = search (rules, printing_none)
 
-pub put_line-at-requires : goal.put_line-at-requires
-put_line-at-requires c = search (rules, wrote_within)
-
 pub loop-k-preserved : goal.loop-k-preserved
 loop-k-preserved c = search (rules, printing_next)
-
-pub shape_of-out : goal.shape_of-out
-shape_of-out c = search (rules, wrote_long)
-
-pub returns : goal.returns
-unfolding number_lines
-returns c = search (rules, wrote_upto)

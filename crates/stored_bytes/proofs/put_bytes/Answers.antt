@@ -3,11 +3,5 @@ use Rattle.stored_numbers.proofs.PutLaws.{yet_all}
 use Rattle.stored_bytes.proofs.ByteLaws.{bytes_less, bytes_none}
 use Rattle.stored_bytes.proofs.put_bytes.Goals as goal
 
-pub loop-x-init : goal.loop-x-init
-loop-x-init c = search (rules, yet_all)
-
 pub loop-x-preserved : goal.loop-x-preserved
 loop-x-preserved c = search (rules, bytes_less)
-
-pub returns : goal.returns
-returns c = search (rules, bytes_none)

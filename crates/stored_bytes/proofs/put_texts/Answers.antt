@@ -6,9 +6,6 @@ use Rattle.stored_numbers.proofs.GivesLaws.{each_more, each_none}
 use Rattle.stored_numbers.proofs.PutLaws.{yet_all, yet_as}
 use Rattle.stored_bytes.proofs.put_texts.Goals as goal
 
-pub loop-line-init : goal.loop-line-init
-loop-line-init c = yet_as (ap (each bytes_of) (sym (ap parts_left c.into_iter-line-iterator.ensures.into_iter_gives ∙ c.new-line-items.ensures))) (yet_all _ _ _ (omega arith))
-
 pub loop-line-preserved : goal.loop-line-preserved
 loop-line-preserved c = each_more c.in-Some.ensures.steps bytes_of c.loop-line.invariant c.put_text-at.ensures
 

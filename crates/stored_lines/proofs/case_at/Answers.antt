@@ -2,13 +2,6 @@ use Rattle.stored_lines.proofs.LineLaws.{line_within, case_more, case_last, line
 use borrow.Author.Rules.{rules}
 use Rattle.stored_lines.proofs.case_at.Goals as goal
 
-pub returns-then-end-list : goal.returns-then-end-list
-returns-then-end-list c =
-    record {
-      case_at = search (rules, case_more);
-      at_le_line = (search (rules, line_from), search rules, search (rules, line_within));
-    }
-
 pub returns-else-end-list : goal.returns-else-end-list
 returns-else-end-list c =
     record {

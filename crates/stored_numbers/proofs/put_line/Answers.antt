@@ -1,13 +1,10 @@
-use Rattle.stored_numbers.proofs.GivesLaws.{gives_plain, gives_rows, gives_none}
+use Rattle.stored_numbers.proofs.GivesLaws.{gives_some, gives_none}
 use Rattle.loops.proofs.StoreLaws.{wrote_as, wrote_none}
 use borrow.Author.Rules.{rules}
 use Rattle.stored_numbers.proofs.put_line.Goals as goal
 
-pub returns-then-letter-plain : goal.returns-then-letter-plain
-returns-then-letter-plain c = search (rules, wrote_as, gives_plain)
-
-pub returns-then-letter-rows : goal.returns-then-letter-rows
-returns-then-letter-rows c = search (rules, wrote_as, gives_rows)
+pub returns-in_default : goal.returns-in_default
+returns-in_default c = search (rules, wrote_as, gives_none, wrote_none)
 
 pub returns : goal.returns
-returns c = search (rules, wrote_as, gives_none, wrote_none)
+returns c = search (rules, wrote_as, gives_some)

@@ -1,9 +1,6 @@
 use borrow.Author.Rules.{rules}
-use Rattle.stored_numbers.proofs.PutLaws.{yet_all, yet_less, yet_none, yet_as, times_next, times_done}
+use Rattle.stored_numbers.proofs.PutLaws.{yet_less, yet_none, yet_as, times_next, times_done}
 use Rattle.stored_numbers.proofs.put_pieces.Goals as goal
-
-pub loop-i-init : goal.loop-i-init
-loop-i-init c = search (rules, yet_all)
 
 pub loop-i-preserved : goal.loop-i-preserved
 loop-i-preserved c = search (rules, yet_less, yet_as, times_next)

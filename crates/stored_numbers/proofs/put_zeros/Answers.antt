@@ -1,12 +1,6 @@
 use borrow.Author.Rules.{rules}
-use Rattle.stored_numbers.proofs.PutLaws.{yet_all, yet_less, yet_none, yet_as, replicate_next, replicate_done}
+use Rattle.stored_numbers.proofs.PutLaws.{yet_less, yet_as, replicate_next}
 use Rattle.stored_numbers.proofs.put_zeros.Goals as goal
-
-pub loop-i-init : goal.loop-i-init
-loop-i-init c = search (rules, yet_all)
 
 pub loop-i-preserved : goal.loop-i-preserved
 loop-i-preserved c = search (rules, yet_less, yet_as, replicate_next)
-
-pub returns : goal.returns
-returns c = search (rules, yet_none, yet_as, replicate_done)

@@ -1,12 +1,19 @@
 -- What a line gives, by the letters that are asked for. Assumes nothing.
-use Rattle.std.specs.Prelude.{ℕ, Bool, true, false, cond, List, [], eqb, ℤ}
+use Rattle.std.specs.Prelude.{ℕ, cond, List, [], eqb, ℤ, Option, None, Some}
+use Rattle.loops.specs.Lists.{option}
 use Rattle.text_line.specs.Line.{row_of}
 use Rattle.stored_lines.specs.inner.Line.{letter, count, piece}
 use Rattle.stored_numbers.specs.inner.Numbers.{times, numbers_in}
+use Rattle.stored_numbers.specs.declared.Piece.{Piece}
+use Rattle.stored_numbers.specs.declared.Piece.TheVariants.{Numbers, Row}
 
-unfoldable pub piece_as : Bool → List ℕ → List ℤ
-piece_as row s = cond row (row_of s) (numbers_in s)
+abbrev pub piece_as : Piece → List ℕ → List ℤ
+piece_as Numbers s = numbers_in s
+piece_as Row s = row_of s
 
 -- plain numbers after the one letter, or else rows after the other
+unfoldable pub piece_by : ℕ → ℕ → ℕ → Option Piece
+piece_by plain rows x = cond (eqb x plain) (Some Numbers) (cond (eqb x rows) (Some Row) None)
+
 unfoldable pub line_gives : ℕ → ℕ → List ℕ → List ℤ
-line_gives plain rows l = cond (eqb (letter l) plain) (times (count l) (piece_as false (piece l))) (cond (eqb (letter l) rows) (times (count l) (piece_as true (piece l))) [])
+line_gives plain rows l = option (piece_by plain rows (letter l)) [] (λ p. times (count l) (piece_as p (piece l)))

@@ -1,31 +1,37 @@
-use mathlib.Core.Path.{◌≡◌, refl, ◌∙◌}
-use Rattle.freebusy_lines.specs.Lines.{unfolded}
-use Rattle.freebusy_components.proofs.LineLaws.{sent_room, sent_small, past_less, past_within}
-use Rattle.freebusy_components.proofs.WalkLaws.{space_on, space_end}
+use Rattle.std.proofs.Common.{◌≡◌, ◌∙◌, ap, arith, inl}
+use Rattle.freebusy_lines.specs.Lines.{unfolded, sent_lines}
+use Rattle.freebusy_lines.specs.inner.Sent.{lines_left}
+use Rattle.freebusy_components.proofs.WalkLaws.{few, unfolding_start, unfolding_on, unfolding_end}
 use Rattle.freebusy.proofs.StepLaws.{text_start, text_on, text_end}
 use borrow.Author.Rules.{rules}
 use Rattle.freebusy.proofs.Lent.read_periods.Goals as goal
 
-pub loop-rest-init : goal.loop-rest-init
-loop-rest-init c = (text_start _ _ _ _, search rules, refl, refl)
+pub loop-p-init-derived : goal.loop-p-init-derived
+loop-p-init-derived c =
+    let i = c.into_iter-p-iterator.ensures.into_iter_gives in
+    let e : lines_left c.into_iter-p-iterator.result.iter ≡ sent_lines c.args.text.now =
+    ap (λ x. lines_left x.iter) i ∙ ap lines_left c.enumerate-p-items.ensures.source ∙ c.new.ensures in
+    let k = ap (λ x. x.count) i ∙ c.enumerate-p-items.ensures.count in
+    ((tt, tt, inl (omega (arith, few _ e, k))), tt)
 
-pub unfold-n-requires : goal.unfold-n-requires
-unfold-n-requires c = search sent_room
+pub loop-p-init : goal.loop-p-init
+loop-p-init c =
+    let i = c.into_iter-p-iterator.ensures.into_iter_gives in
+    let e : lines_left c.into_iter-p-iterator.result.iter ≡ sent_lines c.args.text.now =
+    ap (λ x. lines_left x.iter) i ∙ ap lines_left c.enumerate-p-items.ensures.source ∙ c.new.ensures in
+    let k = ap (λ x. x.count) i ∙ c.enumerate-p-items.ensures.count in
+    (unfolding_start _ _ (search rules) e, rw k (text_start _ _ _ _ e))
 
-pub past_line-next-requires : goal.past_line-next-requires
-past_line-next-requires c = search sent_small
-
-pub loop-rest-smaller : goal.loop-rest-smaller
-loop-rest-smaller c = search past_less
-
-pub loop-rest-preserved : goal.loop-rest-preserved
-loop-rest-preserved c =
-    let l : c.front_or.result.now ≡ unfolded c.first_line-sent.result.now = c.front_or.ensures ∙ c.unfold-n.ensures.value in
-    (search (rules, text_on), search past_within, search (rules, ◌∙◌), search space_on)
+pub loop-p-preserved : goal.loop-p-preserved
+loop-p-preserved c =
+    let e = c.in-Some.ensures.steps in
+    let l : c.front_or-l.result.now ≡ unfolded c.in-Some.sent.bytes.now = c.front_or-l.ensures ∙ c.unfold-n.ensures.value in
+    (unfolding_on c.loop-p.invariant.0 e.0 (search rules) (search rules), text_on _ _ c.loop-p.invariant.1 e.0 l c.in-Some.p e.1 (search rules) (search rules) e.2 (search rules))
 
 pub returns : goal.returns
 returns c =
+    let e = c.in-None.ensures.steps.0.0 in
     record {
-      read_on = search text_end;
-      space_after = search space_end;
+      read_on = text_end _ _ c.loop-p.invariant.1 e;
+      space_after = unfolding_end c.loop-p.invariant.0 e;
     }
