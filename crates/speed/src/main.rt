@@ -8,14 +8,17 @@
 #![tactic(auto)]
 
 ghost use Rattle.std.specs.Prelude.{◌≡◌, ◌≤◌, length};
-ghost use Rattle.model.specs.inner.Indexed.{Indexed};
 ghost use Rattle.pieces.specs.inner.Held.{Held};
 ghost use Rattle.derived_times.specs.inner.Needs.{Needs};
 
 use calendar::{Calendars, Places, TimeWindow, WindowKind, WorkEnd};
+use findings::Findings;
+use model::Sheet;
 use refusals::Verdict;
+use sheet::Rows;
 use std::io;
 use std::io::Read;
+use text_fields::Parts;
 
 // Room for two lines and many texts. The promises give the lengths, which is all that lending an array as a slice asks.
 fn no_text() -> [u8; 400000]
@@ -49,39 +52,61 @@ fn after(s: &[u8], n: usize) -> &[u8] {
     &s[..0]
 }
 
-// Check 6 with what it asks for: which bookings lack working time.
-fn check_calendars(
-    rows: &[i64],
-    kinds: &[u16; 3680],
-    links: &[u16; 1600],
-    owned: &[u16; 8810],
-    need: &[u64; 800],
-    out: &mut [i64],
-) -> usize
-    requires { Indexed rows.now kinds.now links.now owned.now × Needs rows.now need.now }
-{
-    let lacking = check6_calendars::lacking_of(rows, kinds, links, owned, need);
-    check6_calendars::check_calendars(rows, kinds, links, owned, &lacking, out, 0)
+// What is timed.
+#[derive(Clone, Copy)]
+enum Part {
+    Assignments,
+    TimeOnly,
+    Parts,
+    Requirements,
+    Capacity,
+    Calendars,
+    Precedence,
+    Deadlines,
+    Constraints,
+    DerivedTimes,
+    Validation,
+    WorkEnd,
+    Nothing,
 }
 
-fn one_if_fine(v: Verdict) -> usize {
-    match v {
-        Ok(()) => 1,
-        Err(_) => 0,
+impl From<u64> for Part {
+    fn from(number: u64) -> Part {
+        match number {
+            1 => Part::Assignments,
+            2 => Part::TimeOnly,
+            3 => Part::Parts,
+            4 => Part::Requirements,
+            5 => Part::Capacity,
+            6 => Part::Calendars,
+            7 => Part::Precedence,
+            8 => Part::Deadlines,
+            9 => Part::Constraints,
+            10 => Part::DerivedTimes,
+            11 => Part::Validation,
+            12 => Part::WorkEnd,
+            _ => Part::Nothing,
+        }
     }
 }
 
-fn derive_times(
-    rows: &[i64],
-    kinds: &[u16; 3680],
-    links: &[u16; 1600],
-    owned: &[u16; 8810],
-) -> usize
-    requires { Indexed rows.now kinds.now links.now owned.now }
+// Check 6 with what it asks for: which bookings lack working time.
+fn check_calendars(rows: &Sheet, need: &[u64; 800], found: &mut Findings)
+    requires { Needs rows.now need.now }
 {
-    let held = pieces::held_of(rows, kinds, links, owned);
-    let need = derived_times::needs_of(rows, links, owned, &held);
-    one_if_fine(derived_times::refused(rows, &need))
+    let lacking = check6_calendars::lacking_of(rows, need);
+    check6_calendars::check_calendars(rows, &lacking, found);
+}
+
+fn one_if_fine(v: Verdict) -> usize {
+    usize::from(v.is_ok())
+}
+
+fn derive_times(rows: &Sheet) -> usize {
+    let owners = rows.owners();
+    let held = pieces::held_of(&rows.by_kind(), &owners);
+    let need = derived_times::needs_of(&owners, &held);
+    one_if_fine(derived_times::refused(rows.as_slice(), &need))
 }
 
 // 2,500,000,000 ms later, up to the last instant of a sheet.
@@ -124,132 +149,84 @@ fn end_work() -> usize {
 }
 
 // What a part gives; the findings of a check go to a buffer that holds 1,024 of them.
-fn once(
-    rows: &[i64],
-    kinds: &[u16; 3680],
-    links: &[u16; 1600],
-    owned: &[u16; 8810],
-    held: &[u8; 800],
-    need: &[u64; 800],
-    part: u64,
-    out: &mut [i64],
-) -> usize
-    requires { Indexed rows.now kinds.now links.now owned.now × Held rows.now held.now × Needs rows.now need.now }
+fn once(rows: &Sheet, held: &[u8; 800], need: &[u64; 800], part: Part, out: &mut [i64]) -> usize
+    requires { Held rows.now held.now × Needs rows.now need.now }
 {
+    let mut found = Findings::new(out);
     match part {
-        1 => check1_assignments::check_assignments(rows, kinds, links, owned, held, need, out, 0),
-        2 => check2_time_only::check_time_only(rows, kinds, links, owned, out, 0),
-        3 => check3_parts::check_parts(rows, kinds, links, owned, out, 0),
-        4 => check4_requirements::check_requirements(rows, kinds, links, owned, held, out, 0),
-        5 => check5_capacity::check_capacity(rows, kinds, links, owned, out, 0),
-        6 => check_calendars(rows, kinds, links, owned, need, out),
-        7 => check7_precedence::check_precedence(rows, kinds, links, owned, out, 0),
-        8 => check8_deadlines::check_deadlines(rows, kinds, out, 0),
-        9 => check9_constraints::check_constraints(rows, kinds, out, 0),
-        10 => derive_times(rows, kinds, links, owned),
-        11 => one_if_fine(validation::validate(rows)),
-        12 => end_work(),
-        _ => 0,
+        Part::Assignments => check1_assignments::check_assignments(rows, held, need, &mut found),
+        Part::TimeOnly => check2_time_only::check_time_only(rows, &mut found),
+        Part::Parts => check3_parts::check_parts(rows, &mut found),
+        Part::Requirements => check4_requirements::check_requirements(rows, held, &mut found),
+        Part::Capacity => check5_capacity::check_capacity(rows, &mut found),
+        Part::Calendars => check_calendars(rows, need, &mut found),
+        Part::Precedence => check7_precedence::check_precedence(rows, &mut found),
+        Part::Deadlines => check8_deadlines::check_deadlines(&rows.by_kind(), &mut found),
+        Part::Constraints => check9_constraints::check_constraints(&rows.by_kind(), &mut found),
+        Part::DerivedTimes => return derive_times(rows),
+        Part::Validation => return one_if_fine(validation::validate(rows.as_slice())),
+        Part::WorkEnd => return end_work(),
+        Part::Nothing => {}
     }
+    found.len()
 }
 
-fn repeated(
-    rows: &[i64],
-    kinds: &[u16; 3680],
-    links: &[u16; 1600],
-    owned: &[u16; 8810],
-    held: &[u8; 800],
-    need: &[u64; 800],
-    part: u64,
-    count: u64,
-    out: &mut [i64],
-) -> usize
-    requires { Indexed rows.now kinds.now links.now owned.now × Held rows.now held.now × Needs rows.now need.now }
-{
+// So many times, 0 where a refusal refuses the sheet.
+fn timed(rows: &Sheet, part: Part, count: u64) -> usize {
+    let owners = rows.owners();
+    let held = pieces::held_of(&rows.by_kind(), &owners);
+    let need = derived_times::needs_of(&owners, &held);
+    let Ok(()) = derived_times::refused(rows.as_slice(), &need) else {
+        return 0;
+    };
+    let mut out = no_findings();
     let mut n = 0;
-    for k in 0..count {
-        n = once(rows, kinds, links, owned, held, need, part, out);
+    for _ in 0..count {
+        n = once(rows, &held, &need, part, &mut out);
     }
     n
 }
 
-// 0 where a refusal refuses the sheet.
-fn found_of(rows: &[i64], part: u64, count: u64) -> usize {
+fn found_of(rows: &[i64], part: Part, count: u64) -> usize {
     let mut kinds = [0u16; 3680];
     let mut links = [0u16; 1600];
     let mut owned = [0u16; 8810];
     let Ok(()) = validation::index(rows, &mut kinds, &mut links, &mut owned) else {
         return 0;
     };
-    timed(rows, &kinds, &links, &owned, part, count)
-}
-
-fn timed(
-    rows: &[i64],
-    kinds: &[u16; 3680],
-    links: &[u16; 1600],
-    owned: &[u16; 8810],
-    part: u64,
-    count: u64,
-) -> usize
-    requires { Indexed rows.now kinds.now links.now owned.now }
-{
-    let held = pieces::held_of(rows, kinds, links, owned);
-    let need = derived_times::needs_of(rows, links, owned, &held);
-    let verdict = derived_times::refused(rows, &need);
-    let Ok(()) = verdict else {
-        return 0;
-    };
-    let mut out = no_findings();
-    repeated(
-        rows, kinds, links, owned, &held, &need, part, count, &mut out,
-    )
+    timed(&Sheet::new(rows, &kinds, &links, &owned), part, count)
 }
 
 // 0 where the text is refused.
-fn found_in(text: &[u8], part: u64, count: u64) -> usize {
+fn found_in(text: &[u8], part: Part, count: u64) -> usize {
     let mut rows = no_rows();
     match text::read_text(text, &mut rows) {
-        Ok(n) => {
-            if n <= 800 {
-                return found_of(&rows[..10 * n], part, count);
-            }
-            0
-        }
-        Err(_) => 0,
+        Ok(n) if n <= 800 => found_of(&rows[..10 * n], part, count),
+        _ => 0,
     }
 }
 
 // What the part gave on the last sheet.
-fn on_each(texts: &[u8], part: u64) -> usize {
-    let mut rest = texts;
-    loop {
-        let sheet = text_fields::first_part(rest, b';');
-        let found = found_in(sheet, part, 1);
-        let n = sheet.len();
-        if rest.len() <= n {
-            return found;
-        }
-        rest = &rest[n + 1..];
+fn on_each(texts: &[u8], part: Part) -> usize {
+    let mut found = 0;
+    for text in Parts::new(texts, b';') {
+        found = found_in(text, part, 1);
     }
+    found
 }
 
-fn in_turn(texts: &[u8], part: u64, count: u64) -> usize {
-    let mut n = 0;
-    for k in 0..count {
-        n = on_each(texts, part);
+fn found_by(texts: &[u8], number: u64, count: u64) -> usize {
+    if number < 100 {
+        return found_in(texts, Part::from(number), count);
     }
-    n
+    let mut found = 0;
+    for _ in 0..count {
+        found = on_each(texts, Part::from(number - 100));
+    }
+    found
 }
 
-fn found_by(texts: &[u8], part: u64, count: u64) -> usize {
-    if part < 100 {
-        return found_in(texts, part, count);
-    }
-    in_turn(texts, part - 100, count)
-}
-
-// Reads until the input ends, a read fails or the room is full, and gives how many bytes were read.
+// Reads until the input ends, a read fails or the room is full, and gives how many bytes were read. Steps of any length, and no index that counts them.
 fn read_whole(from: &mut impl Read, room: &mut [u8]) -> usize
     ensures { result ≤ length room.new }
 {

@@ -1,9 +1,0 @@
--- `speed::in_turn` ends. Assumes nothing.
-use Prim.Native.Nat.{◌-◌}
-use Rattle.speed.proofs.in_turn.Given as goal
-
-abbrev pub invariant-loop-k : goal.invariant-loop-k
-invariant-loop-k l = Unit {0}
-
-abbrev pub decreases-loop-k : goal.decreases-loop-k
-decreases-loop-k l = l.count - l.k
