@@ -37,20 +37,16 @@ module _ (rows : List ℤ) (q : ℕ) (l : q < row_count rows) (h : is rows q 0 5
   none_listed = ap is_empty (candidates_are rows q l h) ∙ none_given (owned_by rows q 6) (λ k. num rows k 3) (row_count rows)
 
   -- it lists some
-  pub by_list : (k : ℕ) {id : ℕ} {o r : Bool} → o ≡ any_below (owned_by rows q 6) (row_count rows) → o ≡ true → id ≡ num rows k 1
-      → r ≡ among id (candidates (sheet rows) (requirement_of rows q)) → r ≡ is_candidate (sheet rows) (requirement_of rows q) (resource_of rows k)
+  pub by_list : (k : ℕ) → any_below (owned_by rows q 6) (row_count rows) ≡ true
+      → is_candidate (sheet rows) (requirement_of rows q) (resource_of rows k) ≡ among (num rows k 1) (candidates (sheet rows) (requirement_of rows q))
   unfolding is_candidate
-  by_list k f h e g =
-      let t : is_empty (candidates (sheet rows) (requirement_of rows q)) ≡ false = none_listed ∙ ap not (sym f ∙ h) in
-      rw (t, ← e) g
+  by_list k e = let t : is_empty (candidates (sheet rows) (requirement_of rows q)) ≡ false = none_listed ∙ ap not e in rw t refl
 
   -- it lists none
-  pub by_type : (k : ℕ) {t : ℕ} {o r : Bool} → o ≡ any_below (owned_by rows q 6) (row_count rows) → o ≡ false → t ≡ num rows q 2
-      → r ≡ is rows k 2 t → r ≡ is_candidate (sheet rows) (requirement_of rows q) (resource_of rows k)
+  pub by_type : (k : ℕ) → any_below (owned_by rows q 6) (row_count rows) ≡ false
+      → is_candidate (sheet rows) (requirement_of rows q) (resource_of rows k) ≡ is rows k 2 (num rows q 2)
   unfolding is_candidate is
-  by_type k f h e g =
-      let t : is_empty (candidates (sheet rows) (requirement_of rows q)) ≡ true = none_listed ∙ ap not (sym f ∙ h) in
-      rw (t, ← e) g
+  by_type k e = let t : is_empty (candidates (sheet rows) (requirement_of rows q)) ≡ true = none_listed ∙ ap not e in rw t refl
 
 -- ---- usage
 

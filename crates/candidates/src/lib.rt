@@ -24,6 +24,7 @@ fn is_listed(rows: &ByOwner, q: usize, id: u64) -> bool
 }
 
 // Whether the resource of row k may fill the requirement of row q: one of its candidates or, where it lists none, one of its type.
+#[tactic(auto, using(crate::proofs::Uses::by_list, crate::proofs::Uses::by_type))]
 pub fn is_candidate(rows: &ByOwner, q: usize, k: usize) -> bool
     requires { (q < row_count rows.now) × (is rows.now q 0 5 ≡ true) }
     ensures { result ≡ is_candidate (sheet rows.now) (requirement_of rows.now q) (resource_of rows.now k) }
