@@ -45,6 +45,7 @@ pub struct TimeWindow {
 
 impl TimeWindow {
     // Whether the instant t lies in the window.
+    #[tactic(auto, unfolding(crate::specs::Calendar::contains))]
     fn contains(self, t: u64) -> bool
         ensures { result ≡ contains clock (pos t) (window_of self) }
     {
@@ -52,6 +53,7 @@ impl TimeWindow {
     }
 
     // Whether the window covers all of [a, e).
+    #[tactic(auto, unfolding(crate::specs::Calendar::covers))]
     fn covers(self, a: u64, e: u64) -> bool
         ensures { result ≡ covers clock (pos a) (pos e) (window_of self) }
     {
@@ -59,6 +61,7 @@ impl TimeWindow {
     }
 
     // Whether the window, as a closure, hits [a, e).
+    #[tactic(auto, unfolding(crate::specs::Calendar::hits))]
     fn hits(self, a: u64, e: u64) -> bool
         ensures { result ≡ hits clock (pos a) (pos e) (window_of self) }
     {
@@ -76,6 +79,7 @@ pub struct Places {
 
 impl Places {
     // The windows at these places.
+    #[tactic(auto, using(crate::proofs::Windows::slice_is))]
     pub fn windows_in(self, windows: &[TimeWindow]) -> &[TimeWindow]
         ensures { result.now ≡ windows_of windows.now self.from self.to }
     {
@@ -145,6 +149,7 @@ pub struct Fit {
 
 impl Fit {
     // Before the first window.
+    #[tactic(auto, unfolding(crate::specs::Fit::fit_of, crate::specs::Fit::standing_of, loops::specs::Lists::any_of))]
     pub fn over(start: u64, end: u64) -> Fit
         ensures { result ≡ fit_of [] start end }
     {
@@ -156,6 +161,7 @@ impl Fit {
     }
 
     // With one window more.
+    #[tactic(auto, using(crate::proofs::Windows::fit_more))]
     pub fn add(self, x: TimeWindow) -> Fit
         ensures { (l : Calendar ℤ) (a e : ℕ) → self ≡ fit_of l a e → result ≡ fit_of (l ++ window_of x ∷ []) a e }
     {
@@ -169,6 +175,7 @@ impl Fit {
     }
 
     // Whether [start, end) fits the calendar whole.
+    #[tactic(auto, using(crate::proofs::Windows::fit_is))]
     pub fn fits(self) -> bool
         ensures { (l : Calendar ℤ) (a e : ℕ) → self ≡ fit_of l a e → result ≡ interval_fits clock l (pos a) (pos e) }
     {
@@ -190,6 +197,7 @@ pub fn interval_fits(windows: &[TimeWindow], a: u64, e: u64) -> bool
 // ---- working time
 
 // x if it lies between t and b, else b.
+#[tactic(auto, unfolding(crate::specs::inner::Scan::nearer))]
 fn nearer(t: u64, x: u64, b: u64) -> u64
     ensures { result ≡ nearer t x b }
 {
@@ -217,6 +225,7 @@ impl Stretch {
 }
 
 // The calendar from the instant t on, with its next stop if that is below b, else b.
+#[tactic(auto, using(crate::proofs::Windows::works_is), unfolding(crate::specs::Fit::standing_of, loops::specs::Lists::any_of, crate::specs::inner::Scan::next_stop))]
 fn look(windows: &[TimeWindow], t: u64, b: u64) -> Stretch
     ensures working { result.working ≡ is_working_time clock (map window_of windows.now) (pos t) }
     ensures stop { result.stop ≡ next_stop windows.now t b }
@@ -252,6 +261,7 @@ pub struct Calendars<'a> {
 
 impl<'a> Calendars<'a> {
     // All of them from the instant t on, with their next stop if that is below b, else b.
+    #[tactic(auto, unfolding(crate::specs::inner::Scan::joint_look, crate::specs::Layout::lists_of))]
     fn look(self, t: u64, b: u64) -> Stretch
         ensures value { result ≡ joint_look (lists_of self.entry.windows.now self.entry.places.now) t b }
         ensures ends { AllEndBy last_instant (lists_of self.entry.windows.now self.entry.places.now) }
@@ -271,6 +281,7 @@ impl<'a> Calendars<'a> {
     }
 
     // Whether t is working time of every one of the calendars.
+    #[tactic(auto, using(crate::proofs::Stretches::looked_at))]
     pub fn joint_working(self, t: u64) -> bool
         ensures { result ≡ joint_working clock (calendars_of self.entry.windows.now self.entry.places.now) (pos t) }
     {
@@ -278,6 +289,7 @@ impl<'a> Calendars<'a> {
     }
 
     // Joint working time within [a, e), in milliseconds.
+    #[tactic(auto, using(crate::proofs::Answers::nearer_end))]
     pub fn joint_available_ms(self, a: u64, e: u64) -> u64
         ensures { result ≡ joint_available_ms clock (calendars_of self.entry.windows.now self.entry.places.now) (pos a) (pos e) }
     {
@@ -293,6 +305,7 @@ impl<'a> Calendars<'a> {
     }
 
     // The first instant by which `work` milliseconds of joint working time have passed since `start`. A start in a pause is no obstacle here.
+    #[tactic(auto, using(crate::proofs::Answers::nearer_end, crate::proofs::Answers::end_first_lem, crate::proofs::Answers::end_next, crate::proofs::Answers::answer_none, crate::proofs::Answers::answer_here, crate::proofs::Answers::answer_past, crate::proofs::Answers::answer_still))]
     pub fn end_from(self, start: u64, work: u64) -> WorkEnd
         ensures { result ≡ saying (end_from clock (calendars_of self.entry.windows.now self.entry.places.now) (pos start) work) }
     {
@@ -320,6 +333,7 @@ impl<'a> Calendars<'a> {
 
     // When `work` milliseconds of work started at `start` end, if it runs only while every one of the calendars works and pauses otherwise. Work below
     // zero counts as none.
+    #[tactic(auto, using(crate::proofs::Answers::pause_here, crate::proofs::Answers::end_there, crate::proofs::Answers::amount_is))]
     pub fn joint_work_end(self, start: u64, work: i64) -> WorkEnd
         ensures { result ≡ saying (joint_work_end clock (calendars_of self.entry.windows.now self.entry.places.now) (pos start) work) }
     {

@@ -1,13 +1,7 @@
 use borrow.Author.Rules.{rules}
-use Rattle.calendar.specs.Layout.{lists_of}
-use Rattle.calendar.specs.inner.Scan.{joint_look}
 use Rattle.calendar.proofs.Stretches.{look_at, all_end_at, first_decides, second_decides}
 use Rattle.calendar.proofs.Calendars.look.Goals.{then-all, else-all}
 use Rattle.calendar.proofs.Calendars.look.Goals as goal
-
-pub loop-places-init : goal.loop-places-init
-unfolding joint_look lists_of
-loop-places-init c = search rules
 
 pub loop-places-preserved : goal.loop-places-preserved
 loop-places-preserved c = record {
