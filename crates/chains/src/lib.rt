@@ -10,6 +10,7 @@ use std::marker::Model;
 // The places below an end that pass a test, each of which leads to the next.
 pub trait Chain {
     ghost use Rattle.std.specs.Prelude.{◌≡◌, ◌<◌, suc, ℕ, Bool};
+    ghost use Rattle.loops.specs.Search.{first_place};
     ghost use Rattle.loops.specs.inner.Chain.{First, Stands};
 
     ghost test: { Self → ℕ → Bool };
@@ -28,6 +29,17 @@ pub trait Chain {
     fn next_place(&self, i: usize) -> usize
         requires { Stands (test self.now) (end self.now) i × (i < end self.now) }
         ensures { First (test self.now) (suc i) (end self.now) result };
+
+    // The first place, if there is one. A walk would look for the next as well.
+    fn find_first(&self) -> Option<usize>
+        ensures { result ≡ first_place (test self.now) (end self.now) }
+    {
+        let k = self.first_place();
+        if k < self.end_place() {
+            return Some(k);
+        }
+        None
+    }
 }
 
 // The places of a chain that are left; seen as their list.

@@ -18,7 +18,13 @@ use refusals::{Answer, Reason};
 use sheet::Rows;
 
 // The nine checks, into a lent buffer: how many findings there are.
-fn check_all(rows: &Sheet, held: &[u8; 800], need: &[u64; 800], lacking: &[u8; 800], out: &mut [i64]) -> usize
+fn check_all(
+    rows: &Sheet,
+    held: &[u8; 800],
+    need: &[u64; 800],
+    lacking: &[u8; 800],
+    out: &mut [i64],
+) -> usize
     requires { Held rows.now held.now × Needs rows.now need.now × Lacking rows.now lacking.now }
     ensures { sink out.new result ≡ emit (sink out.old 0) (findings rows.now) }
 {

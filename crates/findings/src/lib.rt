@@ -99,7 +99,7 @@ fn put(out: &mut [i64], n: usize, f: Violation) -> usize
 }
 
 // The finding where the test holds, else nothing.
-pub fn report(out: &mut [i64], n: usize, yes: bool, f: Violation) -> usize
+fn report(out: &mut [i64], n: usize, yes: bool, f: Violation) -> usize
     requires { f.entity < 9223372036854775808 }
     ensures { sink out.new result ≡ emit (sink out.old n) (given yes f) }
 {
@@ -122,13 +122,6 @@ impl<'a> Findings<'a> {
         ensures { so_far result ≡ record { name = out.entry.ghost_name; sink = sink out.old 0 } }
     {
         Findings { out, found: 0 }
-    }
-
-    // So many were found before.
-    pub fn after(out: &'a mut [i64], found: usize) -> Findings<'a>
-        ensures { so_far result ≡ record { name = out.entry.ghost_name; sink = sink out.old found } }
-    {
-        Findings { out, found }
     }
 
     // One finding more.

@@ -8,12 +8,11 @@ ghost use Rattle.rows.specs.Cells.{row_count};
 ghost use Rattle.rows.specs.Kinds.{kind_number};
 ghost use Rattle.sheet.specs.Places.{named};
 ghost use Rattle.sheet.specs.inner.Index.{Kinds};
-ghost use Rattle.owners.specs.inner.Owners.{Linked};
 ghost use Rattle.refusals.specs.Refusals.{verdict_of};
 ghost use Rattle.sheet.specs.Refusals.{has_members, unowned, owner_fault, repeat_fault};
 ghost use Rattle.sheet.specs.inner.Groups.{repeated_by};
 
-use owners::Owner;
+use owners::{LinkIndex, Owner, OwnerLinks};
 use refusals::{Reason, Verdict};
 use rows::Kind;
 use sheet::{ByKind, KindIndex, Rows};
@@ -22,32 +21,33 @@ use sheet::{ByKind, KindIndex, Rows};
 
 // Row k is of a kind that has members.
 #[tactic(auto, using(std::proofs::lemmas::Bool::Decides::nat_tests), unfolding(sheet::specs::Refusals::has_members, rows::specs::Cells::is))]
-fn has_members(rows: &[i64], k: usize) -> bool
+fn has_members(rows: &OwnerLinks, k: usize) -> bool
     ensures { result ≡ has_members rows.now (Some k) }
 {
-    rows::is_of_kind(rows, k, Kind::NoOverlap) || rows::is_of_kind(rows, k, Kind::Synchronize)
+    rows.is_of_kind(k, Kind::NoOverlap) || rows.is_of_kind(k, Kind::Synchronize)
 }
 
 // Row k names an owner that is not in the sheet. The requirement that a row names is of the row's activity.
 #[tactic(auto, using(owners::proofs::Absent::booked))]
-fn is_unowned(rows: &[i64], links: &[u16; 1600], k: usize) -> bool
-    requires { Linked rows.now links.now × (k < row_count rows.now) }
+fn is_unowned(rows: &OwnerLinks, k: usize) -> bool
+    requires { k < row_count rows.now }
     ensures { result ≡ unowned rows.now k }
 {
-    let kind = rows::num_at(rows, k, 0);
+    let kind = rows.num(k, 0);
+    // Bookings and time-only spans, the last two kinds, may name what is not in the sheet.
     if 22 < kind {
         return false;
     }
     let Some(owner) = owners::owner_kind(kind) else {
         return false;
     };
-    let n = rows::row_count(rows);
-    let o = owners::owner_of(rows, links, k);
+    let n = rows.row_count();
+    let o = rows.owner_of(k);
     if n <= o {
         return true;
     }
     match owner {
-        Owner::RequirementRow => n <= owners::owner_of(rows, links, o),
+        Owner::RequirementRow => n <= rows.owner_of(o),
         Owner::ConstraintRow => !has_members(rows, o),
         _ => false,
     }
@@ -55,11 +55,11 @@ fn is_unowned(rows: &[i64], links: &[u16; 1600], k: usize) -> bool
 
 // Refusal 4 of row k.
 #[tactic(auto, unfolding(sheet::specs::Refusals::owner_fault))]
-pub fn owner_fault(rows: &[i64], links: &[u16; 1600], k: usize) -> Verdict
-    requires { Linked rows.now links.now × (k < row_count rows.now) }
+pub fn owner_fault(rows: &OwnerLinks, k: usize) -> Verdict
+    requires { k < row_count rows.now }
     ensures { verdict_of result ≡ owner_fault rows.now k }
 {
-    if is_unowned(rows, links, k) {
+    if is_unowned(rows, k) {
         return Err(Reason::Stray.at(k));
     }
     Ok(())

@@ -14,10 +14,18 @@ pub trait LinkIndex: Rows {
     ghost use Rattle.sheet.specs.Places.{task_place, activity_place, resource_place};
     ghost use Rattle.sheet.specs.inner.Found.{found_of};
     ghost use Rattle.owners.specs.declared.Owner.{Owner};
-    ghost use Rattle.owners.specs.inner.Owners.{owner_kind, Linked};
+    ghost use Rattle.owners.specs.inner.Owners.{owner_kind, own_place, Linked};
 
     fn links(&self) -> &[u16; 1600]
         ensures { Linked (Self.rows self.now) result.now };
+
+    // The row that row k belongs to, or the number of rows.
+    fn owner_of(&self, k: usize) -> usize
+        requires { k < row_count (Self.rows self.now) }
+        ensures { result ≡ own_place (Self.rows self.now) k }
+    {
+        crate::owner_of(self.as_slice(), self.links(), k)
+    }
 
     // The row of the activity that row k, a booking or a time-only span, names.
     fn activity_of(&self, k: usize) -> Found
@@ -89,12 +97,17 @@ pub trait OwnerIndex: Rows {
     }
 
     // The first of them.
-    #[tactic(auto, using(chains::proofs::PlaceLaws::next_none, chains::proofs::PlaceLaws::next_some))]
     fn find_owned(&self, o: usize, kind: Kind) -> Option<usize>
         requires { o ≤ row_count (Self.rows self.now) }
         ensures { result ≡ first_place (owned_by (Self.rows self.now) o (kind_number kind)) (row_count (Self.rows self.now)) }
     {
-        self.owned_by(o, kind).next()
+        let rows = ByOwner::new(self.as_slice(), self.owned());
+        OwnedChain {
+            rows,
+            owner: o,
+            kind,
+        }
+        .find_first()
     }
 
     // Whether a row of a kind belongs to row o.
@@ -103,6 +116,52 @@ pub trait OwnerIndex: Rows {
         ensures { result ≡ any_below (owned_by (Self.rows self.now) o (kind_number kind)) (row_count (Self.rows self.now)) }
     {
         self.find_owned(o, kind).is_some()
+    }
+}
+
+// The rows of a sheet with the table of owners; seen as the rows.
+#[derive(Drop)]
+pub struct OwnerLinks<'a> {
+    rows: &'a [i64],
+    table: &'a [u16; 1600],
+}
+
+impl<'a> Model for OwnerLinks<'a> {
+    ghost use Rattle.std.specs.Prelude.{List, ℤ};
+    ghost use Rattle.owners.specs.inner.Owners.{Linked};
+
+    ghost Value = { List ℤ };
+
+    ghost view = { λ s. s.rows.now };
+
+    ghost invariant = { λ s. Linked s.rows.now s.table.now };
+}
+
+impl<'a> OwnerLinks<'a> {
+    pub fn new(rows: &'a [i64], table: &'a [u16; 1600]) -> OwnerLinks<'a>
+        requires { Linked rows.now table.now }
+        ensures { result ≡ rows.now }
+    {
+        OwnerLinks { rows, table }
+    }
+}
+
+impl<'a> Rows for OwnerLinks<'a> {
+    ghost use Rattle.std.specs.Prelude.{◌≤◌};
+    ghost use Rattle.rows.specs.Cells.{row_count};
+
+    ghost rows = { λ s. s };
+
+    ghost known = { λ rows. row_count rows ≤ 800 };
+
+    fn as_slice(&self) -> &[i64] {
+        self.rows
+    }
+}
+
+impl<'a> LinkIndex for OwnerLinks<'a> {
+    fn links(&self) -> &[u16; 1600] {
+        self.table
     }
 }
 

@@ -13,7 +13,7 @@ ghost use Rattle.owners.specs.inner.Owners.{owner_kind, owner_place, own_place, 
 
 pub mod by_owner;
 
-pub use by_owner::{ByOwner, LinkIndex, OwnerIndex, Owners};
+pub use by_owner::{ByOwner, LinkIndex, OwnerIndex, OwnerLinks, Owners};
 use rows::Kind;
 use sheet::{ByKind, KindIndex, Rows};
 
@@ -166,7 +166,7 @@ pub fn links_into(rows: &ByKind, t: &mut [u16; 1600])
 }
 
 // The row that row k belongs to, or the number of rows.
-pub fn owner_of(rows: &[i64], links: &[u16; 1600], k: usize) -> usize
+fn owner_of(rows: &[i64], links: &[u16; 1600], k: usize) -> usize
     requires { Linked rows.now links.now × (k < row_count rows.now) }
     ensures { result ≡ own_place rows.now k }
 {
@@ -193,24 +193,25 @@ fn link_owned(t: &mut [u16; 8810], k: usize, i: usize)
     t[800 + k] = i as u16;
 }
 
-fn owned_key(rows: &[i64], links: &[u16; 1600], k: usize) -> usize
-    requires { Linked rows.now links.now × (k < row_count rows.now) }
+// The rows as a slice tell that they are 800 at most, here and below.
+fn owned_key(rows: &OwnerLinks, k: usize) -> usize
+    requires { k < row_count rows.now }
     ensures { result ≡ owned_key rows.now k }
 {
-    let own = owner_of(rows, links, k);
-    let digit = rows::num_at(rows, k, 0) % 10;
+    let own = rows.owner_of(k);
+    let digit = rows::num_at(rows.as_slice(), k, 0) % 10;
     own * 10 + digit as usize
 }
 
 // Fills the table of the rows by owner and kind.
-pub fn owned_into(rows: &[i64], links: &[u16; 1600], t: &mut [u16; 8810])
-    requires { Linked rows.now links.now × (length t.old ≡ 8810) }
+pub fn owned_into(rows: &OwnerLinks, t: &mut [u16; 8810])
+    requires { length t.old ≡ 8810 }
     ensures { Owned rows.now t.new }
 {
-    let n = rows::row_count(rows);
+    let n = rows::row_count(rows.as_slice());
     t.fill(n as u16);
     for i in (0..n).rev() {
-        link_owned(t, owned_key(rows, links, i), i);
+        link_owned(t, owned_key(rows, i), i);
     }
 }
 

@@ -140,15 +140,23 @@ pub trait KindIndex: Rows {
         requires { k ≤ row_count (Self.rows self.now) }
         ensures { result ≡ any_below (named_pair (Self.rows self.now) (kind_number kind) id other) k }
     {
-        self.named_above(kind, id, k).any(|i| self.has(i, 2, other))
+        crate::has_earlier_pair(
+            self.as_slice(),
+            self.kinds(),
+            kind.number() as usize,
+            id,
+            other,
+            k,
+        )
     }
 
     // The first row of a kind with that id.
-    #[tactic(auto, using(chains::proofs::PlaceLaws::next_none, chains::proofs::PlaceLaws::next_some), unfolding(crate::specs::Places::place_of))]
+    #[tactic(auto, unfolding(crate::specs::Places::place_of))]
     fn find_named(&self, kind: Kind, id: u64) -> Option<usize>
         ensures { result ≡ place_of (Self.rows self.now) (kind_number kind) id }
     {
-        self.named(kind, id).next()
+        let rows = ByKind::new(self.as_slice(), self.kinds());
+        NamedChain { rows, kind, id }.find_first()
     }
 
     fn find_task(&self, id: u64) -> Option<usize>

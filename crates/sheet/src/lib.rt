@@ -189,6 +189,39 @@ fn next_named(rows: &[i64], kinds: &[u16; 3680], x: usize, id: u64, i: usize) ->
     skip_named(rows, kinds, x, id, next_hashed(rows, kinds, x, id, i))
 }
 
+// Column 2 first: of the rows of one name only that number tells them apart.
+fn is_pair(rows: &[i64], x: usize, id: u64, other: u64, i: usize) -> bool
+    ensures { result ≡ named_pair rows.now x id other i }
+{
+    if !rows::is_at(rows, i, 2, other) {
+        return false;
+    }
+    is_named(rows, x, id, i)
+}
+
+// An earlier row than k is of kind x with that id and that number in column 2. A loop by hand, along all rows that share the chain: the walk of those of the kind
+// and id, which tests these first, took 1.2 of the reference's time over 800 speeds of one activity.
+fn has_earlier_pair(
+    rows: &[i64],
+    kinds: &[u16; 3680],
+    x: usize,
+    id: u64,
+    other: u64,
+    k: usize,
+) -> bool
+    requires { Kinds rows.now kinds.now × (x < 32) × (k ≤ row_count rows.now) }
+    ensures { result ≡ any_below (named_pair rows.now x id other) k }
+{
+    let mut i = first_hashed(rows, kinds, x, id);
+    while i < k {
+        if is_pair(rows, x, id, other, i) {
+            return true;
+        }
+        i = next_hashed(rows, kinds, x, id, i);
+    }
+    false
+}
+
 // ---- places that a caller keeps, one for each row
 
 fn set_place(t: &mut [u16; 800], k: usize, i: usize)

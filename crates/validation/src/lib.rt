@@ -4,12 +4,12 @@
 ghost use Rattle.std.specs.Prelude.{ℕ, ◌≡◌, ◌<◌, length, Option};
 ghost use Rattle.loops.specs.Search.{first};
 ghost use Rattle.rows.specs.Cells.{row_count};
-ghost use Rattle.owners.specs.inner.Owners.{Linked};
 ghost use Rattle.refusals.specs.declared.Refusal.{Refusal};
 ghost use Rattle.refusals.specs.Refusals.{verdict_of};
 ghost use Rattle.sheet.specs.Refusals.{misshapen, column_fault, owner_fault, repeat_fault, refusal_of};
 ghost use Rattle.validation.specs.inner.Answer.{shape_refusal, link_refusal, Tells, Indexing};
 
+use owners::OwnerLinks;
 use refusals::{Reason, Verdict};
 use sheet::{ByKind, Rows};
 
@@ -48,15 +48,12 @@ fn shape_fault(rows: &[i64]) -> Verdict
 // ---- 4 and 5, of the rows beside one another
 
 // Refusals 4 and 5.
-fn link_fault(rows: &ByKind, links: &[u16; 1600]) -> Verdict
-    requires { Linked rows.now links.now }
+fn link_fault(rows: &ByKind, links: &OwnerLinks) -> Verdict
+    requires { links.now ≡ rows.now }
     ensures { verdict_of result ≡ link_refusal rows.now }
 {
     let count = rows.row_count();
-    first_fault(
-        count,
-        |k| link_faults::owner_fault(rows.as_slice(), links, k),
-    )?;
+    first_fault(count, |k| link_faults::owner_fault(links, k))?;
     first_fault(count, |k| link_faults::repeat_fault(rows, k))
 }
 
@@ -76,8 +73,9 @@ pub fn index(
     sheet::kinds_into(rows, kinds);
     let by_kind = ByKind::new(rows, kinds);
     owners::links_into(&by_kind, links);
-    owners::owned_into(rows, links, owned);
-    link_fault(&by_kind, links)
+    let linked = OwnerLinks::new(rows, links);
+    owners::owned_into(&linked, owned);
+    link_fault(&by_kind, &linked)
 }
 
 // Whether refusals 1 to 5 refuse a sheet.
