@@ -15,9 +15,6 @@ matched e f = sym e ∙ f
 pub told : {r b v : Bool} → r ≡ b → r ≡ v → b ≡ v
 told = matched
 
-pub untold_yes : {r b : Bool} → r ≡ b → not r ≡ false → b ≡ true
-untold_yes {r} e f = sym e ∙ not-false r f
-
 pub untold_no : {r b : Bool} → r ≡ b → not r ≡ true → b ≡ false
 untold_no {r} e f = sym e ∙ not-true r f
 
@@ -36,12 +33,6 @@ both_told e h f = rw (sym e ∙ h) f
 
 pub one_told : (q : Bool) {b p : Bool} → b ≡ p → b ≡ false → b ≡ (p && q)
 one_told q e h = rw (sym e ∙ h) h
-
-pub and_yes : {a b r : Bool} → a ≡ true → r ≡ b → r ≡ (a && b)
-and_yes e q = rw e q
-
-pub and_no : {a : Bool} (b : Bool) → a ≡ false → false ≡ (a && b)
-and_no b e = rw e
 
 pub or_yes : {a : Bool} (b : Bool) → a ≡ true → true ≡ (a || b)
 or_yes b e = rw e

@@ -3,11 +3,11 @@ use Prim.Native.Nat.{ℕ, suc, ◌+◌, ◌-◌, ◌<◌, ◌≤◌}
 use mir.Syntax.{w64}
 use mir.Val.{Fits}
 use mathlib.Core.Path.{◌≡◌, refl, sym, ap, ◌∙◌}
-use mathlib.Core.Bool.{Bool, true, false, true≢false}
+use mathlib.Core.Bool.{Bool, true, false}
 use mathlib.Core.List.{List}
 use native.Mathlib.Omega.{arith}
 use native.Mathlib.Numerals.{add-one}
-use native.Mathlib.Decide.{ℕ_discrete, dec_lt}
+use native.Mathlib.Decide.{ℕ_discrete}
 use lib.ListN.{get_or, set, replicate, get_or-replicate, length-set, length-replicate}
 use lib.Seq.{get_or-set_same, get_or-set_other}
 use borrow.Author.Tests.{eq-eqb, ne_eqb, eqb-true}
@@ -87,11 +87,3 @@ links_next key m n t k i h e l = let q : key i ≡ k = eqb-true (key i) k e in r
 
 pub fits : (p : ℕ → Bool) (i n j : ℕ) → First p i n j → n ≤ 800 → Fits w64 j
 fits p i n j f l = record { fits = omega (arith, f.high) }
-
--- the first place at which p holds is none after a place at which it holds
-pub first_upto : {p : ℕ → Bool} {i n j : ℕ} (k : ℕ) → First p i n j → i ≤ k → p k ≡ true → j ≤ k
-first_upto {p} {i} {n} {j} k f l e = go (dec_lt k j)
-  where
-    go : Dec (k < j) → j ≤ k
-    go (yes m) = absurd (true≢false (sym e ∙ f.none k l m))
-    go (no m) = omega arith

@@ -15,5 +15,4 @@ pub mod SortLaws
 pub mod StoreLaws
 pub mod SumLaws
 pub mod TableLaws
-pub mod ThreeLaws
 pub mod Walks

@@ -6,12 +6,10 @@ use mathlib.Core.Bool.{Bool, true, false, cond, ◌||◌, true≢false}
 use Rattle.std.specs.Prelude.{Option, None, Some}
 use mathlib.Core.Logic.{◌⊎◌, inl, inr, ⊎_elim}
 use native.Mathlib.Omega.{arith}
-use native.Mathlib.Numerals.{add-one}
 use native.Mathlib.Nat.{add-zero, add-suc, eq-or-lt_of_le, le_of_suc-le-suc, not-suc-le-zero}
 use Rattle.loops.specs.Search.{or_else, some_if, first, first_place, any_below, count_below}
-use Rattle.loops.specs.inner.Chain.{First, Blind}
-use Rattle.loops.proofs.SearchLaws.{any_none, count_zero, count_again}
-use Rattle.loops.proofs.Walks.{over}
+use Rattle.loops.specs.inner.Chain.{First}
+use Rattle.loops.proofs.SearchLaws.{any_none}
 
 -- ---- a place that was found
 
@@ -159,15 +157,3 @@ module _ (p q : ℕ → Bool) where
   any_either zero = refl
   any_either (suc n) =
       ap (λ b. b || (p n || q n)) (any_either n) ∙ either_at (any_below p n) (any_below q n) (p n) (q n)
-
--- ---- how many, along a chain
-
-module _ (q : ℕ → Bool) where
-  still : {p : ℕ → Bool} → Blind p q → (k : ℕ) {x : ℕ} → p k ≡ false → x ≡ count_below q k → x ≡ count_below q (k + 1)
-  still h k z e = count_again q k e (let w : q k ≡ false = h.still k z in rw w (omega arith))
-
-  pub count_first : {p : ℕ → Bool} {n i : ℕ} → First p 0 n i → Blind p q → 0 ≡ count_below q i
-  count_first s h = over (λ k. 0 ≡ count_below q k) _ 0 _ _ (λ k z r. still h k z r) s (count_zero q)
-
-  pub count_next : {p : ℕ → Bool} {n j i : ℕ} {x y : ℕ} → First p (suc i) n j → Blind p q → x ≡ count_below q i → y ≡ x + cond (q i) 1 0 → y ≡ count_below q j
-  count_next {p} {n} {j} {i} {x} {y} s h r t = over (λ k. y ≡ count_below q k) _ (suc i) _ _ (λ k z r. still h k z r) s (rw add-one at (count_again q i r t))

@@ -6,9 +6,9 @@ use mathlib.Core.List.{List}
 use Rattle.std.specs.Prelude.{None, Some}
 use native.Mathlib.Omega.{arith}
 use native.Mathlib.Numerals.{add-one}
-use native.Mathlib.Decide.{dec_lt, ℕ_discrete}
+use native.Mathlib.Decide.{dec_lt}
 use lib.ListN.{length, get_or, set, take, drop, replicate, get_or-replicate, length-replicate, length-drop, length-set}
-use lib.Seq.{ext_get_or, get_or-set_same, get_or-set_other, length-take-le, take-set-lt, take-set-le, drop-set-add, drop-set-lt, get_or-take, get_or-drop}
+use lib.Seq.{length-take-le, take-set-lt, take-set-le, drop-set-add, drop-set-lt, get_or-take, get_or-drop}
 use lib.Dec.{ltb}
 use borrow.Author.Tests.{lt-ltb, le-ltb}
 use Rattle.loops.specs.Search.{first_place, any_below}
@@ -154,26 +154,3 @@ first_below {p} {n} {j} k u f = go (dec_lt j k)
         none_below : (i : ℕ) → i ≤ j → any_below p i ≡ false
         none_below zero a = any_zero p
         none_below (suc i) a = rw add-one at (any_miss p i (none_below i (omega arith)) (f.none i (omega arith) (omega arith)))
-
--- ---- a table that is lent, cleared
-
--- the places below i say n
-pub record Cleared (n N i : ℕ) (t : List ℕ) : Type 0 where
-  pub low : i ≤ N
-  pub size : length t ≡ N
-  pub clear : (j : ℕ) → j < i → get_or t j 0 ≡ n
-
-pub cleared_start : (n : ℕ) (t : List ℕ) → Cleared n (length t) 0 t
-cleared_start n t = record { low = omega arith; size = refl; clear = λ j l. absurd (omega arith) }
-
-pub cleared_turn : {n N i : ℕ} {t t' : List ℕ} → i < N → Cleared n N i t → t' ≡ set t i n → Cleared n N (i + 1) t'
-cleared_turn {n} {N} {i} {t} {t'} l h e = record { low = omega arith; size = ap length e ∙ length-set t i n ∙ h.size; clear = λ j z. ap (λ y. get_or y j 0) e ∙ go j z (ℕ_discrete j i) }
-  where
-    go : (j : ℕ) → j < i + 1 → Dec (j ≡ i) → get_or (set t i n) j 0 ≡ n
-    go j z (yes q) = rw q (get_or-set_same t i n 0 (omega (arith, h.size)))
-    go j z (no q) = get_or-set_other t i j n 0 q ∙ h.clear j (omega arith)
-
-pub cleared_all : {n N i : ℕ} {t : List ℕ} → N ≤ i → Cleared n N i t → t ≡ replicate N n
-cleared_all {n} {N} {i} {t} l h =
-    ext_get_or 0 t (replicate N n) (h.size ∙ sym (length-replicate {A = ℕ} N n))
-    (λ j z. h.clear j (omega (arith, h.size)) ∙ sym (get_or-replicate {A = ℕ} N j n 0 (omega (arith, h.size))))

@@ -2,17 +2,14 @@
 -- nothing at the places of another key. Invariant: `Stands p n i`, and what a loop over all places would say of place i. Assumes nothing.
 use Prim.Native.Nat.{ℕ, zero, suc, ◌+◌, ◌-◌, ◌<◌, ◌≤◌}
 use mathlib.Core.Path.{◌≡◌, sym, ap, ◌∙◌}
-use mathlib.Core.Bool.{Bool, true, false}
+use mathlib.Core.Bool.{Bool, false}
 use mathlib.Core.List.{List, [], ◌++◌, append-nil}
-use Rattle.std.specs.Prelude.{Option, None, Some}
 use native.Mathlib.Omega.{arith}
 use native.Mathlib.Numerals.{add-one}
 use native.Mathlib.Nat.{add-zero}
 use Rattle.loops.specs.Range.{fold, collect}
-use Rattle.loops.specs.Search.{first, first_place, any_below}
-use Rattle.loops.specs.inner.Chain.{First, Stands, Quiet, Silent, Blind, only_at, only}
+use Rattle.loops.specs.inner.Chain.{First, Stands, Quiet, Silent, only_at, only}
 use Rattle.loops.proofs.RangeLaws.{fold_zero, fold_again, collect_zero, collect_step}
-use Rattle.loops.proofs.SearchLaws.{place_zero, place_miss, place_hit, any_zero, any_miss}
 
 -- what a place where p fails hands on to the next place is handed on to the next place where p holds
 pub over : (R : ℕ → Type 0) (p : ℕ → Bool) (i n j : ℕ) → ((k : ℕ) → p k ≡ false → R k → R (k + 1)) → First p i n j → R i → R j
@@ -60,38 +57,6 @@ module _ {A : Type 0} (f : ℕ → List A) where
   pub collect_next : {p : ℕ → Bool} {n j i : ℕ} → First p (suc i) n j → Silent p f → collect f j ≡ collect f i ++ f i
   collect_next {p} {n} {j} {i} s q = over (λ k. collect f k ≡ collect f i ++ f i) _ (suc i) _ _ (λ k z r. collect_still q k z ∙ r) s (rw add-one at (collect_step f i))
 
--- ---- a search
-
-pub itself : (p : ℕ → Bool) → Blind p p
-itself p = record { still = λ k e. e }
-
-module _ (q : ℕ → Bool) where
-  pub seek_first : {p : ℕ → Bool} {n i : ℕ} → First p 0 n i → Blind p q → first_place q i ≡ None
-  seek_first s h = over (λ k. first_place q k ≡ None) _ 0 _ _ (λ k z r. place_miss q k r (h.still k z)) s (place_zero q)
-
-  pub seek_next : {p : ℕ → Bool} {n j i : ℕ} → First p (suc i) n j → Blind p q → first_place q i ≡ None → q i ≡ false → first_place q j ≡ None
-  seek_next {p} {n} {j} {i} s h r t = over (λ k. first_place q k ≡ None) _ (suc i) _ _ (λ k z r. place_miss q k r (h.still k z)) s (rw add-one at (place_miss q i r t))
-
-  pub seek_end : {p : ℕ → Bool} (n N i : ℕ) → N ≤ i → N ≡ n → Stands p n i → first_place q i ≡ None → None ≡ first_place q n
-  seek_end n N i l z a r = sym (ap (first_place q) (sym (stands_end a l z)) ∙ r)
-
-  pub seek_hit : (n N i : ℕ) → i < N → N ≡ n → first_place q i ≡ None → q i ≡ true → Some i ≡ first_place q n
-  seek_hit n N i l z r t = sym (place_hit q i n (omega arith) r t)
-
-  pub any_first : {p : ℕ → Bool} {n i : ℕ} → First p 0 n i → Blind p q → any_below q i ≡ false
-  any_first s h = over (λ k. any_below q k ≡ false) _ 0 _ _ (λ k z r. any_miss q k r (h.still k z)) s (any_zero q)
-
-  pub any_next : {p : ℕ → Bool} {n j i : ℕ} → First p (suc i) n j → Blind p q → any_below q i ≡ false → q i ≡ false → any_below q j ≡ false
-  any_next {p} {n} {j} {i} s h r t = over (λ k. any_below q k ≡ false) _ (suc i) _ _ (λ k z r. any_miss q k r (h.still k z)) s (rw add-one at (any_miss q i r t))
-
-  pub any_end : {p : ℕ → Bool} (n N i : ℕ) → N ≤ i → N ≡ n → Stands p n i → any_below q i ≡ false → false ≡ any_below q n
-  any_end n N i l z a r = sym (ap (any_below q) (sym (stands_end a l z)) ∙ r)
-
-module _ {A : Type 0} (f : ℕ → Option A) where
-  -- what a search for more than a place knows: f gives nothing where p fails
-  pub first_end : {p : ℕ → Bool} (n N i : ℕ) → N ≤ i → N ≡ n → Stands p n i → first f i ≡ None → None ≡ first f n
-  first_end n N i l z a r = sym (ap (first f) (sym (stands_end a l z)) ∙ r)
-
 -- ---- steps under their test
 
 pub quiet_only : {B : Type 0} (p : ℕ → Bool) (f : B → ℕ → B) → Quiet p (only_at p f)
@@ -106,11 +71,3 @@ silent_only p f = record { still = λ k z. rw z }
 pub only_here : {A : Type 0} (p : ℕ → Bool) (f : ℕ → List A) {n N i : ℕ} → i < N → N ≡ n → Stands p n i → only p f i ≡ f i
 unfolding only
 only_here p f l z a = rw (a.here (omega arith))
-
-pub at_only : {B : Type 0} (p : ℕ → Bool) (f : B → ℕ → B) (n N i : ℕ) {e e' : B} → i < N → N ≡ n → Stands p n i → e' ≡ f e i → e' ≡ only_at p f e i
-unfolding only_at
-at_only p f n N i l z a t = rw (a.here (omega arith)) t
-
-pub only_next : {B : Type 0} (p : ℕ → Bool) (f : B → ℕ → B) (b : B) {n N i j : ℕ} {e e' : B} → First p (suc i) n j → i < N → N ≡ n → Stands p n i
-    → e ≡ fold (only_at p f) b i → e' ≡ f e i → e' ≡ fold (only_at p f) b j
-only_next p f b {n} {N} {i} s l z a r t = fold_next (only_at p f) b s (quiet_only p f) r (at_only p f n N i l z a t)
