@@ -4,14 +4,18 @@ use mathlib.Core.Path.{◌≡◌, refl, sym, ◌∙◌}
 use mathlib.Core.Bool.{Bool, true, false, true≢false}
 use mathlib.Core.List.{List}
 use native.Mathlib.Omega.{arith}
+use native.Mathlib.Numerals.{add-one}
 use lib.IntN.{ℤ}
 use lib.ListN.{length, get_or, set, replicate, length-replicate}
 use mir.Syntax.{w64}
 use mir.Val.{Fits}
 use borrow.Author.Tests.{eq-eqb}
+use Rattle.loops.specs.Search.{any_below}
 use Rattle.loops.specs.inner.Chain.{same, First, Stands, Blind, Links, part}
 use Rattle.loops.proofs.BoolLaws.{and_left, and_right}
 use Rattle.loops.proofs.ChainLaws.{fits}
+use Rattle.loops.proofs.SearchLaws.{any_zero, any_miss}
+use Rattle.loops.proofs.Walks.{over}
 use Rattle.loops.proofs.TableLaws.{part_start, part_again, part_head, part_next, part_else_below, part_else_above, stores_size}
 use Rattle.rows.specs.Cells.{row_count, num, is}
 use Rattle.sheet.specs.Places.{of_kind, named}
@@ -134,3 +138,12 @@ module _ (rows : List ℤ) (x id : ℕ) where
   pub pair_blind : (other : ℕ) → Blind (same (name_key rows) (name_hash x id)) (named_pair rows x id other)
   unfolding named_pair
   pair_blind other = record { still = λ k e. rw (name_blind.still k e) }
+
+-- ---- a search along a chain by hand: nothing before its place passes the test
+
+module _ (q : ℕ → Bool) where
+  pub any_first : {p : ℕ → Bool} {n i : ℕ} → First p 0 n i → Blind p q → any_below q i ≡ false
+  any_first s h = over (λ k. any_below q k ≡ false) _ 0 _ _ (λ k z r. any_miss q k r (h.still k z)) s (any_zero q)
+
+  pub any_next : {p : ℕ → Bool} {n j i : ℕ} → First p (suc i) n j → Blind p q → any_below q i ≡ false → q i ≡ false → any_below q j ≡ false
+  any_next {p} {n} {j} {i} s h r t = over (λ k. any_below q k ≡ false) _ (suc i) _ _ (λ k z r. any_miss q k r (h.still k z)) s (rw add-one at (any_miss q i r t))

@@ -2,9 +2,8 @@ use Rattle.loops.proofs.BranchLaws.{told}
 use borrow.Author.Rules.{rules}
 use mathlib.Core.Path.{sym}
 use Rattle.loops.proofs.SearchLaws.{any_hit}
-use Rattle.loops.proofs.Walks.{any_first, any_next}
 use Rattle.loops.proofs.PlaceLaws.{any_less}
-use Rattle.sheet.proofs.Naming.{pair_blind}
+use Rattle.sheet.proofs.Naming.{pair_blind, any_first, any_next}
 use Rattle.sheet.proofs.has_earlier_pair.Goals as goal
 
 ruleset walk = (rules, any_first, any_next, pair_blind, told)
