@@ -39,9 +39,6 @@ module _ {text space₀ : List ℕ} {left : List Line} {space : List ℕ} (u : U
     opened : Unfolding text space₀ (l ∷ ls) space
     opened = rw e at u
 
-    pub unfolding_room : length l.bytes ≤ length space
-    unfolding_room = omega (arith, opened.room.0, u.long)
-
     pub unfolding_on : {space' : List ℕ} → space' ≡ after_line l.bytes space → length space' ≡ length space → Unfolding text space₀ ls space'
     unfolding after_lines
     unfolding_on s k = record { room = opened.room.1; holds = rw s opened.holds; long = k ∙ u.long }

@@ -2,7 +2,6 @@ pub mod Accepting
 pub mod ConstraintLaws
 pub mod OwnedLaws
 pub mod RowLaws
-pub mod Standing
 pub mod Finds
 pub mod Requiring
 pub mod Tasks

@@ -1,12 +1,8 @@
 -- Bytes written one after the other. Assumes nothing.
-use Rattle.std.specs.Prelude.{Err}
-use Rattle.std.specs.Prelude.{Result, Ok}
-use Rattle.refusals.specs.declared.Refusal.{Refusal}
-use Rattle.refusals.specs.Refusals.{number_of}
-use Rattle.printing.specs.Printed.{accepted_word, printed_refused, printed_accepted, printed}
+use Rattle.printing.specs.Printed.{accepted_word, printed_accepted}
 use Rattle.printing.specs.NumberLines.{field, number_lines}
 use native.Mathlib.Omega.{arith}
-use Prim.Native.Nat.{ℕ, ◌+◌, ◌/◌, ◌%◌, ◌≤◌, ◌<◌, min}
+use Prim.Native.Nat.{ℕ, ◌+◌, ◌/◌, ◌%◌, ◌≤◌, ◌<◌}
 use mathlib.Core.List.{List, [], ◌∷◌, ◌++◌}
 use mathlib.Core.Path.{◌≡◌, sym, ap, ◌∙◌}
 use native.Mathlib.Numerals.{add-one}
@@ -54,14 +50,3 @@ pub accepted_put : {l m₁ m₂ m₃ m : List ℕ} {j₁ j₂ j₃ j : ℕ} (n :
     → Wrote m₃ j₃ m j (number_lines 4 found n) → Wrote l 0 m j (printed_accepted n found)
 unfolding printed_accepted
 accepted_put n found a b c d = wrote_then _ _ (wrote_then _ _ a b) (wrote_then _ _ c d)
-
--- where all that is printed ends
-pub printed_end : {l m : List ℕ} {r : ℕ} (xs ys : List ℕ) → Wrote l 0 m r xs → xs ≡ ys → r ≡ min (length ys) (length l)
-printed_end xs ys v e = omega (arith, (wrote_as e v).place)
-
-module _ (a : Result ℕ Refusal) (found : List ℤ) where
-  pub as_accepted : {n : ℕ} → a ≡ Ok n → printed_accepted n found ≡ printed a found
-  as_accepted e = ap (λ (x : Result ℕ Refusal). printed x found) (sym e)
-
-  pub as_refused : {e : Refusal} → a ≡ Err e → printed_refused (number_of e.reason) e.place ≡ printed a found
-  as_refused e = ap (λ (x : Result ℕ Refusal). printed x found) (sym e)

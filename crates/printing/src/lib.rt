@@ -3,7 +3,7 @@
 #![tactic(auto)]
 
 ghost use Rattle.refusals.specs.Refusals.{number_of};
-ghost use Rattle.std.specs.Prelude.{◌≡◌, [], ◌∷◌, ◌+◌, ◌<◌, ◌≤◌, min, nat_abs, length, take};
+ghost use Rattle.std.specs.Prelude.{◌≡◌, ◌+◌, ◌<◌, ◌≤◌, min, length, take};
 ghost use Rattle.std.proofs.lemmas.List.Edits.{sets};
 ghost use Rattle.loops.specs.inner.Wrote.{Wrote};
 ghost use Rattle.printing.specs.Decimal.{decimal, spelling};

@@ -1,7 +1,7 @@
 // The bytes that the lines of a stored case gather, for a text (tools/cases/README.md has the form).
 #![tactic(auto)]
 
-ghost use Rattle.std.specs.Prelude.{◌≡◌, [], ◌∷◌, map, ◌≤◌, length};
+ghost use Rattle.std.specs.Prelude.{◌≡◌, map, ◌≤◌, length};
 ghost use Rattle.std.proofs.lemmas.List.Edits.{sets};
 ghost use Rattle.loops.specs.Lists.{each};
 ghost use Rattle.loops.specs.inner.Wrote.{Wrote};

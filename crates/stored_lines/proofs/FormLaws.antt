@@ -1,13 +1,12 @@
 -- Laws of a line's letter, count and piece, and of the tests that say whether it is formed. Assumes nothing.
 use Prim.Native.Nat.{ℕ, ◌+◌, ◌≤◌, ◌<◌}
 use mathlib.Core.Bool.{Bool}
-use mathlib.Core.List.{List, []}
+use mathlib.Core.List.{List}
 use mathlib.Core.Path.{◌≡◌, sym, ap, ◌∙◌}
-use native.Mathlib.Omega.{arith}
 use borrow.Author.Tests.{lt-ltb, le-ltb}
 use lib.Dec.{ltb}
 use lib.IntN.{ℤ}
-use lib.ListN.{length, drop, drop_of_length-le}
+use lib.ListN.{length, drop}
 use mir.Syntax.{w64}
 use mir.Val.{SFits, to_z, of_z}
 use mir.Facts.{to_z-of_z}
@@ -16,10 +15,7 @@ use Rattle.text_fields.specs.Parts.{until_byte}
 use Rattle.text_line.specs.Line.{fields_of, value_of, spelled}
 use Rattle.stored_lines.specs.inner.Line.{body, count, piece, has_count}
 
--- the parts of a line: nothing lies past its end; b is what follows its letter, f what stands there before the first comma
-pub none_after : (s : List ℕ) (n : ℕ) → length s ≤ n → [] ≡ drop (n + 1) s
-none_after s n h = sym (drop_of_length-le s {i = n + 1} (omega arith))
-
+-- the parts of a line: b is what follows its letter, f what stands there before the first comma
 module _ {b : List ℕ} (l : List ℕ) (e : b ≡ body l) where
   pub body_spelled : {r : Bool} → r ≡ spelled (fields_of b) → r ≡ spelled (fields_of (body l))
   body_spelled h = h ∙ ap (λ (s : List ℕ). spelled (fields_of s)) e

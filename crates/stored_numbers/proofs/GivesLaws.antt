@@ -12,7 +12,7 @@ use lib.Dec.{eqb}
 use Rattle.loops.specs.Lists.{each}
 use Rattle.loops.proofs.ListLaws.{each_ext}
 use Rattle.text_line.specs.Line.{row_of}
-use Rattle.stored_lines.specs.inner.Line.{letter, count, piece, body}
+use Rattle.stored_lines.specs.inner.Line.{letter, count, piece}
 use Rattle.stored_numbers.specs.inner.Numbers.{times, numbers_in, numbers_of, expected_of}
 use Rattle.stored_numbers.specs.declared.Piece.{Piece}
 use Rattle.stored_numbers.specs.declared.Piece.TheVariants.{Numbers, Row}
@@ -29,9 +29,6 @@ module _ {B : Type 0} {l m : List B} {i j : ℕ} {all : List B} {ps : List (List
     each_more g y w = yet_less (g f) _ (yet_as (ap (each g) p) y) w
 
   module _ (e : ps ≡ []) where
-    pub map_none : (g : List ℕ → B) → Yet l i all m j (map g ps) → Wrote l i m j all
-    map_none g y = yet_none (yet_as (ap (map g) e) y)
-
     pub each_none : (g : List ℕ → List B) → Yet l i all m j (each g ps) → Wrote l i m j all
     unfolding each
     each_none g y = yet_none (yet_as (ap (each g) e) y)
@@ -74,6 +71,3 @@ plain_only l = by_letter 101 101 l ∙ once (eqb (letter l) 101) (times (count l
 
 pub all_expected : (ls : List (List ℕ)) → each (line_gives 101 101) ls ≡ each expected_of ls
 all_expected ls = each_ext (line_gives 101 101) expected_of plain_only ls
-
-pub body_numbers : (b l : List ℕ) → b ≡ body l → numbers_in b ≡ numbers_in (body l)
-body_numbers b l e = ap numbers_in e

@@ -73,9 +73,6 @@ module _ {A : Type 0} where
   pub replicate_next : (n i : ℕ) (x : A) → i < n → replicate (n - i) x ≡ (x ∷ []) ++ replicate (n - (i + 1)) x
   replicate_next n i x h = let e : n - i ≡ suc (n - (i + 1)) = omega arith in rw e
 
-  pub replicate_done : (n i : ℕ) (x : A) → n ≤ i → replicate (n - i) x ≡ []
-  replicate_done n i x h = let e : n - i ≡ 0 = omega arith in rw e
-
 -- a signed number that was read back from its bits
 pub wrote_back : {l m : List ℤ} {i j : ℕ} {v w : ℤ} → SFits w64 v → v ≡ w → Wrote l i m j (to_z w64 (of_z w64 v) ∷ []) → Wrote l i m j (w ∷ [])
 wrote_back f e x = wrote_as (ap (λ (z : ℤ). z ∷ []) (to_z-of_z f ∙ e)) x

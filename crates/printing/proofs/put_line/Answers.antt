@@ -1,7 +1,7 @@
 use borrow.Author.Rules.{rules}
 use Rattle.loops.specs.Range.{collect}
 use Rattle.printing.specs.NumberLines.{number_line}
-use Rattle.loops.proofs.StoreLaws.{wrote_none, wrote_within, wrote_long}
+use Rattle.loops.proofs.StoreLaws.{wrote_none}
 use Rattle.printing.proofs.PutLaws.{wrote_line, wrote_upto}
 use Rattle.printing.proofs.put_line.Goals as goal
 

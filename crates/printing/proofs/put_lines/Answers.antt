@@ -1,7 +1,4 @@
 use borrow.Author.Rules.{rules}
-use Rattle.printing.specs.NumberLines.{number_lines}
-use Rattle.loops.proofs.StoreLaws.{wrote_within, wrote_long}
-use Rattle.printing.proofs.PutLaws.{wrote_upto}
 use Rattle.printing.proofs.RestLaws.{printing_none, printing_next}
 use Rattle.printing.proofs.put_lines.Goals as goal
 

@@ -1,6 +1,5 @@
 use borrow.Author.Rules.{rules}
-use Rattle.stored_numbers.proofs.PutLaws.{yet_all}
-use Rattle.stored_bytes.proofs.ByteLaws.{bytes_less, bytes_none}
+use Rattle.stored_bytes.proofs.ByteLaws.{bytes_less}
 use Rattle.stored_bytes.proofs.put_bytes.Goals as goal
 
 pub loop-x-preserved : goal.loop-x-preserved

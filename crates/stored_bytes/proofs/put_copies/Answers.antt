@@ -1,5 +1,5 @@
 use borrow.Author.Rules.{rules}
-use Rattle.stored_numbers.proofs.PutLaws.{yet_all, yet_less, yet_none, yet_as, times_next, times_done}
+use Rattle.stored_numbers.proofs.PutLaws.{yet_less, yet_none, yet_as, times_next, times_done}
 use Rattle.stored_bytes.proofs.put_copies.Goals as goal
 
 pub loop-i-preserved : goal.loop-i-preserved

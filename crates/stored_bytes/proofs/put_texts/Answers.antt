@@ -1,9 +1,5 @@
-use Rattle.std.proofs.Common.{arith, ap, sym, ◌∙◌}
-use Rattle.text_fields.specs.Parts.{parts_left}
-use Rattle.loops.specs.Lists.{each}
 use Rattle.stored_bytes.specs.inner.Bytes.{bytes_of}
 use Rattle.stored_numbers.proofs.GivesLaws.{each_more, each_none}
-use Rattle.stored_numbers.proofs.PutLaws.{yet_all, yet_as}
 use Rattle.stored_bytes.proofs.put_texts.Goals as goal
 
 pub loop-line-preserved : goal.loop-line-preserved

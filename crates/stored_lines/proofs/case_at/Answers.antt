@@ -1,4 +1,4 @@
-use Rattle.stored_lines.proofs.LineLaws.{line_within, case_more, case_last, line_from}
+use Rattle.stored_lines.proofs.LineLaws.{line_within, case_last, line_from}
 use borrow.Author.Rules.{rules}
 use Rattle.stored_lines.proofs.case_at.Goals as goal
 
