@@ -1,5 +1,5 @@
 -- Methods of iterators over a walk along a chain: what they make of the list of its places. Assumes nothing.
-use Prim.Native.Nat.{ℕ, zero, suc, ◌≤◌}
+use Prim.Native.Nat.{ℕ, zero, suc, ◌<◌, ◌≤◌}
 use mathlib.Core.Path.{◌≡◌, refl, ap, subst, sym, ◌∙◌}
 use mathlib.Core.Bool.{Bool, true, false}
 use mathlib.Core.List.{List, [], ◌∷◌, foldl}
@@ -7,13 +7,15 @@ use denote.Param.Members.{Mut, Called}
 use lib.ListN.{length}
 use native.Mathlib.Omega.{arith}
 use Rattle.std.specs.Prelude.{Option, None, Some, slice_get}
+use Rattle.std.specs.Fn.{Takes}
 use Rattle.std.specs.Option.{MatchOption}
 use Rattle.std.specs.List.{FoldsTo}
-use Rattle.std.specs.Iterator.{YieldsFirst, YieldsThen, ChecksAny, FoldsItems, FoldTurn, SkipsThenYields}
+use Rattle.std.specs.Iterator.{Yields, YieldsFirst, YieldsThen, CallableWhile, ChecksAny, FoldsItems, FoldTurn, SkipsThenYields}
 use Rattle.loops.specs.Lists.{any_of, is_some}
 use Rattle.loops.specs.Search.{first_place, any_below}
 use Rattle.chains.specs.Places.{places}
-use Rattle.chains.proofs.PlaceLaws.{next_none, next_some, any_first}
+use Rattle.chains.specs.inner.Left.{Left}
+use Rattle.chains.proofs.PlaceLaws.{left_all, next_none, next_some, any_first}
 
 -- the steps of a walk
 abbrev pub taken : List ℕ → Option ℕ → List ℕ → Type 0
@@ -76,3 +78,15 @@ module _ (p : ℕ → Bool) (n : ℕ) where
   -- tells whether it has any
   pub walk_some : (o : Option ℕ) {s : List ℕ} (u : List ℕ) → s ≡ places p n → taken s o u → is_some o ≡ any_below p n
   walk_some o u e y = ap is_some (walk_next o u e y) ∙ any_first p n
+
+-- a test that stays as it was may be called at each place that a walk comes to
+module _ (p : ℕ → Bool) (n : ℕ) {F : Type 0} (g : Mut F (ℕ × Unit {0}) Bool) (f : F) (stays : (x : ℕ) (f' : F) → Called g f (x, tt) false f' → f' ≡ f)
+    (takes : (x : ℕ) → x < n → p x ≡ true → Takes g f (x, tt)) where
+  takes_at : (s t u xs : List ℕ) (x : ℕ) (f₁ f' : F) → f₁ ≡ f → Left p n s → Yields taken s xs t → FoldsTo (λ h z j. Called g h (z, tt) false j) f₁ xs f' → taken t (Some x) u
+      → Takes g f' (x, tt)
+  takes_at s t u [] x f₁ f' e h y c k = let l = rw (y ∙ k) at h in subst (λ j. Takes g j (x, tt)) (sym e ∙ c) (takes x l.0 l.1)
+  takes_at s t u (z ∷ xs) x f₁ f' e h y c k =
+      takes_at y.0 t u xs x c.0 f' (stays z c.0 (subst (λ j. Called g j (z, tt) false c.0) e c.1)) (rw y.1 at h).3 y.2 c.2 k
+
+  pub walk_takes : {s : List ℕ} → s ≡ places p n → CallableWhile taken g false s f
+  walk_takes {s} e = record { at = λ xs t h x u y c k. takes_at s t u xs x f h refl (rw e (left_all p n)) y c k }

@@ -10,7 +10,7 @@ ghost use Rattle.model.specs.Sheet.{sheet};
 ghost use Rattle.model.specs.Resource.{transport_to, transport_between};
 ghost use Rattle.definition.specs.CheckPrecedence.{runs_on_all};
 
-use owners::{ByOwner, LinkIndex, OwnerIndex, Owners};
+use owners::{LinkIndex, OwnerIndex, Owners};
 use rows::Kind;
 use sheet::{Found, Rows};
 
@@ -24,8 +24,8 @@ fn transport_to(rows: &Owners, i: usize, b: u64) -> u64
     let Found::At(o) = rows.booked_resource(i) else {
         return 0;
     };
-    let by_owner = ByOwner::new(rows.as_slice(), rows.owned());
-    let Some(k) = pieces::find_naming(&by_owner, o, Kind::Transport, rows.num(i, 3), b) else {
+    let Some(k) = pieces::find_naming(&rows.by_owner(), o, Kind::Transport, rows.num(i, 3), b)
+    else {
         return 0;
     };
     rows.num(k, 3)

@@ -7,7 +7,7 @@ use Rattle.std.specs.Prelude.{Option, None, Some}
 use native.Mathlib.Omega.{arith}
 use lib.IntN.{ℤ}
 use lib.ListN.{get_or, set, replicate}
-use lib.Ieee.{Float, binary64, of_bits}
+use lib.Ieee.{binary64, of_bits}
 use Rattle.loops.specs.Lists.{option}
 use Rattle.loops.specs.Search.{first_place}
 use Rattle.loops.proofs.StoreLaws.{Filled, filled_turn}
@@ -24,7 +24,6 @@ use Rattle.sheet.proofs.Lookups.{is_num, placed, place_kind}
 use Rattle.sheet.proofs.Keeping.{Keeping, keeping_start, keeping_turn, keeping_end, kept_at}
 use Rattle.owners.specs.declared.Owner.TheVariants.{ActivityRow}
 use Rattle.owners.specs.inner.Owners.{owner_kind, owned_by}
-use Rattle.resource_timing.specs.declared.ActivityDuration.{ActivityDuration}
 use Rattle.resource_timing.specs.declared.ResourceTiming.TheVariants.{Speed, Duration}
 use Rattle.resource_timing.specs.declared.Piece.TheVariants.{Whole, InPart}
 use Rattle.resource_timing.specs.Durations.{part_of}

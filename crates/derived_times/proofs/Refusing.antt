@@ -9,8 +9,6 @@ use Rattle.std.specs.Prelude.{Option, None, Some, Ok}
 use native.Mathlib.Omega.{arith}
 use lib.Dec.{ltb, leb}
 use lib.IntN.{ℤ}
-use mir.Syntax.{w64}
-use mir.Val.{Fits}
 use lib.ListN.{get_or}
 use borrow.Author.Tests.{ltb-true, lt-leb, leb-false, le-leb}
 use Rattle.loops.specs.Lists.{any_of, option}

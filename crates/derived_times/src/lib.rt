@@ -21,7 +21,7 @@ ghost use Rattle.derived_times.specs.inner.Rows.{columns_of, part_at, timing_of,
 ghost use Rattle.derived_times.specs.Times.{derived, is_too_large, time_refusal};
 ghost use Rattle.derived_times.specs.inner.Needs.{rest_ms, rest_at, Times};
 
-use owners::{ByOwner, LinkIndex, OwnerIndex, Owners};
+use owners::{LinkIndex, OwnerIndex, Owners};
 use refusals::{Reason, Verdict};
 use resource_timing::{ActivityDuration, Derived, Piece, ResourceTiming, Timed};
 use rounding::TooLarge;
@@ -52,8 +52,10 @@ fn timing_row(rows: &Owners, k: usize) -> Option<usize>
     if !rows.is_of_kind(k, Kind::Booking) {
         return None;
     }
-    let o = rows.activity_of(k).or_none()?;
-    let by_owner = ByOwner::new(rows.as_slice(), rows.owned());
+    let Found::At(o) = rows.activity_of(k) else {
+        return None;
+    };
+    let by_owner = rows.by_owner();
     let a = rows.num(k, 1);
     let b = rows.num(k, 3);
     let speed = pieces::find_naming(&by_owner, o, Kind::Speed, a, b);
@@ -68,6 +70,7 @@ pub fn timings_of(rows: &Owners) -> [u16; 800]
     ensures { Timings rows.now result }
 {
     let mut t = [0u16; 800];
+    // `as_slice` says that there are no more than 800 rows.
     for k in 0..rows::row_count(rows.as_slice()) {
         sheet::keep_place(rows.as_slice(), &mut t, k, timing_row(rows, k));
     }
@@ -220,10 +223,10 @@ impl<'a> Bookings<'a> {
         if !self.rows.is_of_kind(k, Kind::Booking) {
             return 0;
         }
-        match self.rows.activity_of(k) {
-            Found::At(o) => rest_ms(self.duration_on(o, k)),
-            Found::Nothing => 0,
-        }
+        let Found::At(o) = self.rows.activity_of(k) else {
+            return 0;
+        };
+        rest_ms(self.duration_on(o, k))
     }
 }
 
@@ -235,6 +238,7 @@ pub fn needs_of(rows: &Owners, held: &[u8; 800]) -> [u64; 800]
 {
     let bookings = Bookings::new(rows, held);
     let mut need = [0u64; 800];
+    // `as_slice` says that there are no more than 800 rows.
     for k in 0..rows::row_count(rows.as_slice()) {
         need[k] = bookings.rest_at(k);
     }

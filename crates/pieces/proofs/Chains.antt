@@ -68,8 +68,8 @@ module _ (rows : List ℤ) where
     pub moves_blind : Blind (owned_by rows o 14) (names rows 14 a b)
     moves_blind = resource_blind 14 (unfold owner_kind in refl)
 
-  pub timings_blind : (x o b : ℕ) {a a' : ℕ} → owner_kind x ≡ Some ActivityRow → a ≡ a' → Some o ≡ place_of rows 2 a' → Blind (owned_by rows o x) (names rows x a b)
-  timings_blind x o b k e p = rw e (names_blind x 2 o _ b (λ i h. own_activity rows x i k h) p)
+  pub timings_blind : (x o b : ℕ) {a a' : ℕ} {f : Found} → owner_kind x ≡ Some ActivityRow → a ≡ a' → f ≡ At o → found_of f ≡ place_of rows 2 a' → Blind (owned_by rows o x) (names rows x a b)
+  timings_blind x o b k e q p = rw e (names_blind x 2 o _ b (λ i h. own_activity rows x i k h) (sym (found_some q p)))
 
   -- ---- the bookings of a piece
   module _ (k j : ℕ) (h : in_piece rows k j ≡ true) where

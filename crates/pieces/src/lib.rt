@@ -81,17 +81,13 @@ fn is_same(rows: &[i64], k: usize, j: usize) -> bool
 }
 
 // Whether no booking before booking k is of its piece and on its resource.
-#[tactic(auto, using(chains::proofs::PlaceLaws::any_blind, crate::proofs::Chains::same_blind), unfolding(loops::specs::Lists::any_of))]
 fn is_first(rows: &ByKind, k: usize) -> bool
     requires { k < row_count rows.now }
     ensures { result ≡ not (any_below (same_booking rows.now k) k) }
 {
-    for j in rows.named_above(Kind::Booking, rows.num(k, 1), k) {
-        if is_same(rows.as_slice(), k, j) {
-            return false;
-        }
-    }
-    true
+    !rows
+        .named_above(Kind::Booking, rows.num(k, 1), k)
+        .any(|j| is_same(rows.as_slice(), k, j))
 }
 
 #[tactic(auto, unfolding(crate::specs::inner::Bookings::first_on))]
@@ -132,8 +128,7 @@ fn is_companion(rows: &Owners, j: usize, r: u64) -> bool
     let Found::At(o) = rows.booked_resource(j) else {
         return false;
     };
-    let by_owner = ByOwner::new(rows.as_slice(), rows.owned());
-    find_naming(&by_owner, o, Kind::Companion, rows.num(j, 3), r).is_some()
+    find_naming(&rows.by_owner(), o, Kind::Companion, rows.num(j, 3), r).is_some()
 }
 
 // Whether booking j is of booking k's piece, on a resource that k's resource is a companion of.
@@ -156,17 +151,12 @@ fn first_holds(rows: &Owners, firsts: &[u8; 800], k: usize, j: usize) -> bool
 }
 
 // Whether a booking of booking k's piece holds k's resource as a companion.
-#[tactic(auto, using(chains::proofs::PlaceLaws::left_all, crate::proofs::Chains::firsts_told), unfolding(loops::specs::Lists::any_of))]
 fn is_held(rows: &ByKind, owners: &Owners, firsts: &[u8; 800], k: usize) -> bool
     requires { Accepted rows.now × Marks rows.now (first_on rows.now) firsts.now × (owners.now ≡ rows.now) }
     ensures { result ≡ any_below (holds_for rows.now k) (row_count rows.now) }
 {
-    for j in rows.named(Kind::Booking, rows.num(k, 1)) {
-        if first_holds(owners, firsts, k, j) {
-            return true;
-        }
-    }
-    false
+    rows.named(Kind::Booking, rows.num(k, 1))
+        .any(|j| first_holds(owners, firsts, k, j))
 }
 
 // Whether row k is a booking that is held.

@@ -8,7 +8,7 @@ pub returns-in_default : goal.returns-in_default
 returns-in_default c = search (rules, no_companions)
 
 pub find_naming-requires : goal.find_naming-requires
-find_naming-requires c = rw (c.new-by_owner.ensures, c.as_slice.ensures.rows) (search (rules, found_low), search (rules, companions_blind))
+find_naming-requires c = rw c.by_owner.ensures (search (rules, found_low), search (rules, companions_blind))
 
 pub returns : goal.returns
-returns c = rw (c.is_some.ensures, c.find_naming.ensures, c.new-by_owner.ensures, c.as_slice.ensures.rows, c.num.ensures.value) (any_first _ _)
+returns c = rw (c.is_some.ensures, c.find_naming.ensures, c.by_owner.ensures, c.num.ensures.value) (any_first _ _)

@@ -8,5 +8,5 @@ use Rattle.derived_times.proofs.Bookings.rest_at.Goals as goal
 pub rest_ms-requires : goal.rest_ms-requires
 rest_ms-requires c = search (rules, rest_most)
 
-pub returns-in-At : goal.returns-in-At
-returns-in-At c = search (rules, rest_known, told, not-false, found_some)
+pub returns : goal.returns
+returns c = search (rules, rest_known, told, not-false, found_some)
