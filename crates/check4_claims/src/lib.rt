@@ -10,9 +10,9 @@ ghost use Rattle.pieces.specs.inner.Held.{Held};
 ghost use Rattle.check4_claims.specs.inner.Claims.{has_skill, candidate_of, lacking_of, claim_of, filled, claims_of, unclaimed_of, claimable, takes, requirement_rows, runs_on_in};
 
 use findings::{Findings, Violation, ViolationKind};
-use owners::{ByOwner, LinkIndex, OwnerIndex, Owners};
+use owners::{LinkIndex, OwnerIndex, Owners};
 use rows::Kind;
-use sheet::Rows;
+use sheet::{Found, Rows};
 
 // 1 at each booking of the piece that may be claimed.
 fn free_in(rows: &Owners, held: &[u8; 800], o: usize, p: u64) -> [u8; 800]
@@ -31,8 +31,10 @@ fn candidate(rows: &Owners, q: usize, k: usize) -> Option<usize>
     requires { (q < row_count rows.now) × (is rows.now q 0 5 ≡ true) × (k < row_count rows.now) × (is rows.now k 0 23 ≡ true) }
     ensures { result ≡ cond (candidate_of rows.now q (num rows.now k 3)) (resource_place rows.now (num rows.now k 3)) None }
 {
-    let r = rows.booked_resource(k).or_none()?;
-    if candidates::is_candidate(&ByOwner::new(rows.as_slice(), rows.owned()), q, r) {
+    let Found::At(r) = rows.booked_resource(k) else {
+        return None;
+    };
+    if candidates::is_candidate(&rows.by_owner(), q, r) {
         return Some(r);
     }
     None

@@ -29,9 +29,10 @@ fn mark_resource(rows: &Sheet, k: usize, j: usize, marks: &mut [bool; 800])
     ensures { Marked rows.now k (suc j) marks.new }
 {
     if pieces::in_piece(rows.as_slice(), k, j) {
-        if let Found::At(r) = rows.booked_resource(j) {
-            marks[r] = true;
-        }
+        let Found::At(r) = rows.booked_resource(j) else {
+            return;
+        };
+        marks[r] = true;
     }
 }
 

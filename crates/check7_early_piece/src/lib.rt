@@ -53,6 +53,7 @@ fn any_unreached(rows: &Owners, before: usize, after: usize, from: u64) -> bool
     requires { Accepted rows.now × (before < row_count rows.now) × (is rows.now before 0 2 ≡ true) × (after ≤ row_count rows.now) × (from ≤ 4000000000000) }
     ensures { result ≡ any_of (unreached_at rows.now (num rows.now before 1) from) (places (owned_by rows.now after 23) (row_count rows.now)) }
 {
+    // A loop, not `.any`: `unreached_at` asks that booking k belongs to the row, which a closure is not told.
     for k in rows.owned_by(after, Kind::Booking) {
         if unreached_at(rows, before, after, from, k) {
             return true;

@@ -102,7 +102,7 @@ pub fn check_pair(rows: &Sheet, before: usize, after: usize, found: &mut Finding
     let Some(previous) = span_of(rows, before) else {
         return;
     };
-    // a walk, which says that the sheet is an accepted one
+    // A walk, which says that the sheet is an accepted one.
     let Some(k) = rows.owned_by(after, Kind::Overlap).next() else {
         report_early(rows, before, after, previous.end, found);
         return;

@@ -42,12 +42,10 @@ fn resource_windows(rows: &Sheet, id: u64, list: &mut WindowList)
     requires { (refusal_of rows.now ≡ None) × (listed list.old ≡ []) }
     ensures { calendar_in list.new ≡ windows (sheet rows.now) 15 id }
 {
-    match rows.find_resource(id) {
-        Found::At(o) => {
-            window_rows::gather_windows(&rows.by_owner(), o, Kind::ResourceWindow, list)
-        }
-        Found::Nothing => {}
-    }
+    let Found::At(o) = rows.find_resource(id) else {
+        return;
+    };
+    window_rows::gather_windows(&rows.by_owner(), o, Kind::ResourceWindow, list);
 }
 
 // Lays out the windows of the resource that a number names: none where it is no id.
