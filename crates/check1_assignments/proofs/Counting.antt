@@ -1,7 +1,7 @@
 -- How many bookings take a unit, as a count of rows along the activity's chain. Assumes nothing.
 use Prim.Native.Nat.{ℕ, zero, suc, ◌+◌, ◌<◌, ◌≤◌}
 use mathlib.Core.Path.{◌≡◌, refl, ap, ap₂, sym, ◌∙◌}
-use mathlib.Core.Bool.{Bool, true, false, cond, not, ◌&&◌, ◌||◌, true≢false, or-false}
+use mathlib.Core.Bool.{Bool, true, false, cond, not, ◌&&◌, ◌||◌, or-false}
 use mathlib.Core.List.{List}
 use native.Mathlib.Omega.{arith}
 use native.Mathlib.Nat.{add-zero}
@@ -13,6 +13,7 @@ use Rattle.loops.specs.Range.{collect}
 use Rattle.loops.specs.Search.{count_below}
 use Rattle.loops.specs.inner.Chain.{Blind}
 use Rattle.chains.specs.Places.{places}
+use Rattle.loops.proofs.BoolLaws.{neither_right}
 use Rattle.loops.proofs.ListLaws.{count_append}
 use Rattle.loops.proofs.SearchLaws.{counted_le}
 use Rattle.rows.specs.Cells.{row_count, num, is}
@@ -42,10 +43,6 @@ module _ {A : Type 0} (p : A → Bool) (g : ℕ → List A) (q : ℕ → Bool) (
 one_counted : (b : Bool) → cond b 1 0 + 0 ≡ cond (b || false) 1 0
 one_counted true = refl
 one_counted false = refl
-
-right : (x y : Bool) → (x || y) ≡ false → y ≡ false
-right true y e = absurd (true≢false e)
-right false y e = e
 
 twice : (b : Bool) → not (not b || false) ≡ b
 twice true = refl
@@ -89,7 +86,7 @@ module _ (rows : List ℤ) (a k : ℕ) where
     -- where booking k is not misplaced, its piece is one of the activity's: another booking of its piece is misplaced only by its task
     module _ (m : misplaced (sheet rows) (activity_of rows a) (assignment_of rows k) ≡ false) where
       piece_placed : (ltb 0 (key_at rows k) && not (is_some (split (sheet rows) (num rows a 1)))) ≡ false
-      piece_placed = right (not (is rows k 2 (num rows a 2))) _ (sym (misplaced_is rows acc a k bk.within bk.kind) ∙ m)
+      piece_placed = neither_right (not (is rows k 2 (num rows a 2))) _ (sym (misplaced_is rows acc a k bk.within bk.kind) ∙ m)
 
       task_alone : (j : ℕ) → j < row_count rows → in_piece rows k j ≡ true → not (misplaced (sheet rows) (activity_of rows a) (assignment_of rows j)) ≡ is rows j 2 (num rows a 2)
       task_alone j l h =

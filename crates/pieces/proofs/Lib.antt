@@ -3,4 +3,3 @@ pub mod Chains
 pub mod Companions
 pub mod Indices
 pub mod Marks
-pub mod Walks

@@ -2,10 +2,10 @@ use borrow.Author.Rules.{rules}
 use mathlib.Core.Path.{ap, ◌∙◌}
 use Rattle.loops.specs.Lists.{keep, head}
 use Rattle.chains.proofs.PlaceLaws.{first_kept}
+use Rattle.chains.proofs.WalkLaws.{walk_find}
 use Rattle.rows.specs.Cells.{row_count}
 use Rattle.rows.specs.Kinds.{kind_number}
 use Rattle.pieces.specs.inner.Bookings.{names}
-use Rattle.pieces.proofs.Walks.{walk_find}
 use Rattle.pieces.proofs.find_naming.Goals as goal
 
 pub returns : goal.returns
