@@ -40,11 +40,12 @@ fn is_split(rows: &Sheet, a: usize) -> bool
 
 // Whether booking k names another task than its activity's, of row a, or a part where that is not split.
 #[tactic(auto, using(crate::proofs::Placing::misplaced_is))]
-fn is_misplaced(rows: &Sheet, a: usize, parts: bool, k: usize) -> bool
-    requires { Accepted rows.now × (k < row_count rows.now) × (is rows.now k 0 23 ≡ true) × (parts ≡ is_some (split (sheet rows.now) (num rows.now a 1))) }
+fn is_misplaced(rows: &Sheet, a: usize, k: usize) -> bool
+    requires { Accepted rows.now × (k < row_count rows.now) × (is rows.now k 0 23 ≡ true) × (place_of rows.now 2 (num rows.now a 1) ≡ Some a) }
     ensures { result ≡ misplaced (sheet rows.now) (activity_of rows.now a) (assignment_of rows.now k) }
 {
-    !rows.has(k, 2, rows.num(a, 2)) || 0 < pieces::key_at(rows.as_slice(), k) && !parts
+    !rows.has(k, 2, rows.num(a, 2))
+        || (0 < pieces::key_at(rows.as_slice(), k) && !is_split(rows, a))
 }
 
 // ---- units
@@ -73,27 +74,28 @@ fn is_over(rows: &Sheet, a: usize, used: u64) -> bool
 
 // ---- uses
 
-// Whether booking j takes a unit of booking k's piece, of the activity of row a.
-#[tactic(auto, using(crate::proofs::Counting::takes_at, pieces::proofs::Chains::piece_booking))]
-fn takes_unit(rows: &Sheet, held: &[u8; 800], a: usize, parts: bool, k: usize, j: usize) -> bool
-    requires { Accepted rows.now × Held rows.now held.now × Booked rows.now a k × (j < row_count rows.now) × (parts ≡ is_some (split (sheet rows.now) (num rows.now a 1))) }
+// Whether booking j takes a unit of booking k's piece, of the activity of row a. Booking k is not misplaced, so another booking
+// of its piece is misplaced only where it names another task.
+#[tactic(auto, using(crate::proofs::Counting::takes_told))]
+fn takes_unit(rows: &Sheet, held: &[u8; 800], a: usize, k: usize, j: usize) -> bool
+    requires { Accepted rows.now × Held rows.now held.now × Booked rows.now a k × (misplaced (sheet rows.now) (activity_of rows.now a) (assignment_of rows.now k) ≡ false) × (j < row_count rows.now) }
     ensures { result ≡ takes_unit rows.now a k j }
 {
     pieces::in_piece(rows.as_slice(), k, j)
-        && !is_misplaced(rows, a, parts, j)
+        && rows.has(j, 2, rows.num(a, 2))
         && !pieces::is_marked(rows.as_slice(), held, j)
 }
 
 // How many bookings before booking k take a unit of its piece.
 #[tactic(auto, using(crate::proofs::Placing::activity_most, chains::proofs::PlaceLaws::left_all, crate::proofs::Counting::uses_left, crate::proofs::Counting::uses_most), unfolding(loops::specs::Lists::count_of))]
-fn uses_before(rows: &Sheet, held: &[u8; 800], a: usize, parts: bool, k: usize) -> u64
-    requires { Accepted rows.now × Held rows.now held.now × Booked rows.now a k × (parts ≡ is_some (split (sheet rows.now) (num rows.now a 1))) }
+fn uses_before(rows: &Sheet, held: &[u8; 800], a: usize, k: usize) -> u64
+    requires { Accepted rows.now × Held rows.now held.now × Booked rows.now a k × (misplaced (sheet rows.now) (activity_of rows.now a) (assignment_of rows.now k) ≡ false) }
     ensures count { result ≡ uses (sheet rows.now) (activity_of rows.now a) (assignment_of rows.now k) (assignments_below (sheet rows.now) k) }
     ensures bound { result ≤ 800 }
 {
     let mut used = 0;
     for j in rows.owned_above(a, Kind::Booking, k) {
-        used += u64::from(takes_unit(rows, held, a, parts, k, j));
+        used += u64::from(takes_unit(rows, held, a, k, j));
     }
     used
 }
@@ -136,15 +138,14 @@ fn check_judged(
     held: &[u8; 800],
     need: &[u64; 800],
     a: usize,
-    parts: bool,
     k: usize,
     found: &mut Findings,
 )
-    requires { Accepted rows.now × Held rows.now held.now × Needs rows.now need.now × Booked rows.now a k × (parts ≡ is_some (split (sheet rows.now) (num rows.now a 1))) × (misplaced (sheet rows.now) (activity_of rows.now a) (assignment_of rows.now k) ≡ false) × (is_held (sheet rows.now) (assignment_of rows.now k) ≡ false) }
+    requires { Accepted rows.now × Held rows.now held.now × Needs rows.now need.now × Booked rows.now a k × (misplaced (sheet rows.now) (activity_of rows.now a) (assignment_of rows.now k) ≡ false) × (is_held (sheet rows.now) (assignment_of rows.now k) ≡ false) }
     ensures { so_far found.new ≡ tell (so_far found.old) (check_known clock (sheet rows.now) (assignments_below (sheet rows.now) k) (assignment_of rows.now k) (activity_of rows.now a)) }
 {
     let id = rows.num(k, 1);
-    let used = uses_before(rows, held, a, parts, k);
+    let used = uses_before(rows, held, a, k);
     let over = is_over(rows, a, used + 1);
     found.report(over, Violation::of(1, ViolationKind::UnknownActivity, id));
     let setup = rows.num(k, 6);
@@ -168,11 +169,10 @@ fn check_known(
     requires { Accepted rows.now × Held rows.now held.now × Needs rows.now need.now × Booked rows.now a k }
     ensures { so_far found.new ≡ tell (so_far found.old) (check_known clock (sheet rows.now) (assignments_below (sheet rows.now) k) (assignment_of rows.now k) (activity_of rows.now a)) }
 {
-    let parts = is_split(rows, a);
-    if is_misplaced(rows, a, parts, k) {
+    if is_misplaced(rows, a, k) {
         found.tell(Violation::of(1, ViolationKind::UnknownActivity, rows.num(k, 1)));
     } else if !pieces::is_marked(rows.as_slice(), held, k) {
-        check_judged(rows, held, need, a, parts, k, found);
+        check_judged(rows, held, need, a, k, found);
     }
 }
 
@@ -195,13 +195,12 @@ fn check_assignment(
     requires { Accepted rows.now × Held rows.now held.now × Needs rows.now need.now × (k < row_count rows.now) × (is rows.now k 0 23 ≡ true) }
     ensures { so_far found.new ≡ tell (so_far found.old) (check_assignment_at clock (sheet rows.now) k) }
 {
-    match rows.activity_of(k) {
-        Found::At(a) => check_known(rows, held, need, a, k, found),
-        Found::Nothing => {
-            let f = Violation::of(1, ViolationKind::UnknownActivity, rows.num(k, 1));
-            found.report(is_task(rows, rows.num(k, 2)), f);
-        }
-    }
+    let Found::At(a) = rows.activity_of(k) else {
+        let f = Violation::of(1, ViolationKind::UnknownActivity, rows.num(k, 1));
+        found.report(is_task(rows, rows.num(k, 2)), f);
+        return;
+    };
+    check_known(rows, held, need, a, k, found);
 }
 
 #[tactic(auto, using(chains::proofs::PlaceLaws::left_all, model::proofs::Accepting::accepted, crate::proofs::Judging::assignments_told), unfolding(sheet::specs::Places::of_kind))]

@@ -57,17 +57,12 @@ fn names_at(rows: &[i64], kind: Kind, a: u64, b: u64, i: usize) -> bool
 }
 
 // The first row of a kind that names a and b, among the rows that belong to row o.
-#[tactic(auto, using(chains::proofs::PlaceLaws::first_kept), unfolding(loops::specs::Lists::keep))]
 pub fn find_naming(rows: &ByOwner, o: usize, kind: Kind, a: u64, b: u64) -> Option<usize>
     requires { (o ≤ row_count rows.now) × Blind (owned_by rows.now o (kind_number kind)) (names rows.now (kind_number kind) a b) }
     ensures { result ≡ first_place (names rows.now (kind_number kind) a b) (row_count rows.now) }
 {
-    for k in rows.owned_by(o, kind) {
-        if names_at(rows.as_slice(), kind, a, b, k) {
-            return Some(k);
-        }
-    }
-    None
+    rows.owned_by(o, kind)
+        .find(|k| names_at(rows.as_slice(), kind, a, b, *k))
 }
 
 // ---- the first bookings
@@ -99,7 +94,7 @@ fn first_at(rows: &ByKind, k: usize) -> bool
 }
 
 // 1 at each row that passes a test, 0 at the others and past the last one.
-pub fn marks_of<F: Fn(usize) -> bool>(rows: &[i64], test: F) -> [u8; 800]
+fn marks_of<F: Fn(usize) -> bool>(rows: &[i64], test: F) -> [u8; 800]
     requires few { row_count rows.now ≤ 800 }
     requires callable { (k : ℕ) → k < row_count rows.now → F.pre test k }
     ensures { (f : ℕ → Bool) → Tells rows.now (F.post test) f → Marks rows.now f result }

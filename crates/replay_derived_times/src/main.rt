@@ -15,7 +15,7 @@ use refusals::Verdict;
 use resource_timing::{ActivityDuration, Derived, Piece, ResourceTiming, Timed};
 use rounding::TooLarge;
 use rows::Kind;
-use sheet::Rows;
+use sheet::{Found, Rows};
 use std::io;
 use stored_run::Gathered;
 
@@ -58,7 +58,9 @@ fn derived_at(rows: &Owners, bookings: &Bookings<'_>, k: usize) -> Option<Derive
     if !rows.is_of_kind(k, Kind::Booking) {
         return None;
     }
-    let o = rows.activity_of(k).or_none()?;
+    let Found::At(o) = rows.activity_of(k) else {
+        return None;
+    };
     Some(bookings.duration_on(o, k))
 }
 
