@@ -2,7 +2,7 @@
 // in place of a list that gets shorter.
 #![tactic(auto)]
 
-ghost use Rattle.std.specs.Prelude.{◌≡◌, true, cond, [], ◌+◌, ◌<◌, ◌≤◌, length, set, None, Some};
+ghost use Rattle.std.specs.Prelude.{◌≡◌, true, false, cond, [], ◌+◌, ◌<◌, ◌≤◌, length, set, None, Some};
 ghost use Rattle.findings.specs.inner.Told.{so_far, tell};
 ghost use Rattle.rows.specs.Cells.{row_count, num, is};
 ghost use Rattle.sheet.specs.Places.{resource_place};
@@ -14,14 +14,14 @@ use owners::{LinkIndex, OwnerIndex, Owners};
 use rows::Kind;
 use sheet::{Found, Rows};
 
-// 1 at each booking of the piece that may be claimed.
-fn free_in(rows: &Owners, held: &[u8; 800], o: usize, p: u64) -> [u8; 800]
+// True at each booking of the piece that may be claimed.
+fn free_in(rows: &Owners, held: &[u8; 800], o: usize, p: u64) -> [bool; 800]
     requires { (o ≤ row_count rows.now) × Held rows.now held.now }
     ensures { unclaimed_of rows.now o result ≡ runs_on_in rows.now o p }
 {
-    let mut free = [0u8; 800];
+    let mut free = [false; 800];
     for k in rows.owned_by(o, Kind::Booking) {
-        free[k] = u8::from(check4_pieces::is_free(rows.as_slice(), held, p, k));
+        free[k] = check4_pieces::is_free(rows.as_slice(), held, p, k);
     }
     free
 }
@@ -49,7 +49,7 @@ fn has_skill(rows: &Owners, r: usize, skill: u64) -> bool
 }
 
 // The skills that the requirement at row q asks for and the resource x, of row r, lacks.
-#[tactic(auto, using(chains::proofs::PlaceLaws::left_all, check4_pieces::proofs::Along::tell_only, sheet::proofs::Lookups::place_low), unfolding(crate::specs::inner::Claims::lacking_for))]
+#[tactic(auto, using(chains::proofs::PlaceLaws::left_all, findings::proofs::Reporting::tell_only, sheet::proofs::Lookups::place_low), unfolding(crate::specs::inner::Claims::lacking_for))]
 fn report_lacking(rows: &Owners, q: usize, r: usize, x: u64, found: &mut Findings)
     requires { (q < row_count rows.now) × (resource_place rows.now x ≡ Some r) × (x < 9223372036854775808) }
     ensures { so_far found.new ≡ tell (so_far found.old) (lacking_of rows.now q x) }
@@ -64,11 +64,11 @@ fn report_lacking(rows: &Owners, q: usize, r: usize, x: u64, found: &mut Finding
 
 // The row of booking k's resource, if k is marked and the resource is a candidate of the requirement at row q.
 #[tactic(auto, unfolding(crate::specs::inner::Claims::claimable))]
-fn claimant(rows: &Owners, free: &[u8; 800], q: usize, k: usize) -> Option<usize>
+fn claimant(rows: &Owners, free: &[bool; 800], q: usize, k: usize) -> Option<usize>
     requires { (q < row_count rows.now) × (is rows.now q 0 5 ≡ true) × (k < row_count rows.now) × (k < 800) × (is rows.now k 0 23 ≡ true) }
     ensures { result ≡ cond (claimable rows.now q free.now k) (resource_place rows.now (num rows.now k 3)) None }
 {
-    if free[k] == 1 {
+    if free[k] {
         return candidate(rows, q, k);
     }
     None
@@ -78,7 +78,7 @@ fn claimant(rows: &Owners, free: &[u8; 800], q: usize, k: usize) -> Option<usize
 #[tactic(auto, using(findings::proofs::SinkLaws::emit_none), unfolding(crate::specs::inner::Claims::takes, crate::specs::inner::Claims::claimable))]
 fn claim_at(
     rows: &Owners,
-    free: &mut [u8; 800],
+    free: &mut [bool; 800],
     q: usize,
     units: u64,
     k: usize,
@@ -87,7 +87,7 @@ fn claim_at(
     requires { (q < row_count rows.now) × (is rows.now q 0 5 ≡ true) × (k < row_count rows.now) × (k < 800) × (is rows.now k 0 23 ≡ true) }
     ensures wrote { so_far found.new ≡ tell (so_far found.old) (cond (takes rows.now q free.old units k) (lacking_of rows.now q (num rows.now k 3)) []) }
     ensures units { result ≡ units + cond (takes rows.now q free.old units k) 1 0 }
-    ensures marks { free.new ≡ cond (takes rows.now q free.old units k) (set free.old k 0) free.old }
+    ensures marks { free.new ≡ cond (takes rows.now q free.old units k) (set free.old k false) free.old }
 {
     if units >= rows.num(q, 3) {
         return units;
@@ -95,7 +95,7 @@ fn claim_at(
     let Some(r) = claimant(rows, free, q, k) else {
         return units;
     };
-    free[k] = 0;
+    free[k] = false;
     report_lacking(rows, q, r, rows.num(k, 3), found);
     units + 1
 }
@@ -104,7 +104,7 @@ fn claim_at(
 #[tactic(auto, using(model::proofs::OwnedLaws::owned_kind), unfolding(crate::proofs::Claiming::marks_from, crate::proofs::Claiming::told_from))]
 fn fill(
     rows: &Owners,
-    free: &mut [u8; 800],
+    free: &mut [bool; 800],
     o: usize,
     activity: u64,
     q: usize,

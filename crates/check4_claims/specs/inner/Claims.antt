@@ -1,6 +1,6 @@
 -- What the requirements of an activity claim of a piece, by rows: o is the row of an activity, q of a requirement, r of a resource; x is the id of
 -- a resource, p the key of a part index. Assumes nothing.
-use Rattle.std.specs.Prelude.{ℕ, Bool, false, not, ◌&&◌, List, [], ◌∷◌, ◌++◌, length, get_or, eqb, ltb, ℤ}
+use Rattle.std.specs.Prelude.{ℕ, Bool, false, not, ◌&&◌, List, [], ◌∷◌, ◌++◌, length, get_or, ltb, ℤ}
 use Rattle.loops.specs.Lists.{given, option, each}
 use Rattle.loops.specs.Range.{collect}
 use Rattle.loops.specs.Search.{any_below}
@@ -43,18 +43,18 @@ module _ (rows : List ℤ) where
   claims_of activity (q ∷ m) l = filled activity q l ++ claims_of activity m (claim_of q l).unclaimed
 
   -- the resource of a booking that is marked
-  unfoldable pub marked_at : List ℕ → ℕ → List ℕ
-  marked_at free k = given (eqb (get_or free k 0) 1) (num rows k 3)
+  unfoldable pub marked_at : List Bool → ℕ → List ℕ
+  marked_at free k = given (get_or free k false) (num rows k 3)
 
-  abbrev pub unclaimed_of : ℕ → List ℕ → List ℕ
+  abbrev pub unclaimed_of : ℕ → List Bool → List ℕ
   unclaimed_of o free = collect (only (owned_by rows o 23) (marked_at free)) (row_count rows)
 
   -- booking k is marked, and its resource a candidate of the requirement
-  unfoldable pub claimable : ℕ → List ℕ → ℕ → Bool
-  claimable q free k = eqb (get_or free k 0) 1 && candidate_of q (num rows k 3)
+  unfoldable pub claimable : ℕ → List Bool → ℕ → Bool
+  claimable q free k = get_or free k false && candidate_of q (num rows k 3)
 
   -- the requirement, which has claimed so many units, claims it
-  unfoldable pub takes : ℕ → List ℕ → ℕ → ℕ → Bool
+  unfoldable pub takes : ℕ → List Bool → ℕ → ℕ → Bool
   takes q free units k = ltb units (num rows q 3) && claimable q free k
 
   -- the requirements of the activity
