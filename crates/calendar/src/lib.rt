@@ -4,13 +4,12 @@
 // memory is fixed where calendars are laid out, so they are no slices of slices. Any places may be handed in.
 #![tactic(auto)]
 
-ghost use Rattle.std.specs.Prelude.{◌≡◌, true, false, cond, not, ◌&&◌, ◌||◌, [], ◌∷◌, ◌++◌, map, ℕ, ◌+◌, ◌-◌, max, min, ℤ, pos};
-ghost use Rattle.loops.specs.Numbers.{to_nat};
+ghost use Rattle.std.specs.Prelude.{◌≡◌, true, false, cond, not, ◌&&◌, ◌||◌, [], ◌∷◌, ◌++◌, map, ℕ, ◌+◌, ◌-◌, min, ℤ, pos};
 ghost use Rattle.calendar.specs.Clock.{clock};
 ghost use Rattle.calendar.specs.Calendar.{Calendar, kind_of, opens, closes, contains, covers, hits, is_working_time, interval_fits, joint_working};
 ghost use Rattle.calendar.specs.Amount.{joint_available_ms};
 ghost use Rattle.calendar.specs.WorkEnd.{end_from, joint_work_end};
-ghost use Rattle.calendar.specs.Layout.{window_of, windows_of, calendar_of, lists_of, calendars_of, saying};
+ghost use Rattle.calendar.specs.Layout.{window_of, windows_of, lists_of, calendars_of, saying};
 ghost use Rattle.calendar.specs.Fit.{fit_of};
 ghost use Rattle.calendar.specs.inner.Scan.{nearer, next_stop, last_instant, EndsBy, joint_look, AllEndBy};
 

@@ -1,15 +1,14 @@
 // Check 2, `check_time_only`: the spans of the activities that hold no resource, and the activities among them that have none.
 #![tactic(auto)]
 
-ghost use Rattle.std.specs.Prelude.{◌≡◌, true, false, ◌<◌, ◌≤◌, pos, map};
+ghost use Rattle.std.specs.Prelude.{◌≡◌, true, ◌<◌, ◌≤◌, map};
 ghost use Rattle.std.specs.Prelude.{None, Some};
-ghost use Rattle.std.specs.Int.Signed.{lt_z};
-ghost use Rattle.loops.specs.Lists.{option, is_empty, each};
+ghost use Rattle.loops.specs.Lists.{is_empty, each};
 ghost use Rattle.loops.specs.Range.{collect};
 ghost use Rattle.calendar.specs.Clock.{clock};
 ghost use Rattle.calendar.specs.Layout.{window_of};
 ghost use Rattle.rows.specs.Cells.{row_count, num, is};
-ghost use Rattle.sheet.specs.Places.{place_of, task_place};
+ghost use Rattle.sheet.specs.Places.{place_of};
 ghost use Rattle.sheet.specs.Refusals.{refusal_of};
 ghost use Rattle.findings.specs.inner.Told.{so_far, tell};
 ghost use Rattle.resource_timing.specs.Durations.{total_ms};
@@ -17,7 +16,7 @@ ghost use Rattle.model.specs.Sheet.{sheet};
 ghost use Rattle.model.specs.Task.{tasks};
 ghost use Rattle.model.specs.Activity.{requirements, activities_of};
 ghost use Rattle.model.specs.Schedule.{time_only_below};
-ghost use Rattle.model.specs.inner.Records.{maybe_at, activity_of, span_of};
+ghost use Rattle.model.specs.inner.Records.{activity_of, span_of};
 ghost use Rattle.spans.specs.inner.Instants.{meant};
 ghost use Rattle.definition.specs.CheckTimeOnly.{seen, check_first, check_span_at, check_unplaced, check_time_only};
 ghost use Rattle.check2_time_only.specs.inner.Tests.{own_windows, too_short, outside_own, starts_before, release_of_task};

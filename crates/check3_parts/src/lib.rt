@@ -1,16 +1,12 @@
 // Check 3, `check_parts`: the parts that a split activity is booked in.
 #![tactic(auto)]
 
-ghost use Rattle.std.specs.Prelude.{◌≡◌, true, false, not, ◌&&◌, ◌||◌, [], ◌+◌, ◌<◌, ◌≤◌, eqb, ltb, length, ℕ, pos};
-ghost use mathlib.Core.List.{foldl};
+ghost use Rattle.std.specs.Prelude.{◌≡◌, true, ◌&&◌, ◌||◌, [], ◌<◌, ◌≤◌, eqb, ℕ, pos};
 ghost use Rattle.std.specs.Int.Signed.{lt_z};
-ghost use Rattle.loops.specs.Lists.{given, each};
-ghost use Rattle.loops.specs.Ordered.{values};
 ghost use Rattle.rows.specs.Cells.{row_count, cell, num};
 ghost use Rattle.owners.specs.inner.Owners.{owned_by};
 ghost use Rattle.findings.specs.inner.Told.{so_far, tell};
 ghost use Rattle.model.specs.Sheet.{sheet};
-ghost use Rattle.model.specs.Schedule.{duration_too_short};
 ghost use Rattle.pieces.specs.inner.Bookings.{key_at};
 ghost use Rattle.definition.specs.CheckParts.{work_of, two_works, check_parts};
 ghost use Rattle.check3_parts.specs.inner.Booked.{has_part, part_at, parts_below, parts_in, whole_in, outside_at, some_outside, total_findings, short_parts, split_findings, activity_findings, task_findings};

@@ -1,7 +1,7 @@
 // Office calendars: busy periods are read to lent rows as closed windows of a resource, or the calendar is refused with a number and a place.
 #![tactic(auto)]
 
-ghost use Rattle.std.specs.Prelude.{◌≡◌, IfOk, cond, ◌&&◌, not, [], ◌∷◌, map, ◌/◌, ◌^◌, ◌<◌, ◌≤◌, ltb, pos, length};
+ghost use Rattle.std.specs.Prelude.{◌≡◌, IfOk, cond, ◌&&◌, not, [], ◌∷◌, map, ◌/◌, ◌^◌, ◌<◌, ◌≤◌, ltb, length};
 ghost use Rattle.loops.specs.Search.{or_else};
 ghost use Rattle.line_buffer.specs.Lines.{flat_lines};
 ghost use Rattle.line_buffer.specs.inner.Sink.{sink};

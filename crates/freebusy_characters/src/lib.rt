@@ -2,7 +2,7 @@
 #![tactic(auto)]
 
 ghost use Rattle.std.specs.Prelude.{◌≡◌, ℕ, Bool, ◌<◌, ◌≤◌, length, MatchOption, ⊤};
-ghost use Rattle.freebusy_characters.specs.Utf8.{utf8_tail, utf8_2, starts_three, utf8_3, starts_four, utf8_4, non_us_ascii, first_of, characters};
+ghost use Rattle.freebusy_characters.specs.Utf8.{utf8_tail, utf8_2, starts_three, utf8_3, starts_four, utf8_4, non_us_ascii, characters};
 ghost use Rattle.freebusy_characters.specs.ParamValue.{qsafe_char, safe_char, quoted_string, param_value};
 
 const QUOTE: u8 = b'"';

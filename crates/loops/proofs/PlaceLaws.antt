@@ -1,5 +1,4 @@
--- What a search that found a place says of it, what one that found none says of every place, and searches that agree. Counts along a chain.
--- Assumes nothing.
+-- What a search that found a place says of it, what one that found none says of every place, and searches that agree. Assumes nothing.
 use Prim.Native.Nat.{ℕ, zero, suc, ◌+◌, ◌-◌, ◌<◌, ◌≤◌}
 use mathlib.Core.Path.{◌≡◌, refl, ap, ap₂, sym, ◌∙◌}
 use mathlib.Core.Bool.{Bool, true, false, cond, ◌||◌, true≢false}

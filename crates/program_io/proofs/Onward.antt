@@ -1,5 +1,5 @@
 -- From step to step: a place stays within the room and comes nearer to its end, or has one try less. Assumes nothing.
-use Rattle.std.proofs.Common.{◌≡◌, refl, sym, ◌∙◌, ℕ, ◌+◌, ◌-◌, ◌*◌, ◌<◌, ◌≤◌, Bool, true, false, cond, List, length, arith, Option, None, Some, Result, Ok, Err, Continue, rules}
+use Rattle.std.proofs.Common.{◌≡◌, refl, sym, ◌∙◌, ℕ, ◌+◌, ◌-◌, ◌*◌, ◌<◌, ◌≤◌, Bool, true, false, cond, arith, Result, Ok, Err, Continue, rules}
 use borrow.Author.Tests.{leb-false, eqb-false}
 use lib.Dec.{leb, eqb}
 use Rattle.std.specs.declared.ops.ControlFlow.{ControlFlow}

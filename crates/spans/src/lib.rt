@@ -1,7 +1,7 @@
 // When a task completes and when an activity runs, of models/schedule.rs and `activity_span` of scheduler/feasibility.rs.
 #![tactic(auto)]
 
-ghost use Rattle.std.specs.Prelude.{◌≡◌, cond, ◌<◌, pos};
+ghost use Rattle.std.specs.Prelude.{◌≡◌, pos};
 ghost use Rattle.std.specs.Prelude.{None};
 ghost use Rattle.calendar.specs.Clock.{clock};
 ghost use Rattle.loops.specs.Range.{fold};

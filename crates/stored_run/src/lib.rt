@@ -193,7 +193,7 @@ pub fn name_failed(
 
 // ---- the lists
 
-// Judges each case of a list, and names those that fail.
+// Judges each case of a list, and names those that fail. Steps of any length, a case each, and no index that counts them.
 fn replay_list<F: Fn(&Gathered) -> bool>(
     rt: &impl Print,
     name: &[u8],
@@ -368,7 +368,8 @@ pub fn no_list() -> [u8; 262144]
     [0; 262144]
 }
 
-// Reads from a file until its end, an error or the end of the room, and gives how many bytes were read.
+// Reads from a file until its end, an error or the end of the room, and gives how many bytes were read. Steps of any length, and no index
+// that counts them.
 fn read_whole(from: &mut impl Read, room: &mut [u8]) -> usize
     ensures { result ≤ length room.new }
 {

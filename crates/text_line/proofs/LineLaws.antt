@@ -1,10 +1,19 @@
 -- Laws of a field that was read, of a line's kind and of its row. Assumes nothing.
-use Rattle.std.specs.Prelude.{Result, Ok, Err}
+use Rattle.std.specs.Prelude.{Some, Result, Ok, Err, cond, ◌&&◌, eqb, ltb}
+use lib.Dec.{leb}
+use Rattle.std.proofs.lemmas.Bool.Decides.{nat_tests}
+use Rattle.loops.specs.Numbers.{to_nat}
+use Rattle.std.specs.Option.{is_some}
 use Rattle.refusals.specs.declared.Reason.{Reason}
+use Rattle.refusals.specs.declared.Reason.TheVariants.{Misspelt}
+use Rattle.rows.specs.declared.Kind.{Kind}
+use Rattle.rows.specs.Kinds.{kind_of, kind_number}
+use Rattle.rows.specs.Table.{width}
+use Rattle.rows.proofs.KindNumbers.{is_known, kind_number_is}
 use Prim.Native.Nat.{ℕ, suc, ◌+◌, ◌-◌, ◌≤◌, ◌<◌, ◌^◌}
-use mathlib.Core.Bool.{Bool}
-use mathlib.Core.List.{List, [], map}
-use mathlib.Core.Path.{◌≡◌, sym, ◌∙◌}
+use mathlib.Core.Bool.{Bool, true}
+use mathlib.Core.List.{List, [], ◌∷◌, map}
+use mathlib.Core.Path.{◌≡◌, refl, ap, sym, ◌∙◌}
 use native.Mathlib.Omega.{arith}
 use native.Mathlib.Numerals.{add-one}
 use lib.ListN.{length, get_or, set, replicate, length-map}
@@ -24,6 +33,20 @@ module _ {all : List ℤ} (rows : List ℤ) (i to : ℕ) (now : sets rows i (rep
 
   pub zero_end : to ≤ i → rows ≡ all
   zero_end h = let e : to - i ≡ 0 = omega arith in rw e at now
+
+-- the kinds are 1 to 24
+known : (k : ℕ) → (ltb 0 k && ltb k 25) ≡ is_some (kind_of k)
+known k =
+    let e : ltb k 25 ≡ leb k 24 = grind (arith, nat_tests) in
+    ap (λ b. ltb 0 k && b) e ∙ sym (is_known k)
+
+-- a line of a kind, by its width
+pub kind_judged : {v : Result Unit Reason} {good : Bool} (kind : List ℕ) (n k w : ℕ) {x : Kind} → good ≡ true → (length kind ≡ 0 → ⊥) → k ≡ to_nat (value_of kind) → kind_of k ≡ Some x
+    → w ≡ kind_number x → v ≡ cond (eqb n (suc (width w))) (Ok tt) (Err Misspelt) → v ≡ by_fields good kind n
+kind_judged [] n k w g h q e z s = absurd (h refl)
+kind_judged (b ∷ bs) n k w g h q e z s =
+    let y : w ≡ k = z ∙ sym (kind_number_is k e) in
+    rw (g, ← q, known k, e, ← y) s
 
 -- a line by its first field
 pub line_judged : {v : Result Unit Reason} (l f : List ℕ) (good : Bool) (n : ℕ) → good ≡ spelled (fields_of l) → f ≡ until_byte 44 l → n ≡ length (fields_of l) → v ≡ by_fields good f n

@@ -6,6 +6,7 @@ ghost use Rattle.std.proofs.lemmas.List.Edits.{sets};
 ghost use Rattle.text_line.specs.Line.{fields_of, spelled, value_of, by_fields, line_of, row_of};
 
 use refusals::Reason;
+use rows::Kind;
 use text_fields::Parts;
 
 // The fields of a line: whether all are spelled right, and how many there are. No Option: the count is wanted of a misspelt line too.
@@ -48,11 +49,11 @@ fn judge_line(kind: &[u8], good: bool, n: usize) -> Result<(), Reason>
     if !good || kind.len() == 0 {
         return Err(Reason::Misspelt);
     }
-    let k = rows::nat(text_fields::read_number(kind).unwrap_or(0));
-    if k < 1 || 24 < k {
+    let number = rows::nat(text_fields::read_number(kind).unwrap_or(0));
+    let Ok(kind) = Kind::try_from(number) else {
         return Err(Reason::UnknownKind);
-    }
-    if rows::has_width(k, n) {
+    };
+    if rows::has_width(kind.number(), n) {
         Ok(())
     } else {
         Err(Reason::Misspelt)
