@@ -14,6 +14,7 @@ use Rattle.loops.specs.Lists.{each}
 use Rattle.loops.specs.inner.Chain.{Silent}
 use Rattle.loops.proofs.ListLaws.{each_collect}
 use Rattle.chains.specs.Places.{places}
+use Rattle.lent_room.specs.declared.lent_list.LentList.{LentList}
 use Rattle.calendar.specs.Clock.{clock}
 use Rattle.line_buffer.specs.inner.Sink.{put_line}
 use Rattle.line_buffer.proofs.LineLaws.{lines_one, lines_append}
@@ -27,7 +28,7 @@ use Rattle.model.specs.inner.Records.{maybe_at}
 use Rattle.model.proofs.Accepting.{accepted}
 use Rattle.model.proofs.RowLaws.{task_row, task_none}
 use Rattle.load.specs.Load.{bookings_on, peak_of, cap_of, booked_resources}
-use Rattle.load.specs.declared.bookings.Bookings.{Bookings}
+use Rattle.load.specs.declared.booking.Booking.{Booking}
 use Rattle.load.specs.inner.Firsts.{is_first}
 use Rattle.load.specs.inner.Lent.{lent}
 use Rattle.load.proofs.Told.{peak_is, booked_told, booked_silent, booked_first, booked_all}
@@ -82,7 +83,7 @@ module _ (rows : List ℤ) where
   -- ---- of a resource
 
   module _ (x : ℕ) where
-    pub peak_within : {p : ℕ} (b : Bookings) → lent b ≡ bookings_on (sheet rows) x → p ≡ peak_of lt_z (lent b) → refusal_of rows ≡ None → p ≤ 4000000000000
+    pub peak_within : {p : ℕ} (b : LentList Booking 800) → lent b ≡ bookings_on (sheet rows) x → p ≡ peak_of lt_z (lent b) → refusal_of rows ≡ None → p ≤ 4000000000000
     peak_within b g e a = omega (arith, peak_is rows x b g e, peak_most rows (accepted rows a) x)
 
     pub cap_within : {c : ℤ} → c ≡ cap_of (sheet rows) x → refusal_of rows ≡ None → SFits w64 c → nat_abs (to_z w64 (of_z w64 c)) ≤ 4000000000000
