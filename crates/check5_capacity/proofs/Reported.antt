@@ -10,6 +10,7 @@ use mir.Val.{SFits, to_z, of_z}
 use mir.Facts.{to_z-of_z}
 use Rattle.loops.specs.Lists.{given}
 use Rattle.chains.specs.Places.{places}
+use Rattle.lent_room.specs.declared.lent_list.LentList.{LentList}
 use Rattle.calendar.specs.Clock.{clock}
 use Rattle.rows.specs.Cells.{row_count, num}
 use Rattle.findings.specs.declared.Violation.{Violation}
@@ -19,13 +20,13 @@ use Rattle.model.specs.Sheet.{sheet}
 use Rattle.model.specs.Schedule.{capacity_exceeded}
 use Rattle.load.specs.Load.{peak_of, bookings_on, cap_of}
 use Rattle.load.specs.inner.Firsts.{is_first}
-use Rattle.load.specs.declared.bookings.Bookings.{Bookings}
+use Rattle.load.specs.declared.booking.Booking.{Booking}
 use Rattle.load.specs.inner.Lent.{lent}
 use Rattle.load.proofs.Told.{peak_is, booked_told, booked_silent, booked_first, booked_all}
 use Rattle.definition.specs.CheckCapacity.{check_resource, check_capacity}
 
 module _ (rows : List ℤ) (x : ℕ) where
-  pub resource_told : (b : Bookings) {o : Bool} {c : ℤ} {p : ℕ} → SFits w64 c → o ≡ lt_z (to_z w64 (of_z w64 c)) (pos p) → c ≡ cap_of (sheet rows) x
+  pub resource_told : (b : LentList Booking 800) {o : Bool} {c : ℤ} {p : ℕ} → SFits w64 c → o ≡ lt_z (to_z w64 (of_z w64 c)) (pos p) → c ≡ cap_of (sheet rows) x
       → lent b ≡ bookings_on (sheet rows) x → p ≡ peak_of lt_z (lent b) → given o (capacity_exceeded 5 x) ≡ check_resource clock (sheet rows) x
   unfolding check_resource
   resource_told b f e c g p = rw (← c, ← peak_is rows x b g p) (rw (to_z-of_z f) at (ap (λ o. given o (capacity_exceeded 5 x)) e))

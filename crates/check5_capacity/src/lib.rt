@@ -26,8 +26,8 @@ fn check_resource(rows: &Sheet, x: u64, bookings: &mut Bookings, found: &mut Fin
     requires { x < 9223372036854775808 }
     ensures { so_far found.new ≡ tell (so_far found.old) (check_resource clock (sheet rows.now) x) }
 {
-    bookings.gather(rows, x);
-    let over = exceeds(bookings.peak(), load::cap_of(&rows.by_kind(), x));
+    load::gather_bookings(rows, x, bookings);
+    let over = exceeds(load::peak_of(bookings), load::cap_of(&rows.by_kind(), x));
     found.report(over, Violation::of(5, ViolationKind::CapacityExceeded, x));
 }
 

@@ -9,9 +9,9 @@ use native.Mathlib.Decide.{ℕ_discrete, dec_lt}
 use borrow.Author.Tests.{lt-ltb, le-ltb, eq-eqb, ne_eqb}
 use lib.Dec.{eqb, ltb}
 use lib.IntN.{ℤ}
-use lib.ListN.{length, set, length-append, take, drop}
+use lib.ListN.{length, length-append, take, drop}
 use lib.Seq.{drop-append_seam, take-append_seam}
-use Rattle.std.proofs.lemmas.List.{append_assoc, length_push, take_more_set, length-map, take-map, drop-map, drop-take}
+use Rattle.std.proofs.lemmas.List.{append_assoc, length_push, length-map, take-map, drop-map, drop-take}
 use Rattle.loops.specs.Lists.{each}
 use Rattle.loops.specs.Range.{collect}
 use Rattle.loops.specs.Sums.{total}
@@ -21,6 +21,7 @@ use Rattle.loops.proofs.BoolLaws.{and_left}
 use Rattle.loops.proofs.ListLaws.{each_append}
 use Rattle.loops.proofs.SearchLaws.{count_le}
 use Rattle.loops.proofs.Walks.{over}
+use Rattle.lent_room.specs.declared.lent_list.LentList.{LentList}
 use Rattle.calendar.specs.declared.TimeWindow.{TimeWindow}
 use Rattle.calendar.specs.Calendar.{Calendar}
 use Rattle.calendar.specs.Layout.{window_of, windows_of, calendar_of, lists_of, calendars_of}
@@ -32,12 +33,10 @@ use Rattle.model.specs.Sheet.{sheet}
 use Rattle.model.specs.Resource.{windows}
 use Rattle.model.proofs.Requiring.{count_less}
 use Rattle.model.proofs.OwnedLaws.{owned_kind}
-use Rattle.window_rows.specs.declared.window_list.WindowList.{WindowList}
 use Rattle.window_rows.specs.Listed.{listed, calendar_in}
 use Rattle.window_rows.specs.inner.Laid.{Holder}
 use Rattle.check6_joint_calendars.specs.declared.laid_calendars.LaidCalendars.{LaidCalendars}
 use Rattle.check6_joint_calendars.specs.inner.Taken.{marked, OnResources}
-use Rattle.window_rows.proofs.Lists.{room_left}
 use Rattle.check6_joint_calendars.specs.Laid as laid
 use Rattle.check6_joint_calendars.specs.Laid.{in_a_row, places_from, LaidOut}
 use Rattle.check6_joint_calendars.specs.inner.Laying.{Added, calendar_at, window_above, Resources}
@@ -64,7 +63,7 @@ places_more n m [] x e = let q : m ≡ n = omega arith in rw q
 places_more n m (c ∷ cs) x e = ap (λ y. record { from = n; to = n + length c } ∷ y) (places_more (n + length c) m cs x (omega arith))
 
 -- so many windows
-listed_length : (l : WindowList) → length (calendar_in l) ≡ length (listed l)
+listed_length : (l : LentList TimeWindow 800) → length (calendar_in l) ≡ length (listed l)
 unfolding calendar_in
 listed_length l = length-map (listed l) window_of
 
@@ -236,16 +235,13 @@ module _ (rows : List ℤ) (marks : List Bool) where
 -- ---- a calendar more in the room that is lent
 
 pub added : (l l' : LaidCalendars) {x : Calendar ℤ} {m from to : ℕ} → from ≡ length (listed l.windows) → to ≡ length (listed l'.windows)
-    → calendar_in l'.windows ≡ calendar_in l.windows ++ x → length (listed l'.windows) ≡ length (listed l.windows) + m → length (laid.placed l) < 800
-    → l'.places.now ≡ set l.places.now l.count (record { from = from; to = to }) → l'.count ≡ l.count + 1 → Added x m l l'
-unfolding laid.placed
-added l l' {x} {from = from} {to = to} e f g h b p q = record {
+    → calendar_in l'.windows ≡ calendar_in l.windows ++ x → length (listed l'.windows) ≡ length (listed l.windows) + m
+    → laid.placed l' ≡ laid.placed l ++ record { from = from; to = to } ∷ [] → Added x m l l'
+added l l' {x} {from = from} {to = to} e f g h p = record {
   windows = g;
   places =
       let t : to ≡ length (listed l.windows) + length x =
       omega (arith, f, listed_length l'.windows, ap length g, length-append (calendar_in l.windows) x, listed_length l.windows) in
-      ap₂ take q p
-      ∙ take_more_set l.places.now l.count (record { from = from; to = to }) (omega (arith, l.room, room_left l.places.now l.count l.room l.within b))
-      ∙ ap₂ (λ (i j : ℕ). take l.count l.places.now ++ record { from = i; to = j } ∷ []) e t;
+      p ∙ ap₂ (λ (i j : ℕ). laid.placed l ++ record { from = i; to = j } ∷ []) e t;
   count = h;
 }

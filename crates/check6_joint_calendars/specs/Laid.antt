@@ -1,5 +1,5 @@
 -- Calendars that are laid out one behind the other, and which those of a piece are.
-use Rattle.std.specs.Prelude.{ℕ, ◌+◌, ◌≡◌, List, [], ◌∷◌, ◌++◌, take, ℤ, length}
+use Rattle.std.specs.Prelude.{ℕ, ◌+◌, ◌≡◌, List, [], ◌∷◌, ◌++◌, ℤ, length}
 use Rattle.loops.specs.Lists.{given, each}
 use Rattle.loops.specs.Range.{collect}
 use Rattle.calendar.specs.declared.Places.{Places}
@@ -7,12 +7,12 @@ use Rattle.calendar.specs.Calendar.{Calendar}
 use Rattle.rows.specs.Cells.{row_count, num}
 use Rattle.model.specs.Sheet.{sheet}
 use Rattle.model.specs.Resource.{windows}
-use Rattle.window_rows.specs.Listed.{calendar_in}
+use Rattle.window_rows.specs.Listed.{listed, calendar_in}
 use Rattle.check6_joint_calendars.specs.declared.laid_calendars.LaidCalendars.{LaidCalendars}
 use Rattle.check6_joint_calendars.specs.inner.Taken.{taken}
 
-unfoldable pub placed : LaidCalendars → List Places
-placed l = take l.count l.places.now
+abbrev pub placed : LaidCalendars → List Places
+placed l = listed l.places
 
 -- the windows of calendars, one calendar behind the other
 unfoldable pub in_a_row : List (Calendar ℤ) → Calendar ℤ

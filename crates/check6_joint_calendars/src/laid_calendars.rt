@@ -1,9 +1,10 @@
 // Calendars laid out one behind the other.
-#![tactic(auto, unfolding(crate::specs::Laid::placed))]
+#![tactic(auto)]
 
-ghost use Rattle.std.specs.Prelude.{◌≡◌, ◌≤◌, ◌<◌, ◌+◌, [], ◌∷◌, ◌++◌, length};
+ghost use Rattle.std.specs.Prelude.{◌≡◌, ◌≤◌, ◌<◌, ◌+◌, [], length};
 
 use calendar::{Calendars, Places, TimeWindow};
+use lent_room::LentList;
 use owners::ByOwner;
 use rows::Kind;
 use window_rows::WindowList;
@@ -15,10 +16,7 @@ pub const NO_PLACES: Places = Places { from: 0, to: 0 };
 #[derive(Drop)]
 pub struct LaidCalendars<'a> {
     windows: WindowList<'a>,
-    places: &'a mut [Places; 800],
-    count: usize,
-    ghost room: { length places.now ≡ 800 },
-    ghost within: { count ≤ 800 },
+    places: LentList<'a, Places, 800>,
 }
 
 impl<'a> LaidCalendars<'a> {
@@ -35,7 +33,7 @@ impl<'a> LaidCalendars<'a> {
     ghost use Rattle.check6_joint_calendars.specs.inner.Laying.{Added};
 
     // Without calendars.
-    #[tactic(auto, unfolding(crate::specs::Laid::placed, crate::specs::Laid::in_a_row, window_rows::specs::Listed::calendar_in, loops::specs::Lists::each))]
+    #[tactic(auto, unfolding(crate::specs::Laid::in_a_row, window_rows::specs::Listed::calendar_in, loops::specs::Lists::each))]
     pub fn over(
         windows: &'a mut [TimeWindow; 800],
         places: &'a mut [Places; 800],
@@ -44,8 +42,7 @@ impl<'a> LaidCalendars<'a> {
     {
         LaidCalendars {
             windows: WindowList::over(windows),
-            places,
-            count: 0,
+            places: LentList::over(places),
         }
     }
 
@@ -57,8 +54,7 @@ impl<'a> LaidCalendars<'a> {
         let from = self.windows.len();
         window_rows::gather_windows(rows, o, kind, &mut self.windows);
         let to = self.windows.len();
-        self.places[self.count] = Places { from, to };
-        self.count += 1;
+        self.places.push(Places { from, to });
     }
 
     // As they are lent to the calendar functions.
@@ -67,7 +63,7 @@ impl<'a> LaidCalendars<'a> {
     {
         Calendars {
             windows: self.windows.as_slice(),
-            places: &self.places[..self.count],
+            places: self.places.as_slice(),
         }
     }
 }

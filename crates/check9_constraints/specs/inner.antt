@@ -1,4 +1,3 @@
 pub mod Bookings
-pub mod Listed
 pub mod Outside
 pub mod Starts

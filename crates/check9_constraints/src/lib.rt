@@ -21,7 +21,7 @@ ghost use Rattle.check9_constraints.specs.inner.Starts.{apart, unsynchronized};
 mod member_bookings;
 
 use findings::{Findings, Violation, ViolationKind};
-use member_bookings::MemberBookings;
+use lent_room::LentList;
 use rows::Kind;
 use sheet::{ByKind, KindIndex, Rows};
 
@@ -94,8 +94,8 @@ fn check_overlaps(rows: &ByKind, k: usize, place: u64, found: &mut Findings)
 {
     let resource = rows.num(k, 1);
     let mut room = [0usize; 800];
-    let mut bookings = MemberBookings::over(&mut room);
-    bookings.gather(rows, place, resource);
+    let mut bookings = LentList::over(&mut room);
+    member_bookings::gather_bookings(rows, place, resource, &mut bookings);
     let f = Violation::of(9, ViolationKind::CapacityExceeded, resource);
     check_pairs(rows, bookings.as_slice(), f, found);
 }

@@ -1,8 +1,13 @@
-// Room that is lent: elements are put to it from a place on, as far as it goes, and the place after them is told, or the room's end.
+// Room that is lent: elements are put to it from a place on, as far as it goes, and the place after them is told, or the room's end; or it is a list, which
+// knows how many elements it has.
 #![tactic(auto)]
 
 ghost use Rattle.std.specs.Prelude.{[], ◌∷◌, ◌≤◌, length};
 ghost use Rattle.loops.specs.inner.Wrote.{Wrote};
+
+mod lent_list;
+
+pub use lent_list::LentList;
 
 pub fn put<T: Copy>(out: &mut [T], at: usize, x: T) -> usize
     requires { at ≤ length out.old }

@@ -1,4 +1,5 @@
 pub mod Handing
 pub mod LineLaws
 pub mod Reporting
+pub mod Telling
 pub mod Whole

@@ -21,7 +21,7 @@ use Rattle.model.proofs.RowLaws.{assignment_row, assignment_none}
 use Rattle.model.proofs.Accepting.{accepted, at_most}
 use Rattle.load.specs.Load as load
 use Rattle.load.specs.Load.{booking_of, bookings_on}
-use Rattle.load.specs.declared.bookings.Booking.{Booking}
+use Rattle.load.specs.declared.booking.Booking.{Booking}
 use Rattle.load.specs.inner.Gathering.{booking_on}
 use Rattle.load.specs.inner.Lent.{meant}
 

@@ -13,7 +13,7 @@ use Rattle.loops.proofs.ListLaws.{map_append}
 use Rattle.loops.proofs.SumLaws.{total_append, most_append}
 use Rattle.load.specs.Load as load
 use Rattle.load.specs.Load.{holds, taken, load_of, peak_of}
-use Rattle.load.specs.declared.bookings.Booking.{Booking}
+use Rattle.load.specs.declared.booking.Booking.{Booking}
 use Rattle.load.specs.inner.Lent.{meant}
 
 pub taken_most : {T : Type 0} (before : T → T → Bool) (t : T) (x : load.Booking T) → taken before t x ≤ x.units

@@ -9,16 +9,17 @@ use Rattle.loops.specs.Lists.{each}
 use Rattle.loops.specs.Range.{collect}
 use Rattle.loops.specs.inner.Chain.{Silent}
 use Rattle.loops.proofs.ListLaws.{each_collect}
+use Rattle.lent_room.specs.declared.lent_list.LentList.{LentList}
 use Rattle.calendar.specs.Clock.{clock}
 use Rattle.rows.specs.Cells.{row_count, num}
 use Rattle.model.specs.Sheet.{sheet}
 use Rattle.load.specs.Load.{bookings_on, peak_of, peak, booked_at, booked_resources}
 use Rattle.load.specs.inner.Firsts.{is_first}
-use Rattle.load.specs.declared.bookings.Bookings.{Bookings}
+use Rattle.load.specs.declared.booking.Booking.{Booking}
 use Rattle.load.specs.inner.Lent.{lent}
 use Rattle.load.proofs.Firsts.{booked_at_lem}
 
-pub peak_is : (rows : List ℤ) (x : ℕ) {p : ℕ} (b : Bookings) → lent b ≡ bookings_on (sheet rows) x → p ≡ peak_of lt_z (lent b) → p ≡ peak clock (sheet rows) x
+pub peak_is : (rows : List ℤ) (x : ℕ) {p : ℕ} (b : LentList Booking 800) → lent b ≡ bookings_on (sheet rows) x → p ≡ peak_of lt_z (lent b) → p ≡ peak clock (sheet rows) x
 unfolding peak
 peak_is rows x b g e = e ∙ ap (peak_of lt_z) g
 

@@ -8,10 +8,12 @@ ghost use Rattle.model.specs.Sheet.{sheet};
 ghost use Rattle.model.specs.inner.Records.{assignment_of};
 ghost use Rattle.load.specs.Load.{usage, cap_override, base_of, cap_of};
 
+mod booking;
 mod bookings;
 mod first_bookings;
 
-pub use bookings::{Booking, Bookings, NO_BOOKING};
+pub use booking::{Booking, NO_BOOKING};
+pub use bookings::{Bookings, gather_bookings, peak_of};
 pub use first_bookings::{FirstBookings, booked};
 use model::Sheet;
 use owners::LinkIndex;

@@ -71,16 +71,15 @@ module _ (rows o : List ℤ) {v : Result Unit Refusal} {x : Refusal} {k₀ l₀ 
 module _ (rows o o₀ : List ℤ) {y : List ℤ} {k : ℕ} {r : Handed} (passed : sheet_refusal rows ≡ None) (ran : sink y k ≡ emit_margins (sink o₀ 0) (margins rows))
     (told : r ≡ handed (length o / 3) (length y / 3) k) (room : length o₀ ≡ 2400) where
   counted : k ≡ length (margins rows)
-  unfolding emit_margins
   counted = omega (arith, count_fits 3 three o₀ (margins rows) ran, few_margins rows passed)
 
   module _ {o' : List ℤ} (left : o' ≡ after_handing r (k * 3) y o) where
     ends_copied : r ≡ Over → Ends rows o (Ok k) o'
-    unfolding margins_refusal margins_answer margins_after flat_margins emit_margins
+    unfolding margins_refusal margins_answer margins_after flat_margins
     ends_copied over = ends_over 3 three (omega arith) (λ m. refl) rows (margins rows) o passed o₀ ran told counted (omega arith) left over
 
     ends_refused_full : r ≡ Full → Ends rows o (Err (at refusals.Full 0)) o'
-    unfolding margins_refusal margins_answer margins_after flat_margins emit_margins
+    unfolding margins_refusal margins_answer margins_after flat_margins
     ends_refused_full full = ends_full 3 three (omega arith) (λ m. refl) rows (margins rows) o passed o₀ ran told left full
 
     pub over_answer : r ≡ Over → Ok k ≡ margins_answer rows (length o / 3)
@@ -97,7 +96,6 @@ module _ (rows o o₀ : List ℤ) {y : List ℤ} {k : ℕ} {r : Handed} (passed 
 
     -- never: 800 lines are held
     all_held : r ≡ Longer → ⊥
-    unfolding emit_margins
     all_held longer =
         let held : length y ≡ length o₀ = lines_kept 3 three o₀ 0 (margins rows) ran in
         not_longer (length o / 3) (length y / 3) k (omega (arith, counted, few_margins rows passed)) told longer

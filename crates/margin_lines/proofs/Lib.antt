@@ -6,5 +6,4 @@ pub mod Findings
 pub mod Peaks
 pub mod Reach
 pub mod Sliding
-pub mod Telling
 pub mod Told

@@ -68,9 +68,13 @@ fn put_resource(rows: &Sheet, x: u64, bookings: &mut Bookings, lines: &mut Lines
     requires { (refusal_of rows.now ≡ None) × (x < 9223372036854775808) }
     ensures { so_far lines.new ≡ tell (so_far lines.old) (resource_margin clock (sheet rows.now) x) }
 {
-    bookings.gather(rows, x);
+    load::gather_bookings(rows, x, bookings);
     let limit = load::cap_of(&rows.by_kind(), x);
-    let line = Margin::of(MarginKind::Resource, x, left_of(limit, bookings.peak()));
+    let line = Margin::of(
+        MarginKind::Resource,
+        x,
+        left_of(limit, load::peak_of(bookings)),
+    );
     lines.put(line);
 }
 

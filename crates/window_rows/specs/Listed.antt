@@ -1,12 +1,10 @@
 -- Windows that are laid out, as a list, and as the calendar that they are.
-use Rattle.std.specs.Prelude.{List, map, take, ℤ}
+use Rattle.std.specs.Prelude.{map, ℤ}
+use Rattle.lent_room.specs.declared.lent_list.LentList.{LentList}
 use Rattle.calendar.specs.declared.TimeWindow.{TimeWindow}
 use Rattle.calendar.specs.Calendar.{Calendar}
 use Rattle.calendar.specs.Layout.{window_of}
-use Rattle.window_rows.specs.declared.window_list.WindowList.{WindowList}
+pub use Rattle.lent_room.specs.Listed.{listed}
 
-unfoldable pub listed : WindowList → List TimeWindow
-listed l = take l.count l.windows.now
-
-unfoldable pub calendar_in : WindowList → Calendar ℤ
+unfoldable pub calendar_in : LentList TimeWindow 800 → Calendar ℤ
 calendar_in l = map window_of (listed l)

@@ -25,6 +25,7 @@ use Rattle.calendar.specs.Calendar.{Calendar, joint_working}
 use Rattle.calendar.specs.Amount.{since}
 use Rattle.calendar.specs.WorkEnd.{Ending, ends_at, pauses, never, map_ending, after, end_in, reach, reaches, end_after, end_from, joint_work_end}
 use Rattle.calendar.specs.declared.TimeWindow.{TimeWindow}
+use Rattle.lent_room.specs.declared.lent_list.LentList.{LentList}
 use Rattle.calendar.specs.Layout as layout
 use Rattle.calendar.proofs.Windows.{one_calendar}
 use Rattle.rows.specs.declared.Class.TheVariants.{Id, Instant, SignedTime}
@@ -47,7 +48,6 @@ use Rattle.model.specs.Resource.{windows}
 use Rattle.model.specs.inner.Indexed.{Indexed}
 use Rattle.model.proofs.Accepting.{accepted, at_most}
 use Rattle.model.proofs.Finds.{found_self}
-use Rattle.window_rows.specs.declared.window_list.WindowList.{WindowList}
 use Rattle.window_rows.specs.Listed.{listed, calendar_in}
 use Rattle.window_rows.specs.inner.Laid.{Holder}
 use Rattle.window_rows.proofs.WindowRows.{window_row, window_naming, resource_windows, windows_none, all_fit}
@@ -151,25 +151,25 @@ abbrev read : ℤ → ℤ
 read x = to_z w64 (of_z w64 x)
 
 -- no windows
-none_listed : (l : WindowList) → listed l ≡ [] → calendar_in l ≡ []
+none_listed : (l : LentList TimeWindow 800) → listed l ≡ [] → calendar_in l ≡ []
 unfolding calendar_in
 none_listed l e = ap (map layout.window_of) e
 
 module _ (rows : List ℤ) where
   module _ (resource : ℤ) {a : Bool} (e : a ≡ in_class Id (read resource)) (p : SFits w64 resource) where
-    pub laid_known : (l : WindowList) {n : ℕ} → calendar_in l ≡ windows (sheet rows) 15 n → n ≡ to_nat (read resource) → a ≡ true → calendar_in l ≡ inquired_calendar rows resource
+    pub laid_known : (l : LentList TimeWindow 800) {n : ℕ} → calendar_in l ≡ windows (sheet rows) 15 n → n ≡ to_nat (read resource) → a ≡ true → calendar_in l ≡ inquired_calendar rows resource
     unfolding inquired_calendar
     laid_known l h g f = let c : in_class Id resource ≡ true = sym (rw (to_z-of_z p) at e) ∙ f in rw (c, sym (rw (to_z-of_z p) at g)) h
 
-    pub laid_unknown : (l : WindowList) → listed l ≡ [] → a ≡ false → calendar_in l ≡ inquired_calendar rows resource
+    pub laid_unknown : (l : LentList TimeWindow 800) → listed l ≡ [] → a ≡ false → calendar_in l ≡ inquired_calendar rows resource
     unfolding inquired_calendar
     laid_unknown l h f = let c : in_class Id resource ≡ false = sym (rw (to_z-of_z p) at e) ∙ f in rw c (none_listed l h)
 
   module _ (id : ℕ) {f : Found} (e : found_of f ≡ place_of rows 11 id) where
-    pub laid_absent : (l : WindowList) → listed l ≡ [] → f ≡ Nothing → refusal_of rows ≡ None → calendar_in l ≡ windows (sheet rows) 15 id
+    pub laid_absent : (l : LentList TimeWindow 800) → listed l ≡ [] → f ≡ Nothing → refusal_of rows ≡ None → calendar_in l ≡ windows (sheet rows) 15 id
     laid_absent l h g ok = none_listed l h ∙ sym (windows_none rows (accepted rows ok) id (found_none g e))
 
-    pub laid_found : (l l' : WindowList) {o : ℕ} → listed l ≡ [] → f ≡ At o → calendar_in l' ≡ calendar_in l ++ windows (sheet rows) 15 (num rows o 1) → calendar_in l' ≡ windows (sheet rows) 15 id
+    pub laid_found : (l l' : LentList TimeWindow 800) {o : ℕ} → listed l ≡ [] → f ≡ At o → calendar_in l' ≡ calendar_in l ++ windows (sheet rows) 15 (num rows o 1) → calendar_in l' ≡ windows (sheet rows) 15 id
     laid_found l l' {o} h g k =
         k ∙ ap (λ c. c ++ windows (sheet rows) 15 (num rows o 1)) (none_listed l h)
         ∙ ap (λ x. windows (sheet rows) 15 x) (placed rows 11 id o (found_some g e)).id_is
@@ -196,7 +196,7 @@ module _ (rows : List ℤ) (resource start work : ℤ) (ok : refusal_of rows ≡
   same_start = (start_in start (and_left (in_class Instant start) (in_class SignedTime work) i)).0
 
   -- the windows w are those of the list l, m of them
-  pub ending_said : (l : WindowList) {r : Result InquiryEnd Refusal} {a : calendar.WorkEnd} {s m : ℕ} {w : List TimeWindow} → calendar_in l ≡ inquired_calendar rows (read resource)
+  pub ending_said : (l : LentList TimeWindow 800) {r : Result InquiryEnd Refusal} {a : calendar.WorkEnd} {s m : ℕ} {w : List TimeWindow} → calendar_in l ≡ inquired_calendar rows (read resource)
       → m ≡ length (listed l) → w ≡ listed l → s ≡ to_nat (read start)
       → a ≡ layout.saying (joint_work_end clock (layout.calendars_of w (record { from = 0; to = m } ∷ [])) (pos s) (read work)) → r ≡ said a → SFits w64 resource → SFits w64 start → SFits w64 work
       → outcome_of r ≡ ends (joint_work_end clock (inquired_calendar rows resource ∷ []) start work)

@@ -2,11 +2,8 @@
 use Rattle.std.specs.Prelude.{ℕ, List}
 use Rattle.findings.specs.declared.Violation.{Violation}
 use Rattle.findings.specs.declared.Findings.{Findings}
-use Rattle.findings.specs.inner.Sink.{Sink, sink, emit}
-
-pub record Told : Type 0 where
-  pub name : ℕ
-  pub sink : Sink
+use Rattle.findings.specs.inner.Sink.{sink, emit}
+pub use Rattle.line_buffer.specs.inner.Told.{Told}
 
 abbrev pub so_far : Findings → Told
 so_far f = record { name = f.out.ghost_name; sink = sink f.out.now f.found }

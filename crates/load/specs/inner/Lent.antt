@@ -1,15 +1,13 @@
 -- Bookings that are gathered in lent room. Assumes nothing.
-use Rattle.std.specs.Prelude.{List, map, take, ℤ, pos}
-use Rattle.load.specs.declared.bookings.Booking.{Booking}
-use Rattle.load.specs.declared.bookings.Bookings.{Bookings}
+use Rattle.std.specs.Prelude.{List, map, ℤ, pos}
+use Rattle.lent_room.specs.declared.lent_list.LentList.{LentList}
+use Rattle.lent_room.specs.Listed.{listed}
+use Rattle.load.specs.declared.booking.Booking.{Booking}
 use Rattle.load.specs.Load as load
 
 -- what a gathered booking stands for
 abbrev pub meant : Booking → load.Booking ℤ
 meant b = record { start = pos b.start; end = pos b.end; units = b.units }
 
-unfoldable pub held : Bookings → List Booking
-held b = take b.count b.room.now
-
-abbrev pub lent : Bookings → List (load.Booking ℤ)
-lent b = map meant (held b)
+abbrev pub lent : LentList Booking 800 → List (load.Booking ℤ)
+lent b = map meant (listed b)

@@ -5,5 +5,5 @@ use Rattle.margin_lines.specs.declared.lines.Margin.{Margin}
 use Rattle.margin_lines.specs.Margins.{three}
 pub use Rattle.line_buffer.specs.inner.Sink.{Sink, sink}
 
-unfoldable pub emit_margins : Sink → List Margin → Sink
+abbrev pub emit_margins : Sink → List Margin → Sink
 emit_margins = put_lines 3 three

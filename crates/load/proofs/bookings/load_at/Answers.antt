@@ -2,7 +2,7 @@ use borrow.Author.Rules.{rules}
 use native.Mathlib.Omega.{arith}
 use lib.IntN.{pos}
 use Rattle.load.proofs.Loads.{taken_few, load_none, load_more}
-use Rattle.load.proofs.bookings.Bookings.load_at.Goals as goal
+use Rattle.load.proofs.bookings.load_at.Goals as goal
 
 pub loop-b-init : goal.loop-b-init
 loop-b-init c = (omega arith, load_none _)

@@ -3,7 +3,7 @@ use native.Mathlib.Omega.{arith}
 use Rattle.chains.proofs.PlaceLaws.{left_start, left_few, left_here, left_next, kept_few}
 use Rattle.sheet.specs.Places.{of_kind}
 use Rattle.load.proofs.Gathering.{gathered_start, gathered_more, gathered_same, gathered_end}
-use Rattle.load.proofs.bookings.Bookings.gather.Goals as goal
+use Rattle.load.proofs.bookings.gather_bookings.Goals as goal
 
 pub loop-k-init : goal.loop-k-init
 loop-k-init c =
