@@ -1,17 +1,20 @@
-use Rattle.acceptance.proofs.Order.{accept_rows, accept_times, rows_accepted, rows_by_kind, rows_linked, rows_by_owner}
+use Rattle.acceptance.proofs.Order.{accept_rows, accept_times, indexed_of, rows_accepted}
+use mathlib.Core.Path.{sym, ◌∙◌}
 use borrow.Author.Rules.{rules}
 use Rattle.acceptance.proofs.accept.Goals as goal
 
 pub returns-in_err-index : goal.returns-in_err-index
 returns-in_err-index c = accept_rows _ c.index.ensures {e = c.in_err-index.field-0.0} (search rules) (search rules)
 
+pub new-sheet-requires : goal.new-sheet-requires
+new-sheet-requires c = indexed_of _ c.index.ensures (search rules)
+
 pub held_of-held-requires : goal.held_of-held-requires
-held_of-held-requires c =
-    (rows_accepted _ c.index.ensures (search rules), rows_by_kind _ c.index.ensures (search rules), rows_linked _ c.index.ensures (search rules), rows_by_owner _ c.index.ensures (search rules))
+held_of-held-requires c = (rw (c.by_kind.ensures, c.new-sheet.ensures) (rows_accepted _ c.index.ensures (search rules)), c.owners-owners.ensures ∙ sym c.by_kind.ensures)
 
 pub needs_of-need-requires : goal.needs_of-need-requires
 needs_of-need-requires c =
-    (rows_accepted _ c.index.ensures (search rules), rows_linked _ c.index.ensures (search rules), rows_by_owner _ c.index.ensures (search rules), c.held_of-held.ensures)
+    (rw (c.owners-owners.ensures, c.new-sheet.ensures) (rows_accepted _ c.index.ensures (search rules)), rw (c.owners-owners.ensures, ← c.by_kind.ensures) c.held_of-held.ensures)
 
 pub returns : goal.returns
 returns c = accept_times _ c.index.ensures (search rules) c.refused.ensures
