@@ -13,6 +13,7 @@ use lib.ListN.{get_or, set, replicate}
 use mir.Val.{bool_byte}
 use Rattle.loops.specs.Lists.{option}
 use Rattle.loops.specs.inner.Chain.{First}
+use Rattle.loops.proofs.StoreLaws.{filled_start}
 use Rattle.loops.proofs.Walks.{over}
 use Rattle.calendar.specs.Clock.{clock}
 use Rattle.calendar.specs.Calendar.{Calendar, joint_working}
@@ -32,7 +33,7 @@ use Rattle.derived_times.specs.inner.Needs.{Needs}
 use Rattle.check6_joint_calendars.specs.Laid.{laid_calendars}
 use Rattle.check6_joint_calendars.proofs.Whole.{joint_laid}
 use Rattle.check6_joint_calendars.proofs.Joint.{available_same}
-use Rattle.pieces.proofs.Marks.{mark_is, Marking, marking_start, marking_turn}
+use Rattle.pieces.proofs.Marks.{mark_is, Marking, marking_turn}
 use Rattle.check6_calendars.specs.inner.Lacking.{uncovered_at, lacks_time, Lacking}
 
 -- ---- whether working time covers work
@@ -69,19 +70,13 @@ module _ (rows : List ℤ) (k : ℕ) where
 
 -- ---- the marks
 
-byte_is : (b : Bool) → bool_byte b ≡ cond b 1 0
-byte_is true = refl
-byte_is false = refl
-
 -- a row that is not marked
-marking_miss : {f : ℕ → Bool} {k : ℕ} {t : List ℕ} → f k ≡ false → Marking f k t → Marking f (k + 1) t
-marking_miss {f} {k} {t} e h = record {
-  marked = record { size = h.marked.size; at = λ j b. go j b (ℕ_discrete j k); rest = λ j b. h.marked.rest j (omega arith) };
-}
+marking_miss : (f : ℕ → Bool) {k : ℕ} {t : List ℕ} → f k ≡ false → Marking f k t → Marking f (k + 1) t
+marking_miss f {k} {t} e h = record { size = h.size; at = λ j b. go j b (ℕ_discrete j k); rest = λ j b. h.rest j (omega arith) }
   where
     go : (j : ℕ) → j < k + 1 → Dec (j ≡ k) → get_or t j 0 ≡ cond (f j) 1 0
-    go j b (yes z) = rw z (h.marked.rest k (omega arith) ∙ sym (ap (λ y. cond y 1 0) e))
-    go j b (no z) = h.marked.at j (omega arith)
+    go j b (yes z) = rw z (h.rest k (omega arith) ∙ sym (ap (λ y. cond y 1 0) e))
+    go j b (no z) = h.at j (omega arith)
 
 module _ (rows : List ℤ) where
   booking_alone : (k : ℕ) → of_kind rows 23 k ≡ false → lacks_time rows k ≡ false
@@ -90,11 +85,11 @@ module _ (rows : List ℤ) where
 
   -- other rows keep their 0
   passed : (t : List ℕ) {i n j : ℕ} → First (of_kind rows 23) i n j → Marking (lacks_time rows) i t → Marking (lacks_time rows) j t
-  passed t f = over (λ j. Marking (lacks_time rows) j t) (of_kind rows 23) _ _ _ (λ k e. marking_miss (booking_alone k e)) f
+  passed t f = over (λ j. Marking (lacks_time rows) j t) (of_kind rows 23) _ _ _ (λ k e. marking_miss _ (booking_alone k e)) f
 
   pub lacking_first : {n j : ℕ} → First (of_kind rows 23) 0 n j → Marking (lacks_time rows) j (replicate 800 0)
-  lacking_first f = passed _ f marking_start
+  lacking_first f = passed _ f (filled_start _)
 
   pub lacking_next : (t : List ℕ) {b : Bool} {v k j : ℕ} → First (of_kind rows 23) (suc k) (row_count rows) j → k < row_count rows → row_count rows ≤ 800
       → v ≡ bool_byte b → b ≡ lacks_time rows k → Marking (lacks_time rows) k t → Marking (lacks_time rows) j (set t k v)
-  lacking_next t {b} {k = k} f l s q e h = passed _ f (rw add-one at (marking_turn (ap (set t k) (q ∙ byte_is b)) e h l refl s))
+  lacking_next t f l s q e h = passed _ f (rw add-one at (marking_turn rows (lacks_time rows) refl s t l q e h))
