@@ -2,7 +2,7 @@
 use Rattle.std.specs.Prelude.{Ok}
 use Rattle.std.specs.Prelude.{Result, Err}
 use Prim.Native.Nat.{ℕ, ◌*◌, ◌/◌, ◌^◌, ◌<◌}
-use mathlib.Core.Path.{◌≡◌, refl, ap, ◌∙◌}
+use mathlib.Core.Path.{◌≡◌, refl, ap, subst, ◌∙◌}
 use mathlib.Core.List.{List, ◌++◌, append_assoc}
 use Rattle.std.specs.Prelude.{None, Some}
 use native.Mathlib.Omega.{arith}
@@ -10,13 +10,12 @@ use lib.IntN.{ℤ}
 use lib.ListN.{length}
 use Rattle.findings.specs.declared.Violation.{Violation}
 use Rattle.findings.specs.Findings.{four, flat}
-use Rattle.findings.specs.inner.Sink.{sink, emit}
+use Rattle.findings.specs.inner.Sink.{Sink, sink, emit}
 use Rattle.line_buffer.specs.declared.Handed.{Handed}
 use Rattle.line_buffer.specs.declared.Handed.TheVariants.{Over, Full, Longer}
 use Rattle.line_buffer.specs.inner.Handing.{handed, after_handing}
 use Rattle.line_buffer.proofs.Handing.{is_over}
-use Rattle.findings.specs.inner.Told.{Told, tell}
-use Rattle.findings.proofs.Reporting.{tell_append}
+use Rattle.findings.proofs.SinkLaws.{emit_then}
 use Rattle.refusals.specs.Refusals.{verdict_of, at}
 use Rattle.refusals.specs.declared.Refusal.{Refusal}
 use Rattle.refusals.specs.declared.Reason.TheVariants as refusals
@@ -41,18 +40,28 @@ use Rattle.feasibility.specs.Refusals.{refusal}
 use Rattle.feasibility.specs.Call.{check_answer, findings_after}
 
 -- checks that run one after the other have told their findings one after the other
-then_told : {t u v : Told} {a b : List Violation} → u ≡ tell t a → v ≡ tell u b → v ≡ tell t (a ++ b)
-then_told {t} {u} {v} {a} {b} p q = q ∙ ap (λ w. tell w b) p ∙ tell_append t a b
-
--- the nine
-pub all_in_turn : (rows : List ℤ) {t t₁ t₂ t₃ t₄ t₅ t₆ t₇ t₈ t₉ : Told} → t₁ ≡ tell t (check_assignments clock (sheet rows)) → t₂ ≡ tell t₁ (check_time_only clock (sheet rows))
-    → t₃ ≡ tell t₂ (check_parts (sheet rows)) → t₄ ≡ tell t₃ (check_requirements clock (sheet rows)) → t₅ ≡ tell t₄ (check_capacity clock (sheet rows))
-    → t₆ ≡ tell t₅ (check_calendars clock (sheet rows)) → t₇ ≡ tell t₆ (check_precedence clock (sheet rows)) → t₈ ≡ tell t₇ (check_deadlines clock (sheet rows))
-    → t₉ ≡ tell t₈ (check_constraints clock (sheet rows)) → t₉ ≡ tell t (findings rows)
+pub all_in_turn : (rows q r : List ℤ) → q ≡ rows → r ≡ rows → (s s₁ s₂ s₃ s₄ s₅ s₆ s₇ s₈ : Sink) {s₉ : Sink} → s₁ ≡ emit s (check_assignments clock (sheet rows)) → s₂ ≡ emit s₁ (check_time_only clock (sheet rows)) → s₃ ≡ emit s₂ (check_parts (sheet rows))
+    → s₄ ≡ emit s₃ (check_requirements clock (sheet rows)) → s₅ ≡ emit s₄ (check_capacity clock (sheet rows)) → s₆ ≡ emit s₅ (check_calendars clock (sheet rows))
+    → s₇ ≡ emit s₆ (check_precedence clock (sheet rows)) → s₈ ≡ emit s₇ (check_deadlines clock (sheet q)) → s₉ ≡ emit s₈ (check_constraints clock (sheet r)) → s₉ ≡ emit s (findings rows)
 unfolding findings check_schedule
-all_in_turn rows {t} a b c d e f g h i =
-    then_told (then_told (then_told (then_told (then_told (then_told (then_told (then_told a b) c) d) e) f) g) h) i
-    ∙ ap (tell t) (simp append_assoc refl)
+all_in_turn rows q r u v s s₁ s₂ s₃ s₄ s₅ s₆ s₇ s₈ {s₉} a b c d e f g h i =
+    let l1 = check_assignments clock (sheet rows) in
+    let e2 = emit_then l1 (check_time_only clock (sheet rows)) s a b in
+    let l2 = l1 ++ check_time_only clock (sheet rows) in
+    let e3 = emit_then l2 (check_parts (sheet rows)) s e2 c in
+    let l3 = l2 ++ check_parts (sheet rows) in
+    let e4 = emit_then l3 (check_requirements clock (sheet rows)) s e3 d in
+    let l4 = l3 ++ check_requirements clock (sheet rows) in
+    let e5 = emit_then l4 (check_capacity clock (sheet rows)) s e4 e in
+    let l5 = l4 ++ check_capacity clock (sheet rows) in
+    let e6 = emit_then l5 (check_calendars clock (sheet rows)) s e5 f in
+    let l6 = l5 ++ check_calendars clock (sheet rows) in
+    let e7 = emit_then l6 (check_precedence clock (sheet rows)) s e6 g in
+    let l7 = l6 ++ check_precedence clock (sheet rows) in
+    let e8 = emit_then l7 (check_deadlines clock (sheet rows)) s e7 (subst (λ x. s₈ ≡ emit s₇ (check_deadlines clock (sheet x))) u h) in
+    let l8 = l7 ++ check_deadlines clock (sheet rows) in
+    let e9 = emit_then l8 (check_constraints clock (sheet rows)) s e8 (subst (λ x. s₉ ≡ emit s₈ (check_constraints clock (sheet x))) v i) in
+    e9 ∙ ap (emit s) (simp append_assoc refl)
 
 -- the call on these rows, lent the buffer o, answers so and leaves the buffer o'
 abbrev pub Ends : List ℤ → List ℤ → Result ℕ Refusal → List ℤ → Type 0

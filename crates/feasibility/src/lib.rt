@@ -51,7 +51,8 @@ fn write_findings(rows: &Sheet, held: &[u8; 800], need: &[u64; 800], out: &mut [
     let lacking = check6_calendars::lacking_of(rows, need);
     let mut first = [0i64; 4096];
     let count = check_all(rows, held, need, &lacking, &mut first);
-    match line_buffer::hand_over(out, 4, count, &first) {
+    let handed = line_buffer::hand_over(out, 4, count, &first);
+    match handed {
         Handed::Over => Ok(count),
         Handed::Full => Err(Reason::Full.at(0)),
         Handed::Longer => Ok(check_all(rows, held, need, &lacking, out)),
@@ -63,10 +64,11 @@ fn check_times(rows: &Sheet, out: &mut [i64]) -> Answer
     ensures value { result ≡ check_answer rows.now (length out.old / 4) }
     ensures out_after { out.new ≡ findings_after rows.now out.old }
 {
+    let slice = rows.as_slice();
     let owners = rows.owners();
     let held = pieces::held_of(&rows.by_kind(), &owners);
     let need = derived_times::needs_of(&owners, &held);
-    derived_times::refused(rows.as_slice(), &need)?;
+    derived_times::refused(slice, &need)?;
     write_findings(rows, &held, &need, out)
 }
 

@@ -3,8 +3,8 @@ use Rattle.acceptance.proofs.Order.{indexed_of}
 use borrow.Author.Rules.{rules}
 use Rattle.feasibility.proofs.check_schedule.Goals as goal
 
-pub check_times-requires : goal.check_times-requires
-check_times-requires c = indexed_of _ c.index.ensures (search rules)
+pub new-requires : goal.new-requires
+new-requires c = indexed_of _ c.index.ensures (search rules)
 
 pub returns-in_err-index : goal.returns-in_err-index
 returns-in_err-index c =
