@@ -8,7 +8,6 @@ use Rattle.std.specs.Prelude.{None, Some}
 use native.Mathlib.Omega.{arith}
 use lib.IntN.{ℤ}
 use lib.ListN.{length}
-use Rattle.findings.specs.declared.Violation.{Violation}
 use Rattle.findings.specs.Findings.{four, flat}
 use Rattle.findings.specs.inner.Sink.{Sink, sink, emit}
 use Rattle.line_buffer.specs.declared.Handed.{Handed}

@@ -103,10 +103,11 @@ fn one_if_fine(v: Verdict) -> usize {
 }
 
 fn derive_times(rows: &Sheet) -> usize {
+    let slice = rows.as_slice();
     let owners = rows.owners();
     let held = pieces::held_of(&rows.by_kind(), &owners);
     let need = derived_times::needs_of(&owners, &held);
-    one_if_fine(derived_times::refused(rows.as_slice(), &need))
+    one_if_fine(derived_times::refused(slice, &need))
 }
 
 // 2,500,000,000 ms later, up to the last instant of a sheet.
@@ -173,10 +174,11 @@ fn once(rows: &Sheet, held: &[u8; 800], need: &[u64; 800], part: Part, out: &mut
 
 // So many times, 0 where a refusal refuses the sheet.
 fn timed(rows: &Sheet, part: Part, count: u64) -> usize {
+    let slice = rows.as_slice();
     let owners = rows.owners();
     let held = pieces::held_of(&rows.by_kind(), &owners);
     let need = derived_times::needs_of(&owners, &held);
-    let Ok(()) = derived_times::refused(rows.as_slice(), &need) else {
+    let Ok(()) = derived_times::refused(slice, &need) else {
         return 0;
     };
     let mut out = no_findings();

@@ -1,14 +1,22 @@
 -- `speed::timed` runs a check only of a sheet that no refusal refuses. Assumes nothing.
+use mathlib.Core.Path.{◌≡◌, sym, ◌∙◌}
+use Rattle.refusals.specs.Refusals.{verdict_of}
 use Rattle.model.proofs.Accepting.{accepted}
+use Rattle.derived_times.specs.Times.{time_refusal}
+use Rattle.derived_times.specs.inner.Needs.{Times}
 use Rattle.acceptance.proofs.Order.{needed_of}
 use borrow.Author.Rules.{rules}
 use Rattle.speed.proofs.timed.Goals as goal
 
 pub held_of-held-requires : goal.held_of-held-requires
-held_of-held-requires c = search (rules, accepted)
+held_of-held-requires c = (rw c.by_kind.ensures (accepted _ c.as_slice-slice.ensures.known.0), c.owners-owners.ensures ∙ sym c.by_kind.ensures)
 
 pub needs_of-need-requires : goal.needs_of-need-requires
-needs_of-need-requires c = search (rules, accepted)
+needs_of-need-requires c =
+    (rw c.owners-owners.ensures (accepted _ c.as_slice-slice.ensures.known.0), rw (c.owners-owners.ensures, ← c.by_kind.ensures) c.held_of-held.ensures)
 
-pub repeated-requires : goal.repeated-requires
-repeated-requires c = search (rules, needed_of)
+pub once-n-requires : goal.once-n-requires
+once-n-requires c =
+    let v : verdict_of c.refused.result ≡ time_refusal c.args.rows.now = rw (← c.as_slice-slice.ensures.rows) c.refused.ensures in
+    let t : Times c.args.rows.now c.needs_of-need.result = rw (← c.owners-owners.ensures) c.needs_of-need.ensures in
+    (rw (← c.by_kind.ensures) c.held_of-held.ensures, needed_of _ c.needs_of-need.result t v (search rules))

@@ -1,9 +1,0 @@
--- `speed::on_each` ends. Assumes nothing.
-use lib.ListN.{length}
-use Rattle.speed.proofs.on_each.Given as goal
-
-abbrev pub invariant-loop-rest : goal.invariant-loop-rest
-invariant-loop-rest l = Unit {0}
-
-abbrev pub decreases-loop-rest : goal.decreases-loop-rest
-decreases-loop-rest l = length l.rest
