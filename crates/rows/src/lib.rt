@@ -280,9 +280,10 @@ pub fn nat(x: i64) -> u64
     u64::try_from(x).unwrap_or(0)
 }
 
-// Column c of row k as a natural number.
+// Column c of row k as a natural number, with its bound: what is reported fits a signed number.
 pub fn num_at(rows: &[i64], k: usize, c: usize) -> u64
-    ensures { result ≡ num rows.now k c }
+    ensures value { result ≡ num rows.now k c }
+    ensures bound { result < 9223372036854775808 }
 {
     nat(cell_at(rows, k, c))
 }
@@ -293,14 +294,6 @@ pub fn is_at(rows: &[i64], k: usize, c: usize, v: u64) -> bool
     ensures { result ≡ is rows.now k c v }
 {
     num_at(rows, k, c) == v
-}
-
-// Column c of row k as a natural number, with its bound: what is reported fits a signed number.
-pub fn id_at(rows: &[i64], k: usize, c: usize) -> u64
-    ensures value { result ≡ num rows.now k c }
-    ensures bound { result < 9223372036854775808 }
-{
-    nat(cell_at(rows, k, c))
 }
 
 // The kind of row k, if it is one.

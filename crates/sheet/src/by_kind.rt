@@ -42,7 +42,7 @@ pub trait Rows {
         ensures value { result ≡ num (rows self.now) k c }
         ensures bound { result < 9223372036854775808 }
     {
-        rows::id_at(self.as_slice(), k, c)
+        rows::num_at(self.as_slice(), k, c)
     }
 
     // Whether column c of row k is v.
