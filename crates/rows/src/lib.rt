@@ -261,9 +261,21 @@ pub fn row_count(rows: &[i64]) -> usize
     rows.len() / 10
 }
 
-// Column c of row k, 0 past the end.
+// Column c of row k, 0 past the end. Whole rows come first: where several cells of one are read, the compiler asks that once.
 #[tactic(auto, unfolding(crate::specs::Cells::cell))]
 pub fn cell_at(rows: &[i64], k: usize, c: usize) -> i64
+    ensures { result ≡ cell rows.now k c }
+{
+    if c < 10 && k < row_count(rows) {
+        return rows[k * 10 + c];
+    }
+    cell_past(rows, k, c)
+}
+
+// The same, also past the last whole row; kept out of its callers, which hardly ever get here.
+#[tactic(auto, unfolding(crate::specs::Cells::cell))]
+#[inline(never)]
+fn cell_past(rows: &[i64], k: usize, c: usize) -> i64
     ensures { result ≡ cell rows.now k c }
 {
     if c < 10 && k < rows.len() {
