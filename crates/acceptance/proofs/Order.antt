@@ -10,8 +10,7 @@ use Rattle.refusals.specs.Refusals.{verdict_of}
 use Rattle.refusals.specs.declared.Refusal.{Refusal}
 use Rattle.sheet.specs.Refusals.{refusal_of}
 use Rattle.sheet.specs.inner.Accepted.{Accepted}
-use Rattle.sheet.specs.inner.Index.{Kinds}
-use Rattle.owners.specs.inner.Owners.{Linked, Owned}
+use Rattle.owners.specs.declared.sheet_index.SheetIndex.{SheetIndex}
 use Rattle.validation.specs.inner.Answer.{Indexing}
 use Rattle.validation.proofs.Order.{shape_passed, tables_of}
 use Rattle.derived_times.specs.Times.{time_refusal}
@@ -23,11 +22,10 @@ use Rattle.acceptance.specs.Refusals.{sheet_refusal}
 use Rattle.acceptance.specs.inner.Accepting.{Accepting}
 
 module _ (rows : List ℤ) where
-  pub indexed_of : {k₀ l₀ o₀ : List ℕ} {v : Result Unit Refusal} {k l o : List ℕ} → Indexing rows k₀ l₀ o₀ v k l o → v ≡ (Ok tt) → Indexed rows k l o
+  pub indexed_of : {before : SheetIndex} {v : Result Unit Refusal} {after : SheetIndex} → Indexing rows before v after → v ≡ (Ok tt) → Indexed rows after
   indexed_of i e =
       let a : refusal_of rows ≡ None = sym i.verdict ∙ ap verdict_of e in
-      let t = tables_of rows i a in
-      record { accepted = a; by_kind = t.kinds; linked = t.links; by_owner = t.owned }
+      record { accepted = a; filled = tables_of rows i a }
 
   pub by_rows : {v : Result Unit Refusal} {e : Refusal} → verdict_of v ≡ refusal_of rows → v ≡ Err e
       → sheet_refusal rows ≡ Some e
@@ -45,42 +43,32 @@ module _ (rows : List ℤ) where
 
   -- ---- `accept`
 
-  module _ {k₀ l₀ o₀ k l o : List ℕ} {v : Result Unit Refusal} (i : Indexing rows k₀ l₀ o₀ v k l o) where
+  module _ {before after : SheetIndex} {v : Result Unit Refusal} (i : Indexing rows before v after) where
     -- the rows are refused
-    pub accept_rows : {e : Refusal} {u : Result Unit Refusal} → v ≡ Err e → u ≡ Err e → Accepting rows k₀ l₀ o₀ u k l o
+    pub accept_rows : {e : Refusal} {u : Result Unit Refusal} → v ≡ Err e → u ≡ Err e → Accepting rows before u after
     accept_rows e f = record { verdict = ap verdict_of f ∙ sym (by_rows i.verdict e); tables = i.tables; kept = i.kept }
 
     -- they are not: the verdict is that of the times
-    pub accept_times : {u : Result Unit Refusal} → v ≡ (Ok tt) → verdict_of u ≡ time_refusal rows → Accepting rows k₀ l₀ o₀ u k l o
+    pub accept_times : {u : Result Unit Refusal} → v ≡ (Ok tt) → verdict_of u ≡ time_refusal rows → Accepting rows before u after
     unfolding sheet_refusal
     accept_times e q = record { verdict = rw (sym i.verdict ∙ ap verdict_of e) q; tables = i.tables; kept = i.kept }
 
-    -- the index of rows that are not refused, part by part
+    -- rows that are not refused
     pub rows_accepted : v ≡ (Ok tt) → Accepted rows
     rows_accepted e = accepted rows (indexed_of i e).accepted
 
-    pub rows_by_kind : v ≡ (Ok tt) → Kinds rows k
-    rows_by_kind e = (indexed_of i e).by_kind
-
-    pub rows_linked : v ≡ (Ok tt) → Linked rows l
-    rows_linked e = (indexed_of i e).linked
-
-    pub rows_by_owner : v ≡ (Ok tt) → Owned rows o
-    rows_by_owner e = (indexed_of i e).by_owner
-
-  module _ {k₀ l₀ o₀ k l o : List ℕ} {v : Result Unit Refusal} (a : Accepting rows k₀ l₀ o₀ v k l o) where
+  module _ {before after : SheetIndex} {v : Result Unit Refusal} (a : Accepting rows before v after) where
     pub refused_by : {e : Refusal} → v ≡ Err e → sheet_refusal rows ≡ Some e
     refused_by e = sym a.verdict ∙ ap verdict_of e
 
     pub passed_all : v ≡ (Ok tt) → sheet_refusal rows ≡ None
     passed_all e = sym a.verdict ∙ ap verdict_of e
 
-    pub index_of : v ≡ (Ok tt) → Indexed rows k l o
+    pub index_of : v ≡ (Ok tt) → Indexed rows after
     unfolding sheet_refusal
     index_of e =
         let r : refusal_of rows ≡ None = or_none_left (refusal_of rows) (time_refusal rows) (passed_all e) in
-        let t = a.tables (shape_passed rows r) in
-        record { accepted = r; by_kind = t.kinds; linked = t.links; by_owner = t.owned }
+        record { accepted = r; filled = a.tables (shape_passed rows r) }
 
   -- a sheet that is not refused
   pub sheet_accepted : sheet_refusal rows ≡ None → Accepted rows

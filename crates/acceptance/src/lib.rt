@@ -1,24 +1,19 @@
 // Whether a sheet is accepted: refusals 1 to 6. A call begins so that needs no derived time beside them; the check keeps the times, and takes the steps itself.
 #![tactic(auto)]
 
-ghost use Rattle.std.specs.Prelude.{◌≡◌, length};
+ghost use Rattle.owners.specs.inner.Filled.{Sized};
 ghost use Rattle.acceptance.specs.inner.Accepting.{Accepting};
 
-use model::Sheet;
+use model::{Sheet, SheetIndex};
 use refusals::Verdict;
 
 // The verdict, and the index of the rows, as `validation::index` leaves it.
-pub fn accept(
-    rows: &[i64],
-    kinds: &mut [u16; 3680],
-    links: &mut [u16; 1600],
-    owned: &mut [u16; 8810],
-) -> Verdict
-    requires { (length kinds.old ≡ 3680) × (length links.old ≡ 1600) × (length owned.old ≡ 8810) }
-    ensures { Accepting rows.now kinds.old links.old owned.old result kinds.new links.new owned.new }
+pub fn accept(rows: &[i64], index: &mut SheetIndex) -> Verdict
+    requires { Sized index.old }
+    ensures { Accepting rows.now index.old result index.new }
 {
-    validation::index(rows, kinds, links, owned)?;
-    let sheet = Sheet::new(rows, kinds, links, owned);
+    validation::index(rows, index)?;
+    let sheet = Sheet::new(rows, index);
     let owners = sheet.owners();
     let held = pieces::held_of(&sheet.by_kind(), &owners);
     let need = derived_times::needs_of(&owners, &held);

@@ -13,7 +13,7 @@ ghost use Rattle.feasibility.specs.Call.{check_answer, findings_after};
 
 use findings::Findings;
 use line_buffer::Handed;
-use model::Sheet;
+use model::{Sheet, SheetIndex};
 use refusals::{Answer, Reason};
 use sheet::Rows;
 
@@ -77,9 +77,7 @@ pub fn check_schedule(rows: &[i64], out: &mut [i64]) -> Answer
     ensures value { result ≡ check_answer rows.now (length out.old / 4) }
     ensures out_after { out.new ≡ findings_after rows.now out.old }
 {
-    let mut kinds = [0u16; 3680];
-    let mut links = [0u16; 1600];
-    let mut owned = [0u16; 8810];
-    validation::index(rows, &mut kinds, &mut links, &mut owned)?;
-    check_times(&Sheet::new(rows, &kinds, &links, &owned), out)
+    let mut index = SheetIndex::new();
+    validation::index(rows, &mut index)?;
+    check_times(&Sheet::new(rows, &index), out)
 }

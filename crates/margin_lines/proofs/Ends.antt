@@ -24,6 +24,7 @@ use Rattle.line_buffer.proofs.Handing.{not_longer}
 use Rattle.line_buffer.proofs.LineLaws.{lines_kept}
 use Rattle.line_buffer.proofs.Whole.{count_fits}
 use Rattle.acceptance.specs.Refusals.{sheet_refusal, call_refusal}
+use Rattle.owners.specs.declared.sheet_index.SheetIndex.{SheetIndex}
 use Rattle.acceptance.specs.inner.Accepting.{Accepting}
 use Rattle.acceptance.proofs.Order.{refused_by, sheet_accepted}
 use Rattle.acceptance.proofs.Ending.{ends_refused, ends_over, ends_full}
@@ -55,7 +56,7 @@ room_for_all rows room l = go (sheet_refusal rows) refl
 
 -- ---- refused by 1 to 6
 
-module _ (rows o : List ℤ) {v : Result Unit Refusal} {x : Refusal} {k₀ l₀ p₀ k l p : List ℕ} (a : Accepting rows k₀ l₀ p₀ v k l p) (e : v ≡ Err x) where
+module _ (rows o : List ℤ) {v : Result Unit Refusal} {x : Refusal} {before after : SheetIndex} (a : Accepting rows before v after) (e : v ≡ Err x) where
   refused_sheet : Ends rows o (Err x) o
   unfolding margins_refusal margins_answer margins_after flat_margins
   refused_sheet = ends_refused 3 three (omega arith) (λ m. refl) rows (margins rows) o (refused_by rows a e)

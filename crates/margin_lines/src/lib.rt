@@ -20,7 +20,7 @@ use line_buffer::Handed;
 use lines::Lines;
 pub use lines::{Margin, MarginKind};
 use load::{Bookings, NO_BOOKING};
-use model::Sheet;
+use model::{Sheet, SheetIndex};
 use refusals::{Answer, Reason};
 use rows::Kind;
 use sheet::{KindIndex, Rows};
@@ -132,9 +132,7 @@ pub fn margins(rows: &[i64], out: &mut [i64]) -> Answer
     ensures value { result ≡ margins_answer rows.now (length out.old / 3) }
     ensures out_after { out.new ≡ margins_after rows.now out.old }
 {
-    let mut kinds = [0u16; 3680];
-    let mut links = [0u16; 1600];
-    let mut owned = [0u16; 8810];
-    acceptance::accept(rows, &mut kinds, &mut links, &mut owned)?;
-    write_margins(&Sheet::new(rows, &kinds, &links, &owned), out)
+    let mut index = SheetIndex::new();
+    acceptance::accept(rows, &mut index)?;
+    write_margins(&Sheet::new(rows, &index), out)
 }

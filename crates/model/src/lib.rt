@@ -5,6 +5,7 @@ ghost use Rattle.std.specs.Prelude.{None, ◌≡◌};
 ghost use Rattle.sheet.specs.Refusals.{refusal_of};
 ghost use Rattle.model.specs.inner.Indexed.{Indexed};
 
+pub use owners::SheetIndex;
 use owners::{ByOwner, LinkIndex, OwnerIndex, Owners};
 use sheet::{ByKind, KindIndex, Rows};
 use std::marker::Model;
@@ -13,9 +14,7 @@ use std::marker::Model;
 #[derive(Drop)]
 pub struct Sheet<'a> {
     rows: &'a [i64],
-    kinds: &'a [u16; 3680],
-    links: &'a [u16; 1600],
-    owned: &'a [u16; 8810],
+    index: &'a SheetIndex,
 }
 
 impl<'a> Model for Sheet<'a> {
@@ -26,25 +25,15 @@ impl<'a> Model for Sheet<'a> {
 
     ghost view = { λ s. s.rows.now };
 
-    ghost invariant = { λ s. Indexed s.rows.now s.kinds.now s.links.now s.owned.now };
+    ghost invariant = { λ s. Indexed s.rows.now s.index.now };
 }
 
 impl<'a> Sheet<'a> {
-    pub fn new(
-        rows: &'a [i64],
-        kinds: &'a [u16; 3680],
-        links: &'a [u16; 1600],
-        owned: &'a [u16; 8810],
-    ) -> Sheet<'a>
-        requires { Indexed rows.now kinds.now links.now owned.now }
+    pub fn new(rows: &'a [i64], index: &'a SheetIndex) -> Sheet<'a>
+        requires { Indexed rows.now index.now }
         ensures { result ≡ rows.now }
     {
-        Sheet {
-            rows,
-            kinds,
-            links,
-            owned,
-        }
+        Sheet { rows, index }
     }
 
     // The rows by kind and by name alone.
@@ -52,7 +41,7 @@ impl<'a> Sheet<'a> {
         ensures rows { result ≡ self.now }
         ensures known { refusal_of self.now ≡ None }
     {
-        ByKind::new(self.rows, self.kinds)
+        self.index.by_kind(self.rows)
     }
 
     // The rows by owner alone.
@@ -60,7 +49,7 @@ impl<'a> Sheet<'a> {
         ensures rows { result ≡ self.now }
         ensures known { refusal_of self.now ≡ None }
     {
-        ByOwner::new(self.rows, self.owned)
+        self.index.by_owner(self.rows)
     }
 
     // The rows by owner, and their owners.
@@ -68,7 +57,7 @@ impl<'a> Sheet<'a> {
         ensures rows { result ≡ self.now }
         ensures known { refusal_of self.now ≡ None }
     {
-        Owners::new(self.rows, self.links, self.owned)
+        self.index.owners(self.rows)
     }
 }
 
@@ -88,18 +77,18 @@ impl<'a> Rows for Sheet<'a> {
 
 impl<'a> KindIndex for Sheet<'a> {
     fn kinds(&self) -> &[u16; 3680] {
-        self.kinds
+        self.index.kinds()
     }
 }
 
 impl<'a> LinkIndex for Sheet<'a> {
     fn links(&self) -> &[u16; 1600] {
-        self.links
+        self.index.links()
     }
 }
 
 impl<'a> OwnerIndex for Sheet<'a> {
     fn owned(&self) -> &[u16; 8810] {
-        self.owned
+        self.index.owned()
     }
 }

@@ -12,10 +12,12 @@ ghost use Rattle.sheet.specs.inner.Index.{or_end, Kinds};
 ghost use Rattle.owners.specs.inner.Owners.{owner_kind, owner_place, own_place, res_place, owned_by, owned_key, Numbered, Linked, Owned};
 
 pub mod by_owner;
+mod sheet_index;
 
 pub use by_owner::{ByOwner, LinkIndex, OwnerIndex, OwnerLinks, Owners};
 use rows::Kind;
 use sheet::{ByKind, KindIndex, Rows};
+pub use sheet_index::SheetIndex;
 
 // ---- a row by its number: among the requirements of an activity, or among the constraints
 

@@ -8,7 +8,7 @@ ghost use Rattle.sheet.specs.inner.Accepted.{Accepted};
 ghost use Rattle.pieces.specs.inner.Held.{Held};
 
 use derived_times::Bookings;
-use model::Sheet;
+use model::{Sheet, SheetIndex};
 use overlap::Overlap;
 use owners::{LinkIndex, Owners};
 use refusals::Verdict;
@@ -90,13 +90,11 @@ fn is_verdict(v: Verdict, number: u64, place: u64) -> bool {
 
 // A line `DNUMBER,PLACE`: whether the derived times of the rows, and refusal 6, come out so.
 fn sheet_case(rows: &[i64], expected: &[i64], number: u64, place: u64) -> bool {
-    let mut kinds = [0u16; 3680];
-    let mut links = [0u16; 1600];
-    let mut owned = [0u16; 8810];
-    let Ok(()) = validation::index(rows, &mut kinds, &mut links, &mut owned) else {
+    let mut index = SheetIndex::new();
+    let Ok(()) = validation::index(rows, &mut index) else {
         return false;
     };
-    let sheet = Sheet::new(rows, &kinds, &links, &owned);
+    let sheet = Sheet::new(rows, &index);
     let owners = sheet.owners();
     let held = pieces::held_of(&sheet.by_kind(), &owners);
     let need = derived_times::needs_of(&owners, &held);

@@ -13,7 +13,7 @@ ghost use Rattle.derived_times.specs.inner.Needs.{Needs};
 
 use calendar::{Calendars, Places, TimeWindow, WindowKind, WorkEnd};
 use findings::Findings;
-use model::Sheet;
+use model::{Sheet, SheetIndex};
 use refusals::Verdict;
 use sheet::Rows;
 use std::io;
@@ -190,13 +190,11 @@ fn timed(rows: &Sheet, part: Part, count: u64) -> usize {
 }
 
 fn found_of(rows: &[i64], part: Part, count: u64) -> usize {
-    let mut kinds = [0u16; 3680];
-    let mut links = [0u16; 1600];
-    let mut owned = [0u16; 8810];
-    let Ok(()) = validation::index(rows, &mut kinds, &mut links, &mut owned) else {
+    let mut index = SheetIndex::new();
+    let Ok(()) = validation::index(rows, &mut index) else {
         return 0;
     };
-    timed(&Sheet::new(rows, &kinds, &links, &owned), part, count)
+    timed(&Sheet::new(rows, &index), part, count)
 }
 
 // 0 where the text is refused.

@@ -16,13 +16,14 @@ use Rattle.loops.proofs.SearchLaws.{first_hit}
 use Rattle.loops.proofs.PlaceLaws.{or_assoc, or_none_left, or_none_right, first_none, if_none}
 use Rattle.loops.proofs.OrderedLaws.{none_some}
 use Rattle.rows.specs.Cells.{row_count, num}
-use Rattle.sheet.specs.inner.Index.{Shaped, Kinds}
-use Rattle.owners.specs.inner.Owners.{Linked, Owned}
+use Rattle.sheet.specs.inner.Index.{Shaped}
+use Rattle.owners.specs.declared.sheet_index.SheetIndex.{SheetIndex}
+use Rattle.owners.specs.inner.Filled.{Filled}
 use Rattle.refusals.specs.Refusals.{refuse, verdict_of}
 use Rattle.refusals.specs.declared.Reason.TheVariants.{Misshapen, UnknownKind, OutOfRange}
 use Rattle.refusals.specs.declared.Refusal.{Refusal}
 use Rattle.sheet.specs.Refusals.{misshapen, known_kind, out_of_range, column_fault, refusal_of}
-use Rattle.validation.specs.inner.Answer.{shape_refusal, link_refusal, Tables, Indexing}
+use Rattle.validation.specs.inner.Answer.{shape_refusal, link_refusal, Indexing}
 
 pub stops : (f : ℕ → Option Refusal) (i n N : ℕ) {v : Result Unit Refusal} {r : Refusal} → v ≡ Err r → verdict_of v ≡ f i → first f i ≡ None → i < n → n ≡ N → verdict_of v ≡ first f N
 stops f i n N q r p h z = ap verdict_of q ∙ sym (first_hit f i N (omega arith) p (sym r ∙ ap verdict_of q))
@@ -61,18 +62,18 @@ shaped rows q f =
 
 -- ---- the answers of `index`
 
-pub refused : (rows : List ℤ) (v : Result Unit Refusal) (k l o : List ℕ) {r : Refusal} → v ≡ Err r → verdict_of v ≡ shape_refusal rows → Indexing rows k l o v k l o
-refused rows v k l o q e = record {
+pub refused : (rows : List ℤ) (v : Result Unit Refusal) (x : SheetIndex) {r : Refusal} → v ≡ Err r → verdict_of v ≡ shape_refusal rows → Indexing rows x v x
+refused rows v x q e = record {
   verdict = ends (shape_refusal rows) (link_refusal rows) q e ∙ sym (in_two rows);
   tables = λ z. absurd (none_some (sym (sym (ap verdict_of q) ∙ e ∙ z)));
-  kept = λ z. (refl, refl, refl);
+  kept = λ z. refl;
 }
 
-pub indexed : (rows : List ℤ) (v : Result Unit Refusal) (k₀ l₀ o₀ k l o : List ℕ) {s : Result Unit Refusal} → Kinds rows k → Linked rows l → Owned rows o → verdict_of s ≡ shape_refusal rows
-    → s ≡ Ok tt → verdict_of v ≡ link_refusal rows → Indexing rows k₀ l₀ o₀ v k l o
-indexed rows v k₀ l₀ o₀ k l o a b c e q f = record {
+pub indexed : (rows : List ℤ) (v : Result Unit Refusal) (before after : SheetIndex) {s : Result Unit Refusal} → Filled rows after → verdict_of s ≡ shape_refusal rows
+    → s ≡ Ok tt → verdict_of v ≡ link_refusal rows → Indexing rows before v after
+indexed rows v before after a e q f = record {
   verdict = f ∙ ap (λ y. or_else y (link_refusal rows)) (sym (passed q e)) ∙ sym (in_two rows);
-  tables = λ z. record { kinds = a; links = b; owned = c };
+  tables = λ z. a;
   kept = λ z. absurd (z (passed q e));
 }
 
@@ -80,5 +81,5 @@ indexed rows v k₀ l₀ o₀ k l o a b c e q f = record {
 pub shape_passed : (rows : List ℤ) → refusal_of rows ≡ None → shape_refusal rows ≡ None
 shape_passed rows e = or_none_left (shape_refusal rows) (link_refusal rows) (sym (in_two rows) ∙ e)
 
-pub tables_of : (rows : List ℤ) {k₀ l₀ o₀ k l o : List ℕ} {v : Result Unit Refusal} → Indexing rows k₀ l₀ o₀ v k l o → refusal_of rows ≡ None → Tables rows k l o
+pub tables_of : (rows : List ℤ) {before after : SheetIndex} {v : Result Unit Refusal} → Indexing rows before v after → refusal_of rows ≡ None → Filled rows after
 tables_of rows h e = h.tables (shape_passed rows e)

@@ -1,15 +1,16 @@
 // Refusals 1 to 5 of a sheet: the first that applies, with its place, and the index of a sheet that none of them refuses.
 #![tactic(auto)]
 
-ghost use Rattle.std.specs.Prelude.{ℕ, ◌≡◌, ◌<◌, length, Option};
+ghost use Rattle.std.specs.Prelude.{ℕ, ◌≡◌, ◌<◌, Option};
 ghost use Rattle.loops.specs.Search.{first};
 ghost use Rattle.rows.specs.Cells.{row_count};
 ghost use Rattle.refusals.specs.declared.Refusal.{Refusal};
 ghost use Rattle.refusals.specs.Refusals.{verdict_of};
+ghost use Rattle.owners.specs.inner.Filled.{Sized};
 ghost use Rattle.sheet.specs.Refusals.{misshapen, column_fault, owner_fault, repeat_fault, refusal_of};
 ghost use Rattle.validation.specs.inner.Answer.{shape_refusal, link_refusal, Tells, Indexing};
 
-use owners::OwnerLinks;
+use owners::{OwnerLinks, SheetIndex};
 use refusals::{Reason, Verdict};
 use sheet::{ByKind, Rows};
 
@@ -60,30 +61,19 @@ fn link_fault(rows: &ByKind, links: &OwnerLinks) -> Verdict
 // ---- the sheet
 
 // The verdict on a sheet, and its index: the tables of its rows, also where 4 or 5 refuses it. A sheet that 1, 2 or 3 refuses has none, and leaves what was lent.
-pub fn index(
-    rows: &[i64],
-    kinds: &mut [u16; 3680],
-    links: &mut [u16; 1600],
-    owned: &mut [u16; 8810],
-) -> Verdict
-    requires { (length kinds.old ≡ 3680) × (length links.old ≡ 1600) × (length owned.old ≡ 8810) }
-    ensures { Indexing rows.now kinds.old links.old owned.old result kinds.new links.new owned.new }
+pub fn index(rows: &[i64], index: &mut SheetIndex) -> Verdict
+    requires { Sized index.old }
+    ensures { Indexing rows.now index.old result index.new }
 {
     shape_fault(rows)?;
-    sheet::kinds_into(rows, kinds);
-    let by_kind = ByKind::new(rows, kinds);
-    owners::links_into(&by_kind, links);
-    let linked = OwnerLinks::new(rows, links);
-    owners::owned_into(&linked, owned);
-    link_fault(&by_kind, &linked)
+    index.fill(rows);
+    link_fault(&index.by_kind(rows), &index.owner_links(rows))
 }
 
 // Whether refusals 1 to 5 refuse a sheet.
 pub fn validate(rows: &[i64]) -> Verdict
     ensures { verdict_of result ≡ refusal_of rows.now }
 {
-    let mut kinds = [0u16; 3680];
-    let mut links = [0u16; 1600];
-    let mut owned = [0u16; 8810];
-    index(rows, &mut kinds, &mut links, &mut owned)
+    let mut index = SheetIndex::new();
+    crate::index(rows, &mut index)
 }

@@ -41,6 +41,7 @@ use Rattle.sheet.specs.declared.Found.TheVariants.{At, Nothing}
 use Rattle.sheet.specs.inner.Found.{found_of}
 use Rattle.sheet.proofs.Lookups.{placed, found_some, found_none}
 use Rattle.owners.specs.inner.Owners.{owned_by}
+use Rattle.owners.specs.declared.sheet_index.SheetIndex.{SheetIndex}
 use Rattle.validation.specs.inner.Answer.{Indexing}
 use Rattle.validation.proofs.Order.{tables_of}
 use Rattle.model.specs.Sheet.{sheet}
@@ -214,11 +215,10 @@ module _ (rows : List ℤ) {v : Result Unit Refusal} where
   pub no_refusal : verdict_of v ≡ refusal_of rows → v ≡ Ok tt → refusal_of rows ≡ None
   no_refusal e f = sym e ∙ ap verdict_of f
 
-  pub indexed_of : {k₀ l₀ o₀ k l o : List ℕ} → Indexing rows k₀ l₀ o₀ v k l o → v ≡ Ok tt → Indexed rows k l o
+  pub indexed_of : {before after : SheetIndex} → Indexing rows before v after → v ≡ Ok tt → Indexed rows after
   indexed_of i f =
       let e = no_refusal i.verdict f in
-      let t = tables_of rows i e in
-      record { accepted = e; by_kind = t.kinds; linked = t.links; by_owner = t.owned }
+      record { accepted = e; filled = tables_of rows i e }
 
   pub inquiry_refused : (resource start work : ℤ) {x : Refusal} {a : Result InquiryEnd Refusal} → verdict_of v ≡ refusal_of rows → v ≡ Err x → a ≡ Err x
       → outcome_of a ≡ inquiry rows resource start work

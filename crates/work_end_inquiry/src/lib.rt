@@ -13,7 +13,7 @@ ghost use Rattle.work_end_inquiry.specs.inner.Near.{Near};
 ghost use Rattle.work_end_inquiry.specs.inner.Said.{said};
 
 use calendar::{Calendars, Places};
-use model::Sheet;
+use model::{Sheet, SheetIndex};
 use refusals::{Reason, Refusal};
 use rows::{Class, Kind};
 use sheet::{Found, KindIndex, Rows};
@@ -95,17 +95,10 @@ fn ending(rows: &Sheet, resource: i64, start: i64, work: i64) -> InquiryAnswer
 pub fn work_end(rows: &[i64], resource: i64, start: i64, work: i64) -> InquiryAnswer
     ensures { outcome_of result ≡ inquiry rows.now resource start work }
 {
-    let mut kinds = [0u16; 3680];
-    let mut links = [0u16; 1600];
-    let mut owned = [0u16; 8810];
-    validation::index(rows, &mut kinds, &mut links, &mut owned)?;
+    let mut index = SheetIndex::new();
+    validation::index(rows, &mut index)?;
     if !in_order(start, work) {
         return Err(Reason::OutOfRange.at(0));
     }
-    ending(
-        &Sheet::new(rows, &kinds, &links, &owned),
-        resource,
-        start,
-        work,
-    )
+    ending(&Sheet::new(rows, &index), resource, start, work)
 }

@@ -4,18 +4,12 @@ use Rattle.std.specs.Prelude.{ℕ, ◌<◌, ◌≡◌, List, ℤ, length}
 use Rattle.std.specs.Prelude.{Option, None}
 use Rattle.loops.specs.Search.{or_else, first}
 use Rattle.rows.specs.Cells.{row_count}
-use Rattle.sheet.specs.inner.Index.{Kinds}
-use Rattle.owners.specs.inner.Owners.{Linked, Owned}
+use Rattle.owners.specs.declared.sheet_index.SheetIndex.{SheetIndex}
+use Rattle.owners.specs.inner.Filled.{Filled}
 use Rattle.refusals.specs.Refusals.{refuse, verdict_of}
 use Rattle.refusals.specs.declared.Reason.TheVariants.{Misshapen}
 use Rattle.refusals.specs.declared.Refusal.{Refusal}
 use Rattle.sheet.specs.Refusals.{misshapen, column_fault, owner_fault, repeat_fault, refusal_of}
-
--- the tables of a sheet's rows
-pub record Tables (rows : List ℤ) (k l o : List ℕ) : Type 0 where
-  pub kinds : Kinds rows k
-  pub links : Linked rows l
-  pub owned : Owned rows o
 
 -- ---- refusals in two steps: those of a row by itself, then those that look at other rows
 
@@ -30,7 +24,7 @@ abbrev pub Tells : (ℕ → Option Refusal) → ℕ → (ℕ → Result Unit Ref
 Tells f count may = (k : ℕ) (v : Result Unit Refusal) → k < count → may k v → verdict_of v ≡ f k
 
 -- what `index` answers and leaves: the verdict; the tables of the rows, if none of 1 to 3 refuses the sheet, and else what was lent
-pub record Indexing (rows : List ℤ) (k₀ l₀ o₀ : List ℕ) (v : Result Unit Refusal) (k l o : List ℕ) : Type 0 where
+pub record Indexing (rows : List ℤ) (before : SheetIndex) (v : Result Unit Refusal) (after : SheetIndex) : Type 0 where
   pub verdict : verdict_of v ≡ refusal_of rows
-  pub tables : shape_refusal rows ≡ None → Tables rows k l o
-  pub kept : (shape_refusal rows ≡ None → ⊥) → (k ≡ k₀) × (l ≡ l₀) × (o ≡ o₀)
+  pub tables : shape_refusal rows ≡ None → Filled rows after
+  pub kept : (shape_refusal rows ≡ None → ⊥) → after ≡ before

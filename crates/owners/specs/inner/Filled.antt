@@ -1,0 +1,14 @@
+-- The index of a sheet: its size, and what its tables hold. Assumes nothing.
+use Rattle.std.specs.Prelude.{◌≡◌, List, ℤ, length}
+use Rattle.sheet.specs.inner.Index.{Kinds}
+use Rattle.owners.specs.declared.sheet_index.SheetIndex.{SheetIndex}
+use Rattle.owners.specs.inner.Owners.{Linked, Owned}
+
+abbrev pub Sized : SheetIndex → Type 0
+Sized x = (length x.kinds ≡ 3680) × (length x.links ≡ 1600) × (length x.owned ≡ 8810)
+
+-- the tables are those of these rows
+pub record Filled (rows : List ℤ) (x : SheetIndex) : Type 0 where
+  pub by_kind : Kinds rows x.kinds
+  pub linked : Linked rows x.links
+  pub by_owner : Owned rows x.owned

@@ -1,0 +1,87 @@
+// The index of a sheet: the tables of its rows, as one value. The library has no heap: whoever checks a sheet has them on the stack, and lends them.
+ghost use Rattle.std.specs.Prelude.{◌≡◌, replicate};
+ghost use Rattle.sheet.specs.inner.Index.{Shaped};
+ghost use Rattle.owners.specs.inner.Filled.{Sized, Filled};
+
+use crate::{ByOwner, OwnerLinks, Owners};
+use sheet::ByKind;
+
+#[derive(Drop)]
+pub struct SheetIndex {
+    kinds: [u16; 3680],
+    links: [u16; 1600],
+    owned: [u16; 8810],
+}
+
+impl SheetIndex {
+    // Of no sheet yet.
+    pub fn new() -> SheetIndex
+        ensures kinds { result.kinds ≡ replicate 3680 0 }
+        ensures links { result.links ≡ replicate 1600 0 }
+        ensures owned { result.owned ≡ replicate 8810 0 }
+    {
+        SheetIndex {
+            kinds: [0u16; 3680],
+            links: [0u16; 1600],
+            owned: [0u16; 8810],
+        }
+    }
+
+    // Fills them for rows that pass refusals 1 to 3.
+    pub fn fill(&mut self, rows: &[i64])
+        requires { Shaped rows.now × Sized self.old }
+        ensures { Filled rows.now self.new }
+    {
+        sheet::kinds_into(rows, &mut self.kinds);
+        let by_kind = ByKind::new(rows, &self.kinds);
+        crate::links_into(&by_kind, &mut self.links);
+        let linked = OwnerLinks::new(rows, &self.links);
+        crate::owned_into(&linked, &mut self.owned);
+    }
+
+    pub fn by_kind<'a>(&'a self, rows: &'a [i64]) -> ByKind<'a>
+        requires { Filled rows.now self.now }
+        ensures { result ≡ rows.now }
+    {
+        ByKind::new(rows, &self.kinds)
+    }
+
+    pub fn owner_links<'a>(&'a self, rows: &'a [i64]) -> OwnerLinks<'a>
+        requires { Filled rows.now self.now }
+        ensures { result ≡ rows.now }
+    {
+        OwnerLinks::new(rows, &self.links)
+    }
+
+    pub fn by_owner<'a>(&'a self, rows: &'a [i64]) -> ByOwner<'a>
+        requires { Filled rows.now self.now }
+        ensures { result ≡ rows.now }
+    {
+        ByOwner::new(rows, &self.owned)
+    }
+
+    pub fn owners<'a>(&'a self, rows: &'a [i64]) -> Owners<'a>
+        requires { Filled rows.now self.now }
+        ensures { result ≡ rows.now }
+    {
+        Owners::new(rows, &self.links, &self.owned)
+    }
+
+    pub fn kinds(&self) -> &[u16; 3680]
+        ensures { result.now ≡ self.now.kinds }
+    {
+        &self.kinds
+    }
+
+    pub fn links(&self) -> &[u16; 1600]
+        ensures { result.now ≡ self.now.links }
+    {
+        &self.links
+    }
+
+    pub fn owned(&self) -> &[u16; 8810]
+        ensures { result.now ≡ self.now.owned }
+    {
+        &self.owned
+    }
+}
