@@ -129,16 +129,15 @@ fn task_release(rows: &Sheet, a: usize) -> Option<u64>
     spans::instant_at(rows.as_slice(), rows.task_of(a)?, 3)
 }
 
-// The findings of the first known span, of row k, of the activity of row a.
+// The findings of the first known span, of row k, of the activity of row a, whose windows are laid out in the room.
 #[tactic(auto, using(sheet::proofs::Lookups::place_within, sheet::proofs::Lookups::place_kind))]
-fn check_first(rows: &Sheet, a: usize, k: usize, found: &mut Findings)
+fn check_first(rows: &Sheet, a: usize, k: usize, room: &mut [TimeWindow; 800], found: &mut Findings)
     requires { (is rows.now k 0 24 ≡ true) × (place_of rows.now 2 (num rows.now k 1) ≡ Some a) }
     ensures { so_far found.new ≡ tell (so_far found.old) (check_first clock (sheet rows.now) (span_of rows.now k) (activity_of rows.now a)) }
 {
     let own = is_early(rows, k, spans::instant_at(rows.as_slice(), a, 8));
     let of_task = is_early(rows, k, task_release(rows, a));
-    let mut room = [window_rows::NO_WINDOW; 800];
-    let mut windows = WindowList::over(&mut room);
+    let mut windows = WindowList::over(room);
     window_rows::gather_windows(&rows.by_owner(), a, Kind::ActivityWindow, &mut windows);
     let windows = windows.as_slice();
     let short = is_short(rows, a, k, windows);
@@ -156,12 +155,12 @@ fn check_first(rows: &Sheet, a: usize, k: usize, found: &mut Findings)
 
 // The findings of the span of row k. A second span of an activity is one finding and no more.
 #[tactic(auto, using(crate::proofs::Told::unknown_told, crate::proofs::Told::again_told, crate::proofs::Told::here_told, crate::proofs::Spans::known_place, crate::proofs::Spans::known_free, crate::proofs::Spans::known_self))]
-fn check_span(rows: &Sheet, k: usize, found: &mut Findings)
+fn check_span(rows: &Sheet, k: usize, room: &mut [TimeWindow; 800], found: &mut Findings)
     requires { (k < row_count rows.now) × (is rows.now k 0 24 ≡ true) }
     ensures { so_far found.new ≡ tell (so_far found.old) (check_span_at clock (sheet rows.now) k) }
 {
     match known(rows, k) {
-        Some(a) if !is_seen(rows, a, k) => check_first(rows, a, k, found),
+        Some(a) if !is_seen(rows, a, k) => check_first(rows, a, k, room, found),
         _ => found.tell(Violation::of(2, ViolationKind::UnknownActivity, rows.num(k, 1))),
     }
 }
@@ -170,8 +169,9 @@ fn check_span(rows: &Sheet, k: usize, found: &mut Findings)
 fn check_spans(rows: &Sheet, found: &mut Findings)
     ensures { so_far found.new ≡ tell (so_far found.old) (collect (check_span_at clock (sheet rows.now)) (row_count rows.now)) }
 {
+    let mut room = [window_rows::NO_WINDOW; 800];
     for k in rows.of_kind(Kind::TimeOnlySpan) {
-        check_span(rows, k, found);
+        check_span(rows, k, &mut room, found);
     }
 }
 

@@ -22,7 +22,7 @@ ghost use Rattle.window_rows.specs.inner.Laid.{Holder};
 ghost use Rattle.derived_times.specs.inner.Needs.{Needs};
 ghost use Rattle.check6_calendars.specs.inner.Lacking.{uncovered_at, lacks_time, Lacking};
 
-use calendar::Calendars;
+use calendar::{Calendars, Places, TimeWindow};
 use findings::{Findings, Violation, ViolationKind};
 use model::Sheet;
 use owners::LinkIndex;
@@ -91,20 +91,31 @@ fn is_uncovered(calendars: Calendars, start: u64, end: u64, needed: u64) -> bool
 
 // Whether booking k, of the activity of row a, is not covered by the working time of its piece.
 #[tactic(auto, using(crate::proofs::Resumable::laid_covered))]
-fn lacks_time(rows: &Sheet, need: &[u64; 800], a: usize, k: usize) -> bool
+fn lacks_time(
+    rows: &Sheet,
+    need: &[u64; 800],
+    a: usize,
+    k: usize,
+    windows: &mut [TimeWindow; 800],
+    places: &mut [Places; 800],
+) -> bool
     requires { Needs rows.now need.now × (k < row_count rows.now) × (is rows.now k 0 23 ≡ true) × (place_of rows.now 2 (num rows.now k 1) ≡ Some a) }
     ensures { result ≡ (not (joint_working clock (piece_calendars clock (sheet rows.now) (assignment_of rows.now k) (activity_of rows.now a)) (pos (num rows.now k 4))) || ltb (joint_available_ms clock (piece_calendars clock (sheet rows.now) (assignment_of rows.now k) (activity_of rows.now a)) (pos (num rows.now k 4)) (pos (num rows.now k 5))) (num rows.now k 6 + get_or need.now k 0)) }
 {
-    let mut windows = [window_rows::NO_WINDOW; 800];
-    let mut places = [check6_joint_calendars::NO_PLACES; 800];
-    let laid = check6_joint_calendars::lay_calendars(rows, a, k, &mut windows, &mut places);
+    let laid = check6_joint_calendars::lay_calendars(rows, a, k, windows, places);
     let needed = needed_ms(rows, need, k);
     is_uncovered(laid.as_calendars(), rows.num(k, 4), rows.num(k, 5), needed)
 }
 
 // Whether booking k is on a resource of the sheet, of a resumable activity, and lacks working time.
 #[tactic(auto, using(crate::proofs::Resumable::needed_is, owners::proofs::Links::books), unfolding(crate::specs::inner::Lacking::lacks_time))]
-fn lacks_at(rows: &Sheet, need: &[u64; 800], k: usize) -> bool
+fn lacks_at(
+    rows: &Sheet,
+    need: &[u64; 800],
+    k: usize,
+    windows: &mut [TimeWindow; 800],
+    places: &mut [Places; 800],
+) -> bool
     requires { Needs rows.now need.now × (k < row_count rows.now) × (is rows.now k 0 23 ≡ true) }
     ensures { result ≡ lacks_time rows.now k }
 {
@@ -114,20 +125,22 @@ fn lacks_at(rows: &Sheet, need: &[u64; 800], k: usize) -> bool
     let Found::At(a) = rows.activity_of(k) else {
         return false;
     };
-    rows.has(a, 7, 1) && lacks_time(rows, need, a, k)
+    rows.has(a, 7, 1) && lacks_time(rows, need, a, k, windows, places)
 }
 
 // Which bookings of resumable activities lack working time. Found once for a sheet, since it is the dearest question of all checks. Its calendars
-// need room that the calls after it do not: apart, they share the stack that the header states.
+// need room that the calls after it do not: apart, they share the stack that the header states. It is filled once, for it takes longer than most questions.
 #[inline(never)]
 #[tactic(auto, using(chains::proofs::PlaceLaws::left_all), unfolding(sheet::specs::Places::of_kind))]
 pub fn lacking_of(rows: &Sheet, need: &[u64; 800]) -> [u8; 800]
     requires { Needs rows.now need.now }
     ensures { Lacking rows.now result }
 {
+    let mut windows = [window_rows::NO_WINDOW; 800];
+    let mut places = [check6_joint_calendars::NO_PLACES; 800];
     let mut lacking = [0u8; 800];
     for k in rows.of_kind(Kind::Booking) {
-        lacking[k] = u8::from(lacks_at(rows, need, k));
+        lacking[k] = u8::from(lacks_at(rows, need, k, &mut windows, &mut places));
     }
     lacking
 }

@@ -2,9 +2,9 @@
 use calendar::{TimeWindow, WindowKind};
 use lent_room::LentList;
 
-// What stands in room before a window is laid out there.
+// What stands in room before a window is laid out there. All zeros, so that a room of them is filled at once.
 pub const NO_WINDOW: TimeWindow = TimeWindow {
-    kind: WindowKind::Neither,
+    kind: WindowKind::Open,
     start: 0,
     end: 0,
 };
