@@ -289,7 +289,7 @@ fn cell_past(rows: &[i64], k: usize, c: usize) -> i64
 pub fn nat(x: i64) -> u64
     ensures { result ≡ to_nat x }
 {
-    u64::try_from(x).unwrap_or(0)
+    x.max(0) as u64
 }
 
 // Column c of row k as a natural number, with its bound: what is reported fits a signed number.
