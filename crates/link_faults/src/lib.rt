@@ -34,18 +34,15 @@ fn is_unowned(rows: &OwnerLinks, k: usize) -> bool
     ensures { result ≡ unowned rows.now k }
 {
     let kind = rows.num(k, 0);
-    // Bookings and time-only spans, the last two kinds, may name what is not in the sheet.
-    if 22 < kind {
-        return false;
+    let n = rows.row_count();
+    let o = rows.owner_of(k);
+    if n <= o {
+        // Bookings and time-only spans, the last two kinds, may name what is not in the sheet.
+        return kind <= 22 && owners::owner_kind(kind).is_some();
     }
     let Some(owner) = owners::owner_kind(kind) else {
         return false;
     };
-    let n = rows.row_count();
-    let o = rows.owner_of(k);
-    if n <= o {
-        return true;
-    }
     match owner {
         Owner::RequirementRow => n <= rows.owner_of(o),
         Owner::ConstraintRow => !has_members(rows, o),

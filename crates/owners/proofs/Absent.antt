@@ -5,6 +5,7 @@ use mathlib.Core.Path.{◌≡◌, refl, ap, sym, ◌∙◌}
 use mathlib.Core.Bool.{Bool, true, false, not, ◌||◌, or-false, or-true, false≢true}
 use mathlib.Core.List.{List, []}
 use Rattle.std.specs.Prelude.{Option, None, Some}
+use Rattle.std.specs.Option.{is_some}
 use native.Mathlib.Omega.{arith}
 use native.Mathlib.Decide.{dec_lt}
 use lib.Dec.{leb}
@@ -21,7 +22,7 @@ use Rattle.rows.specs.declared.Kind.TheVariants.{Task, Activity, Candidate, Want
 use Rattle.rows.specs.Kinds.{kind_of, kind_number}
 use Rattle.rows.specs.Cells.{row_count, num, is}
 use Rattle.rows.specs.Table.{columns, class_of}
-use Rattle.rows.proofs.KindNumbers.{kind_there, kind_number_is}
+use Rattle.rows.proofs.KindNumbers.{kind_there, kind_number_is, kind_past}
 use Rattle.sheet.specs.Places.{named, activity_place, nth_place}
 use Rattle.sheet.specs.inner.Index.{or_end}
 use Rattle.sheet.specs.Refusals.{is_absent, has_members, lacks, absent_at, unowned}
@@ -199,3 +200,48 @@ module _ (rows : List ℤ) (k : ℕ) where
         found ResourceRow w a b m = sym (by_owner (Some ResourceRow) w ∙ ap is_absent (there_is (Some ResourceRow) w m))
         found RequirementRow w a b m = absurd (a refl)
         found ConstraintRow w a b m = absurd (b refl)
+
+    abbrev of_activity : Owner → Bool
+    of_activity ActivityRow = true
+    of_activity _ = false
+
+    module _ {x : Option Owner} (q : x ≡ owner_kind kind) where
+      -- a row behind the kinds that must have their owner belongs to an activity, or to nothing
+      late : (y : Owner) → x ≡ Some y → 22 < kind → y ≡ ActivityRow
+      unfolding owner_kind
+      late y w h = go (dec_lt kind 24) (dec_lt kind 25)
+        where
+          go : Dec (kind < 24) → Dec (kind < 25) → y ≡ ActivityRow
+          go (yes a) b = let z : kind ≡ 23 = omega arith in cc
+          go (no a) (yes b) = let z : kind ≡ 24 = omega arith in cc
+          go (no a) (no b) = let z : kind_of kind ≡ None = kind_past kind (λ p. omega arith) in absurd (cc)
+
+      pub early : (y : Owner) → x ≡ Some y → of_activity y ≡ false → kind ≤ 22
+      early y w a = go (dec_lt 22 kind)
+        where
+          go : Dec (22 < kind) → kind ≤ 22
+          go (yes h) = absurd (false≢true (sym a ∙ ap of_activity (late y w h)))
+          go (no h) = omega arith
+
+      pub unnamed : x ≡ None → false ≡ unowned rows k
+      unnamed w = go (dec_lt 22 kind)
+        where
+          go : Dec (22 < kind) → false ≡ unowned rows k
+          go (yes h) = booked h
+          go (no h) = ownerless q (omega arith) w
+
+      module _ (o n : ℕ) (p : o ≡ own_place rows k) (z : n ≡ row_count rows) where
+        -- what belongs to something that is not there
+        pub lost : kind ≤ 22 → n ≤ o → is_some x ≡ unowned rows k
+        lost l m = go x refl
+          where
+            go : (y : Option Owner) → x ≡ y → is_some y ≡ unowned rows k
+            go None w = ownerless q l w
+            go (Some y) w = gone q l o n p z y w m
+
+        pub standing : (y : Owner) → x ≡ Some y → (y ≡ RequirementRow → ⊥) → (y ≡ ConstraintRow → ⊥) → o < n → false ≡ unowned rows k
+        standing y w a b m = go (dec_lt 22 kind)
+          where
+            go : Dec (22 < kind) → false ≡ unowned rows k
+            go (yes h) = booked h
+            go (no h) = found q (omega arith) o n p z y w a b m
