@@ -7,7 +7,6 @@ ghost use Rattle.std.specs.Int.Signed.{lt_z};
 ghost use Rattle.loops.specs.Lists.{option, is_some};
 ghost use Rattle.rows.specs.Cells.{row_count, num, is};
 ghost use Rattle.sheet.specs.Places.{place_of, task_place};
-ghost use Rattle.sheet.specs.inner.Accepted.{Accepted};
 ghost use Rattle.calendar.specs.Clock.{clock};
 ghost use Rattle.findings.specs.inner.Told.{so_far, tell};
 ghost use Rattle.model.specs.Sheet.{sheet};
@@ -39,9 +38,9 @@ fn is_split(rows: &Sheet, a: usize) -> bool
 }
 
 // Whether booking k names another task than its activity's, of row a, or a part where that is not split.
-#[tactic(auto, using(crate::proofs::Placing::misplaced_is))]
+#[tactic(auto, using(model::proofs::Accepting::accepted, crate::proofs::Placing::misplaced_is))]
 fn is_misplaced(rows: &Sheet, a: usize, k: usize) -> bool
-    requires { Accepted rows.now × (k < row_count rows.now) × (is rows.now k 0 23 ≡ true) × (place_of rows.now 2 (num rows.now a 1) ≡ Some a) }
+    requires { (k < row_count rows.now) × (is rows.now k 0 23 ≡ true) × (place_of rows.now 2 (num rows.now a 1) ≡ Some a) }
     ensures { result ≡ misplaced (sheet rows.now) (activity_of rows.now a) (assignment_of rows.now k) }
 {
     !rows.has(k, 2, rows.num(a, 2))
@@ -53,7 +52,7 @@ fn is_misplaced(rows: &Sheet, a: usize, k: usize) -> bool
 // What the requirements of the activity of row a take; a quantity may be negative.
 #[tactic(auto, using(sheet::proofs::Lookups::place_low, chains::proofs::PlaceLaws::left_all, crate::proofs::Summing::sum_left))]
 fn quantity_of(rows: &Sheet, a: usize) -> i64
-    requires { Accepted rows.now × (place_of rows.now 2 (num rows.now a 1) ≡ Some a) }
+    requires { place_of rows.now 2 (num rows.now a 1) ≡ Some a }
     ensures { result ≡ quantities rows.now a }
 {
     let mut sum = 0;
@@ -66,7 +65,7 @@ fn quantity_of(rows: &Sheet, a: usize) -> i64
 // Whether so many bookings are more than the units of the activity of row a, which are at least 1.
 #[tactic(auto, using(crate::proofs::Summing::over_told))]
 fn is_over(rows: &Sheet, a: usize, used: u64) -> bool
-    requires { Accepted rows.now × (place_of rows.now 2 (num rows.now a 1) ≡ Some a) × (used ≤ 801) }
+    requires { (place_of rows.now 2 (num rows.now a 1) ≡ Some a) × (used ≤ 801) }
     ensures { result ≡ lt_z (units (sheet rows.now) (num rows.now a 1)) (pos used) }
 {
     1 < used && quantity_of(rows, a) < used as i64
@@ -76,9 +75,9 @@ fn is_over(rows: &Sheet, a: usize, used: u64) -> bool
 
 // Whether booking j takes a unit of booking k's piece, of the activity of row a. Booking k is not misplaced, so another booking
 // of its piece is misplaced only where it names another task.
-#[tactic(auto, using(crate::proofs::Counting::takes_told))]
+#[tactic(auto, using(model::proofs::Accepting::accepted, crate::proofs::Counting::takes_told))]
 fn takes_unit(rows: &Sheet, held: &[u8; 800], a: usize, k: usize, j: usize) -> bool
-    requires { Accepted rows.now × Held rows.now held.now × Booked rows.now a k × (misplaced (sheet rows.now) (activity_of rows.now a) (assignment_of rows.now k) ≡ false) × (j < row_count rows.now) }
+    requires { Held rows.now held.now × Booked rows.now a k × (misplaced (sheet rows.now) (activity_of rows.now a) (assignment_of rows.now k) ≡ false) × (j < row_count rows.now) }
     ensures { result ≡ takes_unit rows.now a k j }
 {
     pieces::in_piece(rows.as_slice(), k, j)
@@ -89,7 +88,7 @@ fn takes_unit(rows: &Sheet, held: &[u8; 800], a: usize, k: usize, j: usize) -> b
 // How many bookings before booking k take a unit of its piece.
 #[tactic(auto, using(crate::proofs::Placing::activity_most, chains::proofs::PlaceLaws::left_all, crate::proofs::Counting::uses_left, crate::proofs::Counting::uses_most), unfolding(loops::specs::Lists::count_of))]
 fn uses_before(rows: &Sheet, held: &[u8; 800], a: usize, k: usize) -> u64
-    requires { Accepted rows.now × Held rows.now held.now × Booked rows.now a k × (misplaced (sheet rows.now) (activity_of rows.now a) (assignment_of rows.now k) ≡ false) }
+    requires { Held rows.now held.now × Booked rows.now a k × (misplaced (sheet rows.now) (activity_of rows.now a) (assignment_of rows.now k) ≡ false) }
     ensures count { result ≡ uses (sheet rows.now) (activity_of rows.now a) (assignment_of rows.now k) (assignments_below (sheet rows.now) k) }
     ensures bound { result ≤ 800 }
 {
@@ -103,9 +102,9 @@ fn uses_before(rows: &Sheet, held: &[u8; 800], a: usize, k: usize) -> u64
 // ---- times
 
 // Whether booking k ends before that setup and the rest of its work are done.
-#[tactic(auto, using(crate::proofs::Judging::need_small, crate::proofs::Judging::start_small))]
+#[tactic(auto, using(model::proofs::Accepting::accepted, crate::proofs::Judging::need_small, crate::proofs::Judging::start_small))]
 fn is_short(rows: &Sheet, need: &[u64; 800], k: usize, setup: u64) -> bool
-    requires { Accepted rows.now × Needs rows.now need.now × (k < row_count rows.now) × (is rows.now k 0 23 ≡ true) × (setup < 9223372036854775808) }
+    requires { Needs rows.now need.now × (k < row_count rows.now) × (is rows.now k 0 23 ≡ true) × (setup < 9223372036854775808) }
     ensures { result ≡ ltb (num rows.now k 5) (num rows.now k 4 + (setup + get_or need.now k 0)) }
 {
     rows.num(k, 5) < rows.num(k, 4) + (setup + need[k])
@@ -141,7 +140,7 @@ fn check_judged(
     k: usize,
     found: &mut Findings,
 )
-    requires { Accepted rows.now × Held rows.now held.now × Needs rows.now need.now × Booked rows.now a k × (misplaced (sheet rows.now) (activity_of rows.now a) (assignment_of rows.now k) ≡ false) × (is_held (sheet rows.now) (assignment_of rows.now k) ≡ false) }
+    requires { Held rows.now held.now × Needs rows.now need.now × Booked rows.now a k × (misplaced (sheet rows.now) (activity_of rows.now a) (assignment_of rows.now k) ≡ false) × (is_held (sheet rows.now) (assignment_of rows.now k) ≡ false) }
     ensures { so_far found.new ≡ tell (so_far found.old) (check_known clock (sheet rows.now) (assignments_below (sheet rows.now) k) (assignment_of rows.now k) (activity_of rows.now a)) }
 {
     let id = rows.num(k, 1);
@@ -166,7 +165,7 @@ fn check_known(
     k: usize,
     found: &mut Findings,
 )
-    requires { Accepted rows.now × Held rows.now held.now × Needs rows.now need.now × Booked rows.now a k }
+    requires { Held rows.now held.now × Needs rows.now need.now × Booked rows.now a k }
     ensures { so_far found.new ≡ tell (so_far found.old) (check_known clock (sheet rows.now) (assignments_below (sheet rows.now) k) (assignment_of rows.now k) (activity_of rows.now a)) }
 {
     if is_misplaced(rows, a, k) {
@@ -192,7 +191,7 @@ fn check_assignment(
     k: usize,
     found: &mut Findings,
 )
-    requires { Accepted rows.now × Held rows.now held.now × Needs rows.now need.now × (k < row_count rows.now) × (is rows.now k 0 23 ≡ true) }
+    requires { Held rows.now held.now × Needs rows.now need.now × (k < row_count rows.now) × (is rows.now k 0 23 ≡ true) }
     ensures { so_far found.new ≡ tell (so_far found.old) (check_assignment_at clock (sheet rows.now) k) }
 {
     let Found::At(a) = rows.activity_of(k) else {

@@ -2,14 +2,13 @@
 #![tactic(auto)]
 
 ghost use Rattle.std.specs.Prelude.{◌≡◌, true, ◌<◌, ◌≤◌, map};
-ghost use Rattle.std.specs.Prelude.{None, Some};
+ghost use Rattle.std.specs.Prelude.{Some};
 ghost use Rattle.loops.specs.Lists.{is_empty, each};
 ghost use Rattle.loops.specs.Range.{collect};
 ghost use Rattle.calendar.specs.Clock.{clock};
 ghost use Rattle.calendar.specs.Layout.{window_of};
 ghost use Rattle.rows.specs.Cells.{row_count, num, is};
 ghost use Rattle.sheet.specs.Places.{place_of};
-ghost use Rattle.sheet.specs.Refusals.{refusal_of};
 ghost use Rattle.findings.specs.inner.Told.{so_far, tell};
 ghost use Rattle.resource_timing.specs.Durations.{total_ms};
 ghost use Rattle.model.specs.Sheet.{sheet};
@@ -65,7 +64,7 @@ fn is_seen(rows: &Sheet, a: usize, k: usize) -> bool
 // What the activity of row a needs.
 #[tactic(auto, using(crate::proofs::Told::part_fits, crate::proofs::Told::work_fits, crate::proofs::Told::work_most))]
 fn work_of(rows: &Sheet, a: usize) -> u64
-    requires { (refusal_of rows.now ≡ None) × (is rows.now a 0 2 ≡ true) }
+    requires { is rows.now a 0 2 ≡ true }
     ensures value { result ≡ total_ms (activity_of rows.now a).duration }
     ensures bound { result ≤ 12000000000000 }
 {
@@ -78,7 +77,7 @@ fn work_of(rows: &Sheet, a: usize) -> u64
 // Whether the span of row k has less working time than the activity of row a needs.
 #[tactic(auto, using(crate::proofs::Told::end_fits, crate::proofs::Told::short_resumed, crate::proofs::Told::short_plain))]
 fn is_short(rows: &Sheet, a: usize, k: usize, windows: &[TimeWindow]) -> bool
-    requires { (refusal_of rows.now ≡ None) × (is rows.now a 0 2 ≡ true) × (is rows.now k 0 24 ≡ true) × (map window_of windows.now ≡ own_windows rows.now a) }
+    requires { (is rows.now a 0 2 ≡ true) × (is rows.now k 0 24 ≡ true) × (map window_of windows.now ≡ own_windows rows.now a) }
     ensures { result ≡ too_short clock (span_of rows.now k) (activity_of rows.now a) (own_windows rows.now a) }
 {
     let work = work_of(rows, a);

@@ -3,12 +3,11 @@
 #![tactic(auto)]
 
 ghost use Rattle.std.specs.Prelude.{◌≡◌, ◌+◌, ◌<◌, ◌≤◌, true, not, ◌||◌, ltb, pos, get_or};
-ghost use Rattle.std.specs.Prelude.{None, Some};
+ghost use Rattle.std.specs.Prelude.{Some};
 ghost use Rattle.loops.specs.Lists.{given, each};
 ghost use Rattle.rows.specs.Cells.{row_count, num, is};
 ghost use Rattle.rows.specs.Kinds.{kind_number};
 ghost use Rattle.sheet.specs.Places.{place_of};
-ghost use Rattle.sheet.specs.Refusals.{refusal_of};
 ghost use Rattle.calendar.specs.Clock.{clock};
 ghost use Rattle.calendar.specs.Calendar.{interval_fits, joint_working};
 ghost use Rattle.calendar.specs.Amount.{joint_available_ms};
@@ -93,7 +92,7 @@ fn is_uncovered(calendars: Calendars, start: u64, end: u64, needed: u64) -> bool
 // Whether booking k, of the activity of row a, is not covered by the working time of its piece.
 #[tactic(auto, using(crate::proofs::Resumable::laid_covered))]
 fn lacks_time(rows: &Sheet, need: &[u64; 800], a: usize, k: usize) -> bool
-    requires { (refusal_of rows.now ≡ None) × Needs rows.now need.now × (k < row_count rows.now) × (is rows.now k 0 23 ≡ true) × (place_of rows.now 2 (num rows.now k 1) ≡ Some a) }
+    requires { Needs rows.now need.now × (k < row_count rows.now) × (is rows.now k 0 23 ≡ true) × (place_of rows.now 2 (num rows.now k 1) ≡ Some a) }
     ensures { result ≡ (not (joint_working clock (piece_calendars clock (sheet rows.now) (assignment_of rows.now k) (activity_of rows.now a)) (pos (num rows.now k 4))) || ltb (joint_available_ms clock (piece_calendars clock (sheet rows.now) (assignment_of rows.now k) (activity_of rows.now a)) (pos (num rows.now k 4)) (pos (num rows.now k 5))) (num rows.now k 6 + get_or need.now k 0)) }
 {
     let mut windows = [window_rows::NO_WINDOW; 800];
@@ -106,7 +105,7 @@ fn lacks_time(rows: &Sheet, need: &[u64; 800], a: usize, k: usize) -> bool
 // Whether booking k is on a resource of the sheet, of a resumable activity, and lacks working time.
 #[tactic(auto, using(crate::proofs::Resumable::needed_is, owners::proofs::Links::books), unfolding(crate::specs::inner::Lacking::lacks_time))]
 fn lacks_at(rows: &Sheet, need: &[u64; 800], k: usize) -> bool
-    requires { (refusal_of rows.now ≡ None) × Needs rows.now need.now × (k < row_count rows.now) × (is rows.now k 0 23 ≡ true) }
+    requires { Needs rows.now need.now × (k < row_count rows.now) × (is rows.now k 0 23 ≡ true) }
     ensures { result ≡ lacks_time rows.now k }
 {
     let Found::At(_) = rows.booked_resource(k) else {

@@ -5,7 +5,6 @@ ghost use Rattle.std.specs.Prelude.{◌≡◌, true, ◌++◌, ◌<◌, ◌≤�
 ghost use Rattle.loops.specs.Lists.{given};
 ghost use Rattle.calendar.specs.Clock.{clock};
 ghost use Rattle.rows.specs.Cells.{row_count, cell, num, is};
-ghost use Rattle.sheet.specs.inner.Accepted.{Accepted};
 ghost use Rattle.findings.specs.inner.Told.{so_far, tell};
 ghost use Rattle.overlap.specs.Bounds.{overlap_of, earliest_start, earliest_end};
 ghost use Rattle.model.specs.Sheet.{sheet};
@@ -32,9 +31,9 @@ fn span_of(rows: &Sheet, k: usize) -> Option<Span>
 }
 
 // The one finding of a piece of the activity of row `after` that starts before the work, done at `from`, reaches it.
-#[tactic(auto, unfolding(crate::specs::inner::Tests::starts_early))]
+#[tactic(auto, using(model::proofs::Accepting::accepted), unfolding(crate::specs::inner::Tests::starts_early))]
 fn report_early(rows: &Sheet, before: usize, after: usize, from: u64, found: &mut Findings)
-    requires { Accepted rows.now × (before < row_count rows.now) × (is rows.now before 0 2 ≡ true) × (after < row_count rows.now) × (is rows.now after 0 2 ≡ true) × (from ≤ 4000000000000) }
+    requires { (before < row_count rows.now) × (is rows.now before 0 2 ≡ true) × (after < row_count rows.now) × (is rows.now after 0 2 ≡ true) × (from ≤ 4000000000000) }
     ensures { so_far found.new ≡ tell (so_far found.old) (given (starts_early rows.now (num rows.now before 1) (num rows.now after 1) (pos from)) (precedence_violation 7 (num rows.now after 1))) }
 {
     let early = check7_early_piece::piece_is_early(
@@ -51,9 +50,9 @@ fn report_early(rows: &Sheet, before: usize, after: usize, from: u64, found: &mu
 }
 
 // Whether the activity of row `after` ends before an instant and the move to where it runs.
-#[tactic(auto, unfolding(crate::specs::inner::Tests::ends_early))]
+#[tactic(auto, using(model::proofs::Accepting::accepted), unfolding(crate::specs::inner::Tests::ends_early))]
 fn ends_early(rows: &Sheet, before: usize, after: usize, earliest: i64) -> bool
-    requires { Accepted rows.now × (before < row_count rows.now) × (is rows.now before 0 2 ≡ true) × (after < row_count rows.now) × (is rows.now after 0 2 ≡ true) × (nat_abs earliest ≤ 8000000000000) }
+    requires { (before < row_count rows.now) × (is rows.now before 0 2 ≡ true) × (after < row_count rows.now) × (is rows.now after 0 2 ≡ true) × (nat_abs earliest ≤ 8000000000000) }
     ensures { result ≡ ends_early rows.now (num rows.now before 1) (num rows.now after 1) earliest }
 {
     let Some(span) = span_of(rows, after) else {
@@ -64,7 +63,7 @@ fn ends_early(rows: &Sheet, before: usize, after: usize, earliest: i64) -> bool
 }
 
 fn report_end(rows: &Sheet, before: usize, after: usize, earliest: i64, found: &mut Findings)
-    requires { Accepted rows.now × (before < row_count rows.now) × (is rows.now before 0 2 ≡ true) × (after < row_count rows.now) × (is rows.now after 0 2 ≡ true) × (nat_abs earliest ≤ 8000000000000) }
+    requires { (before < row_count rows.now) × (is rows.now before 0 2 ≡ true) × (after < row_count rows.now) × (is rows.now after 0 2 ≡ true) × (nat_abs earliest ≤ 8000000000000) }
     ensures { so_far found.new ≡ tell (so_far found.old) (given (ends_early rows.now (num rows.now before 1) (num rows.now after 1) earliest) (precedence_violation 7 (num rows.now after 1))) }
 {
     let early = ends_early(rows, before, after, earliest);
@@ -75,7 +74,7 @@ fn report_end(rows: &Sheet, before: usize, after: usize, earliest: i64, found: &
 }
 
 // The activity of row `after` against that of row `before`, which runs for the span `previous`, where row k is its overlap.
-#[tactic(auto, using(crate::proofs::Overlapping::lag_most))]
+#[tactic(auto, using(model::proofs::Accepting::accepted, crate::proofs::Overlapping::lag_most))]
 fn check_overlapping(
     rows: &Sheet,
     before: usize,
@@ -84,7 +83,7 @@ fn check_overlapping(
     k: usize,
     found: &mut Findings,
 )
-    requires { Accepted rows.now × (before < row_count rows.now) × (is rows.now before 0 2 ≡ true) × (after < row_count rows.now) × (is rows.now after 0 2 ≡ true) × (previous.start ≤ 4000000000000) × (previous.end ≤ 4000000000000) × (is rows.now k 0 3 ≡ true) }
+    requires { (before < row_count rows.now) × (is rows.now before 0 2 ≡ true) × (after < row_count rows.now) × (is rows.now after 0 2 ≡ true) × (previous.start ≤ 4000000000000) × (previous.end ≤ 4000000000000) × (is rows.now k 0 3 ≡ true) }
     ensures { so_far found.new ≡ tell (so_far found.old) (given (starts_early rows.now (num rows.now before 1) (num rows.now after 1) (earliest_start clock (overlap_of (num rows.now k 2) (cell rows.now k 3)) (pos previous.start) (pos previous.end))) (precedence_violation 7 (num rows.now after 1)) ++ given (ends_early rows.now (num rows.now before 1) (num rows.now after 1) (earliest_end clock (overlap_of (num rows.now k 2) (cell rows.now k 3)) (pos previous.end))) (precedence_violation 7 (num rows.now after 1))) }
 {
     let o = Overlap::new(rows.num(k, 2), rows.cell(k, 3));
@@ -102,8 +101,7 @@ pub fn check_pair(rows: &Sheet, before: usize, after: usize, found: &mut Finding
     let Some(previous) = span_of(rows, before) else {
         return;
     };
-    // A walk, which says that the sheet is an accepted one.
-    let Some(k) = rows.owned_by(after, Kind::Overlap).next() else {
+    let Some(k) = rows.find_owned(after, Kind::Overlap) else {
         report_early(rows, before, after, previous.end, found);
         return;
     };

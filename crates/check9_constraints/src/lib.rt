@@ -172,8 +172,7 @@ pub fn check_constraints(rows: &ByKind, found: &mut Findings)
     ensures { so_far found.new ≡ tell (so_far found.old) (check_constraints clock (sheet rows.now)) }
 {
     let mut place = 0;
-    // `as_slice` says that there are no more than 800 rows.
-    for k in 0..rows::row_count(rows.as_slice()) {
+    for k in 0..rows.row_count() {
         check_constraint(rows, k, place, found);
         place = place_after(rows, k, place);
     }

@@ -75,8 +75,7 @@ pub fn timings_of(rows: &Owners) -> [u16; 800]
     ensures { Timings rows.now result }
 {
     let mut t = [0u16; 800];
-    // `as_slice` says that there are no more than 800 rows.
-    for k in 0..rows::row_count(rows.as_slice()) {
+    for k in 0..rows.row_count() {
         sheet::keep_place(rows.as_slice(), &mut t, k, timing_row(rows, k));
     }
     t
@@ -239,8 +238,7 @@ pub fn needs_of(rows: &MarkedRows) -> [u64; 800]
 {
     let bookings = Bookings::new(rows);
     let mut need = [0u64; 800];
-    // `as_slice` says that there are no more than 800 rows.
-    for k in 0..rows::row_count(rows.as_slice()) {
+    for k in 0..rows.row_count() {
         need[k] = bookings.rest_at(k);
     }
     need

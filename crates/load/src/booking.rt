@@ -1,7 +1,7 @@
 // A booking, as the load reads it.
 #![tactic(auto)]
 
-ghost use Rattle.std.specs.Prelude.{◌≡◌, ◌≤◌, ◌<◌, true, pos, None};
+ghost use Rattle.std.specs.Prelude.{◌≡◌, ◌≤◌, ◌<◌, true, pos};
 
 use model::Sheet;
 use sheet::Rows;
@@ -25,7 +25,6 @@ pub const NO_BOOKING: Booking = Booking {
 impl Booking {
     ghost use Rattle.std.specs.Int.Signed.{lt_z};
     ghost use Rattle.rows.specs.Cells.{row_count, is};
-    ghost use Rattle.sheet.specs.Refusals.{refusal_of};
     ghost use Rattle.model.specs.Sheet.{sheet};
     ghost use Rattle.model.specs.inner.Records.{assignment_of};
     ghost use Rattle.load.specs.Load.{taken, booking_of};
@@ -34,7 +33,7 @@ impl Booking {
     // The booking of row k.
     #[tactic(auto, using(crate::proofs::Gathering::booking_fits))]
     pub(crate) fn at(rows: &Sheet, k: usize) -> Booking
-        requires { (refusal_of rows.now ≡ None) × (k < row_count rows.now) × (is rows.now k 0 23 ≡ true) }
+        requires { (k < row_count rows.now) × (is rows.now k 0 23 ≡ true) }
         ensures { meant result ≡ booking_of (sheet rows.now) (assignment_of rows.now k) }
     {
         Booking {

@@ -1,9 +1,8 @@
 // The load of a resource: what its bookings take of it, its limit, and the walk over the booked resources.
 #![tactic(auto)]
 
-ghost use Rattle.std.specs.Prelude.{◌≡◌, true, ◌<◌, ◌≤◌, None};
+ghost use Rattle.std.specs.Prelude.{◌≡◌, true, ◌<◌, ◌≤◌};
 ghost use Rattle.rows.specs.Cells.{row_count, is};
-ghost use Rattle.sheet.specs.Refusals.{refusal_of};
 ghost use Rattle.model.specs.Sheet.{sheet};
 ghost use Rattle.model.specs.inner.Records.{assignment_of};
 ghost use Rattle.load.specs.Load.{usage, cap_override, base_of, cap_of};
@@ -23,7 +22,7 @@ use sheet::{ByKind, Found, KindIndex, Rows};
 // What booking k takes of its resource.
 #[tactic(auto, using(owners::proofs::Links::books, crate::proofs::Usages::own_place_lem, model::proofs::Finds::find_activity_lem, model::proofs::Finds::find_resource_lem), unfolding(crate::specs::Load::usage))]
 fn usage_of(rows: &Sheet, k: usize) -> u64
-    requires { (refusal_of rows.now ≡ None) × (k < row_count rows.now) × (is rows.now k 0 23 ≡ true) }
+    requires { (k < row_count rows.now) × (is rows.now k 0 23 ≡ true) }
     ensures value { result ≡ usage (sheet rows.now) (assignment_of rows.now k) }
     ensures bound { result ≤ 1000000 }
 {

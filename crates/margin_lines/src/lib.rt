@@ -5,7 +5,6 @@ ghost use Rattle.std.specs.Prelude.{◌≡◌, true, ◌/◌, ◌<◌, ◌≤◌
 ghost use Rattle.loops.specs.Lists.{each};
 ghost use Rattle.calendar.specs.Clock.{clock};
 ghost use Rattle.rows.specs.Cells.{is};
-ghost use Rattle.sheet.specs.Refusals.{refusal_of};
 ghost use Rattle.model.specs.Sheet.{sheet};
 ghost use Rattle.model.specs.Task.{task_at, tasks};
 ghost use Rattle.load.specs.Load.{booked_resources};
@@ -38,7 +37,7 @@ fn left_of(limit: i64, taken: u64) -> i64
 
 // The margin of the task of row k, where it has a deadline and a completion.
 fn put_task(rows: &Sheet, k: usize, lines: &mut Lines)
-    requires { (refusal_of rows.now ≡ None) × (is rows.now k 0 1 ≡ true) }
+    requires { is rows.now k 0 1 ≡ true }
     ensures { so_far lines.new ≡ tell (so_far lines.old) (each (task_margin clock (sheet rows.now)) (task_at (sheet rows.now) k)) }
 {
     let Some(d) = spans::instant_at(rows.as_slice(), k, 2) else {
@@ -65,7 +64,7 @@ fn put_tasks(rows: &Sheet, lines: &mut Lines)
 // The margin of the resource x.
 #[tactic(auto, using(load::proofs::Told::peak_is), unfolding(crate::specs::Margins::resource_margin))]
 fn put_resource(rows: &Sheet, x: u64, bookings: &mut Bookings, lines: &mut Lines)
-    requires { (refusal_of rows.now ≡ None) × (x < 9223372036854775808) }
+    requires { x < 9223372036854775808 }
     ensures { so_far lines.new ≡ tell (so_far lines.old) (resource_margin clock (sheet rows.now) x) }
 {
     load::gather_bookings(rows, x, bookings);
@@ -82,7 +81,6 @@ fn put_resource(rows: &Sheet, x: u64, bookings: &mut Bookings, lines: &mut Lines
 #[inline(never)]
 #[tactic(auto, using(chains::proofs::PlaceLaws::left_all, crate::proofs::Told::resource_first, crate::proofs::Told::resources_told))]
 fn put_resources(rows: &Sheet, lines: &mut Lines)
-    requires { refusal_of rows.now ≡ None }
     ensures { so_far lines.new ≡ tell (so_far lines.old) (each (resource_margin clock (sheet rows.now)) (booked_resources (sheet rows.now))) }
 {
     let mut room = [NO_BOOKING; 800];
@@ -98,7 +96,6 @@ fn put_resources(rows: &Sheet, lines: &mut Lines)
 // The lines of the tasks, then those of the resources.
 #[tactic(auto, using(crate::proofs::Told::all_told))]
 fn put_all(rows: &Sheet, lines: &mut Lines)
-    requires { refusal_of rows.now ≡ None }
     ensures { so_far lines.new ≡ tell (so_far lines.old) (margins rows.now) }
 {
     put_tasks(rows, lines);
@@ -107,7 +104,6 @@ fn put_all(rows: &Sheet, lines: &mut Lines)
 
 // The lines of a sheet, and how many.
 fn put_margins(rows: &Sheet, out: &mut [i64]) -> usize
-    requires { refusal_of rows.now ≡ None }
     ensures { sink out.new result ≡ emit_margins (sink out.old 0) (margins rows.now) }
 {
     let mut lines = Lines::new(out);

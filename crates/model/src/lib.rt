@@ -1,7 +1,8 @@
 // The sheet with its index as one value. The typed sheet and the models that the checks are defined over are in specs/.
 #![tactic(auto)]
 
-ghost use Rattle.std.specs.Prelude.{◌≡◌};
+ghost use Rattle.std.specs.Prelude.{None, ◌≡◌};
+ghost use Rattle.sheet.specs.Refusals.{refusal_of};
 ghost use Rattle.model.specs.inner.Indexed.{Indexed};
 
 use owners::{ByOwner, LinkIndex, OwnerIndex, Owners};
@@ -48,21 +49,24 @@ impl<'a> Sheet<'a> {
 
     // The rows by kind and by name alone.
     pub fn by_kind(&self) -> ByKind<'a>
-        ensures { result ≡ self.now }
+        ensures rows { result ≡ self.now }
+        ensures known { refusal_of self.now ≡ None }
     {
         ByKind::new(self.rows, self.kinds)
     }
 
     // The rows by owner alone.
     pub fn by_owner(&self) -> ByOwner<'a>
-        ensures { result ≡ self.now }
+        ensures rows { result ≡ self.now }
+        ensures known { refusal_of self.now ≡ None }
     {
         ByOwner::new(self.rows, self.owned)
     }
 
     // The rows by owner, and their owners.
     pub fn owners(&self) -> Owners<'a>
-        ensures { result ≡ self.now }
+        ensures rows { result ≡ self.now }
+        ensures known { refusal_of self.now ≡ None }
     {
         Owners::new(self.rows, self.links, self.owned)
     }

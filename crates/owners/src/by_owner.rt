@@ -99,7 +99,8 @@ pub trait OwnerIndex: Rows {
     // The first of them.
     fn find_owned(&self, o: usize, kind: Kind) -> Option<usize>
         requires { o ≤ row_count (Self.rows self.now) }
-        ensures { result ≡ first_place (owned_by (Self.rows self.now) o (kind_number kind)) (row_count (Self.rows self.now)) }
+        ensures place { result ≡ first_place (owned_by (Self.rows self.now) o (kind_number kind)) (row_count (Self.rows self.now)) }
+        ensures known { Self.known (Self.rows self.now) }
     {
         let rows = ByOwner::new(self.as_slice(), self.owned());
         OwnedChain {

@@ -25,7 +25,8 @@ pub trait Rows {
         ensures known { known (rows self.now) };
 
     fn row_count(&self) -> usize
-        ensures { result ≡ row_count (rows self.now) }
+        ensures value { result ≡ row_count (rows self.now) }
+        ensures known { known (rows self.now) }
     {
         rows::row_count(self.as_slice())
     }
@@ -41,6 +42,7 @@ pub trait Rows {
     fn num(&self, k: usize, c: usize) -> u64
         ensures value { result ≡ num (rows self.now) k c }
         ensures bound { result < 9223372036854775808 }
+        ensures known { known (rows self.now) }
     {
         rows::id_at(self.as_slice(), k, c)
     }
@@ -153,26 +155,30 @@ pub trait KindIndex: Rows {
     // The first row of a kind with that id.
     #[tactic(auto, unfolding(crate::specs::Places::place_of))]
     fn find_named(&self, kind: Kind, id: u64) -> Option<usize>
-        ensures { result ≡ place_of (Self.rows self.now) (kind_number kind) id }
+        ensures place { result ≡ place_of (Self.rows self.now) (kind_number kind) id }
+        ensures known { Self.known (Self.rows self.now) }
     {
         let rows = ByKind::new(self.as_slice(), self.kinds());
         NamedChain { rows, kind, id }.find_first()
     }
 
     fn find_task(&self, id: u64) -> Option<usize>
-        ensures { result ≡ task_place (Self.rows self.now) id }
+        ensures place { result ≡ task_place (Self.rows self.now) id }
+        ensures known { Self.known (Self.rows self.now) }
     {
         self.find_named(Kind::Task, id)
     }
 
     fn find_activity(&self, id: u64) -> Found
-        ensures { found_of result ≡ activity_place (Self.rows self.now) id }
+        ensures place { found_of result ≡ activity_place (Self.rows self.now) id }
+        ensures known { Self.known (Self.rows self.now) }
     {
         Found::from(self.find_named(Kind::Activity, id))
     }
 
     fn find_resource(&self, id: u64) -> Found
-        ensures { found_of result ≡ resource_place (Self.rows self.now) id }
+        ensures place { found_of result ≡ resource_place (Self.rows self.now) id }
+        ensures known { Self.known (Self.rows self.now) }
     {
         Found::from(self.find_named(Kind::Resource, id))
     }

@@ -53,6 +53,7 @@ use Rattle.window_rows.specs.inner.Laid.{Holder}
 use Rattle.window_rows.proofs.WindowRows.{window_row, window_naming, resource_windows, windows_none, all_fit}
 use Rattle.calendar.specs.declared.WorkEnd as calendar
 use Rattle.work_end_inquiry.specs.declared.InquiryEnd.{InquiryEnd}
+use Rattle.work_end_inquiry.specs.inner.Near.{Near}
 use Rattle.work_end_inquiry.specs.inner.Said.{said}
 use Rattle.work_end_inquiry.specs.Inquiry.{InquiryOutcome, ends, refused, outcome_of, in_order, inquiry_refusal, inquired_calendar, inquiry}
 
@@ -84,14 +85,6 @@ module _ (rows : List ℤ) (ok : refusal_of rows ≡ None) (s : ℕ) where
 
   reach_windows : (id : ℕ) → reach clock (pos s) (windows (sheet rows) 15 id) ≤ most
   reach_windows id = rw (resource_windows rows id) (reach_collect s most (window_naming rows 15 id) (reach_row id) (row_count rows))
-
-  reach_calendar : (resource : ℤ) → reach clock (pos s) (inquired_calendar rows resource) ≤ most
-  unfolding inquired_calendar reach
-  reach_calendar resource = go (in_class Id resource)
-    where
-      go : (b : Bool) → reach clock (pos s) (cond b (windows (sheet rows) 15 (to_nat resource)) []) ≤ most
-      go true = reach_windows (to_nat resource)
-      go false = omega arith
 
 -- ---- how late the work ends
 
@@ -155,6 +148,11 @@ none_listed : (l : LentList TimeWindow 800) → listed l ≡ [] → calendar_in 
 unfolding calendar_in
 none_listed l e = ap (map layout.window_of) e
 
+-- they reach nowhere
+pub none_near : (l : LentList TimeWindow 800) → listed l ≡ [] → Near (calendar_in l)
+unfolding reach
+none_near l e = rw (none_listed l e) (record { near = λ s. omega arith })
+
 module _ (rows : List ℤ) where
   module _ (resource : ℤ) {a : Bool} (e : a ≡ in_class Id (read resource)) (p : SFits w64 resource) where
     pub laid_known : (l : LentList TimeWindow 800) {n : ℕ} → calendar_in l ≡ windows (sheet rows) 15 n → n ≡ to_nat (read resource) → a ≡ true → calendar_in l ≡ inquired_calendar rows resource
@@ -177,17 +175,21 @@ module _ (rows : List ℤ) where
     pub found_holder : (o : ℕ) → f ≡ At o → Holder rows o 15
     found_holder o g = inr (refl, found_self rows 11 id o (found_some g e))
 
--- there is room for its windows
+-- the windows of a resource are near
+pub laid_near : (rows : List ℤ) (id : ℕ) {c : Calendar ℤ} → c ≡ windows (sheet rows) 15 id → refusal_of rows ≡ None → Near c
+laid_near rows id e ok = rw e (record { near = λ s. reach_windows rows ok s id })
+
+-- there is room for them
 pub laid_fits : (rows : List ℤ) (o : ℕ) {l : List TimeWindow} → refusal_of rows ≡ None → l ≡ [] → length l + count_below (owned_by rows o 15) (row_count rows) ≤ 800
 laid_fits rows o ok h = let s = (accepted rows ok).short in all_fit rows o 15 _ h (omega arith)
 
 -- ---- the answers
 
-module _ (rows : List ℤ) (resource start work : ℤ) (ok : refusal_of rows ≡ None) (i : in_order start work ≡ true) where
-  fits_inquiry : Fits (joint_work_end clock (inquired_calendar rows resource ∷ []) (pos (to_nat start)) work)
+module _ (rows : List ℤ) (resource start work : ℤ) (i : in_order start work ≡ true) where
+  fits_inquiry : reach clock (pos (to_nat start)) (inquired_calendar rows resource) ≤ most → Fits (joint_work_end clock (inquired_calendar rows resource ∷ []) (pos (to_nat start)) work)
   unfolding in_order
-  fits_inquiry =
-      fits_end (inquired_calendar rows resource) (to_nat start) work (reach_calendar rows ok (to_nat start) resource)
+  fits_inquiry h =
+      fits_end (inquired_calendar rows resource) (to_nat start) work h
       (start_in start (and_left (in_class Instant start) (in_class SignedTime work) i)).1
       (work_in work (and_right (in_class Instant start) (in_class SignedTime work) i))
 
@@ -196,15 +198,16 @@ module _ (rows : List ℤ) (resource start work : ℤ) (ok : refusal_of rows ≡
   same_start = (start_in start (and_left (in_class Instant start) (in_class SignedTime work) i)).0
 
   -- the windows w are those of the list l, m of them
-  pub ending_said : (l : LentList TimeWindow 800) {r : Result InquiryEnd Refusal} {a : calendar.WorkEnd} {s m : ℕ} {w : List TimeWindow} → calendar_in l ≡ inquired_calendar rows (read resource)
+  pub ending_said : (l : LentList TimeWindow 800) {r : Result InquiryEnd Refusal} {a : calendar.WorkEnd} {s m : ℕ} {w : List TimeWindow} → calendar_in l ≡ inquired_calendar rows (read resource) → Near (calendar_in l)
       → m ≡ length (listed l) → w ≡ listed l → s ≡ to_nat (read start)
       → a ≡ layout.saying (joint_work_end clock (layout.calendars_of w (record { from = 0; to = m } ∷ [])) (pos s) (read work)) → r ≡ said a → SFits w64 resource → SFits w64 start → SFits w64 work
       → outcome_of r ≡ ends (joint_work_end clock (inquired_calendar rows resource ∷ []) start work)
   unfolding calendar_in
-  ending_said l {m = m} {w = w} c z y h e f o p q =
+  ending_said l {m = m} {w = w} c n z y h e f o p q =
+      let d : calendar_in l ≡ inquired_calendar rows resource = c ∙ ap (inquired_calendar rows) (to_z-of_z o) in
       ap outcome_of (f ∙ ap said (rw (to_z-of_z q, h, to_z-of_z p, y, z) at e))
-      ∙ ap (λ c. outcome_of (said (layout.saying (joint_work_end clock c (pos (to_nat start)) work)))) (one_calendar (listed l) ∙ ap (λ x. x ∷ []) (c ∙ ap (inquired_calendar rows) (to_z-of_z o)))
-      ∙ said_as_is (joint_work_end clock (inquired_calendar rows resource ∷ []) (pos (to_nat start)) work) fits_inquiry
+      ∙ ap (λ c. outcome_of (said (layout.saying (joint_work_end clock c (pos (to_nat start)) work)))) (one_calendar (listed l) ∙ ap (λ x. x ∷ []) d)
+      ∙ said_as_is (joint_work_end clock (inquired_calendar rows resource ∷ []) (pos (to_nat start)) work) (fits_inquiry (rw d at (n.near (to_nat start))))
       ∙ ap (λ x. ends (joint_work_end clock (inquired_calendar rows resource ∷ []) x work)) same_start
 
 module _ (rows : List ℤ) {v : Result Unit Refusal} where

@@ -1,8 +1,7 @@
 // The work-end inquiry on a sheet: when work ends that is started on a resource and runs only in its working time.
 #![tactic(auto)]
 
-ghost use Rattle.std.specs.Prelude.{◌≡◌, true, [], ◌∷◌};
-ghost use Rattle.std.specs.Prelude.{None};
+ghost use Rattle.std.specs.Prelude.{None, ◌≡◌, true, [], ◌∷◌};
 ghost use Rattle.calendar.specs.Clock.{clock};
 ghost use Rattle.calendar.specs.WorkEnd.{joint_work_end};
 ghost use Rattle.sheet.specs.Refusals.{refusal_of};
@@ -10,6 +9,7 @@ ghost use Rattle.model.specs.Sheet.{sheet};
 ghost use Rattle.model.specs.Resource.{windows};
 ghost use Rattle.window_rows.specs.Listed.{listed, calendar_in};
 ghost use Rattle.work_end_inquiry.specs.Inquiry.{ends, outcome_of, in_order, inquired_calendar, inquiry};
+ghost use Rattle.work_end_inquiry.specs.inner.Near.{Near};
 ghost use Rattle.work_end_inquiry.specs.inner.Said.{said};
 
 use calendar::{Calendars, Places};
@@ -39,8 +39,9 @@ fn in_order(start: i64, work: i64) -> bool
 // Lays out the windows of the resource of that id: none where the sheet has no such resource.
 #[tactic(auto, using(crate::proofs::Ends::laid_absent, crate::proofs::Ends::laid_found))]
 fn resource_windows(rows: &Sheet, id: u64, list: &mut WindowList)
-    requires { (refusal_of rows.now ≡ None) × (listed list.old ≡ []) }
-    ensures { calendar_in list.new ≡ windows (sheet rows.now) 15 id }
+    requires { listed list.old ≡ [] }
+    ensures windows { calendar_in list.new ≡ windows (sheet rows.now) 15 id }
+    ensures known { refusal_of rows.now ≡ None }
 {
     let Found::At(o) = rows.find_resource(id) else {
         return;
@@ -49,10 +50,11 @@ fn resource_windows(rows: &Sheet, id: u64, list: &mut WindowList)
 }
 
 // Lays out the windows of the resource that a number names: none where it is no id.
-#[tactic(auto, using(crate::proofs::Ends::laid_known, crate::proofs::Ends::laid_unknown))]
+#[tactic(auto, using(crate::proofs::Ends::laid_known, crate::proofs::Ends::laid_unknown, crate::proofs::Ends::laid_near, crate::proofs::Ends::none_near))]
 fn resource_calendar(rows: &Sheet, resource: i64, list: &mut WindowList)
-    requires { (refusal_of rows.now ≡ None) × (listed list.old ≡ []) }
-    ensures { calendar_in list.new ≡ inquired_calendar rows.now resource }
+    requires { listed list.old ≡ [] }
+    ensures windows { calendar_in list.new ≡ inquired_calendar rows.now resource }
+    ensures near { Near (calendar_in list.new) }
 {
     if Class::Id.allows(resource) {
         resource_windows(rows, rows::nat(resource), list);
@@ -72,7 +74,7 @@ fn answer_of(a: calendar::WorkEnd) -> InquiryAnswer
 
 #[tactic(auto, using(crate::proofs::Ends::ending_said))]
 fn ending(rows: &Sheet, resource: i64, start: i64, work: i64) -> InquiryAnswer
-    requires { (refusal_of rows.now ≡ None) × (in_order start work ≡ true) }
+    requires { in_order start work ≡ true }
     ensures { outcome_of result ≡ ends (joint_work_end clock (inquired_calendar rows.now resource ∷ []) start work) }
 {
     let mut room = [window_rows::NO_WINDOW; 800];

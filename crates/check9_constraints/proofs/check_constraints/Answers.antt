@@ -10,4 +10,4 @@ pub loop-k-preserved : goal.loop-k-preserved
 loop-k-preserved c = (search (rules, told_again), search (rules, place_again), search (rules, place_most))
 
 pub returns : goal.returns
-returns c = told_all _ _ _ _ (omega arith) (omega arith) (rw c.as_slice.ensures.rows at c.row_count-k-end.ensures) c.loop-k.invariant.0
+returns c = told_all _ _ _ _ (omega arith) (omega arith) c.row_count-k-end.ensures.value c.loop-k.invariant.0

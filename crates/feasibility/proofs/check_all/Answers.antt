@@ -7,7 +7,7 @@ use Rattle.feasibility.proofs.check_all.Goals as goal
 
 pub returns : goal.returns
 returns c =
-    let told = all_in_turn c.args.rows.now _ _ c.by_kind.ensures c.by_kind-2.ensures _ _ _ _ _ _ _ _ _
+    let told = all_in_turn c.args.rows.now _ _ c.by_kind.ensures.rows c.by_kind-2.ensures.rows _ _ _ _ _ _ _ _ _
     (ap (λ t. t.sink) c.check_assignments.ensures)
     (ap (λ t. t.sink) c.check_time_only.ensures)
     (ap (λ t. t.sink) c.check_parts.ensures)

@@ -9,17 +9,17 @@ use borrow.Author.Rules.{rules}
 use Rattle.feasibility.proofs.check_times.Goals as goal
 
 pub held_of-held-requires : goal.held_of-held-requires
-held_of-held-requires c = (rw c.by_kind.ensures (accepted _ c.as_slice-slice.ensures.known.0), c.owners-owners.ensures ∙ sym c.by_kind.ensures)
+held_of-held-requires c = (rw c.by_kind.ensures.rows (accepted _ c.as_slice-slice.ensures.known.0), c.owners-owners.ensures.rows ∙ sym c.by_kind.ensures.rows)
 
 pub needs_of-need-requires : goal.needs_of-need-requires
 needs_of-need-requires c =
-    (rw c.owners-owners.ensures (accepted _ c.as_slice-slice.ensures.known.0), rw (c.owners-owners.ensures, ← c.by_kind.ensures) c.held_of-held.ensures)
+    (rw c.owners-owners.ensures.rows (accepted _ c.as_slice-slice.ensures.known.0), rw (c.owners-owners.ensures.rows, ← c.by_kind.ensures.rows) c.held_of-held.ensures)
 
 pub write_findings-requires : goal.write_findings-requires
 write_findings-requires c =
     let v : verdict_of c.refused.result ≡ time_refusal c.args.rows.now = rw (← c.as_slice-slice.ensures.rows) c.refused.ensures in
-    let t : Times c.args.rows.now c.needs_of-need.result = rw (← c.owners-owners.ensures) c.needs_of-need.ensures in
-    (rw (← c.by_kind.ensures) c.held_of-held.ensures, needed_of _ c.needs_of-need.result t v (search rules), by_none _ c.as_slice-slice.ensures.known.0 v (search rules))
+    let t : Times c.args.rows.now c.needs_of-need.result = rw (← c.owners-owners.ensures.rows) c.needs_of-need.ensures in
+    (rw (← c.by_kind.ensures.rows) c.held_of-held.ensures, needed_of _ c.needs_of-need.result t v (search rules), by_none _ c.as_slice-slice.ensures.known.0 v (search rules))
 
 pub returns-in_err-refused : goal.returns-in_err-refused
 returns-in_err-refused c =

@@ -27,12 +27,12 @@ new-sheet-requires c = indexed c.index.ensures c.in-Ok.is
 
 pub held_of-held-requires : goal.held_of-held-requires
 held_of-held-requires c =
-    (rw (c.by_kind.ensures, c.new-sheet.ensures) (accepted _ (fine c.index.ensures c.in-Ok.is)), c.owners-owners.ensures ∙ sym c.by_kind.ensures)
+    (rw (c.by_kind.ensures.rows, c.new-sheet.ensures) (accepted _ (fine c.index.ensures c.in-Ok.is)), c.owners-owners.ensures.rows ∙ sym c.by_kind.ensures.rows)
 
 pub needs_of-need-requires : goal.needs_of-need-requires
 needs_of-need-requires c =
-    (rw (c.owners-owners.ensures, c.new-sheet.ensures) (accepted _ (fine c.index.ensures c.in-Ok.is)), rw (c.owners-owners.ensures, ← c.by_kind.ensures) c.held_of-held.ensures)
+    (rw (c.owners-owners.ensures.rows, c.new-sheet.ensures) (accepted _ (fine c.index.ensures c.in-Ok.is)), rw (c.owners-owners.ensures.rows, ← c.by_kind.ensures.rows) c.held_of-held.ensures)
 
 pub derived_are-requires : goal.derived_are-requires
 derived_are-requires c =
-    (rw (c.owners-owners.ensures, c.new-sheet.ensures) (accepted _ (fine c.index.ensures c.in-Ok.is)), rw (c.owners-owners.ensures, ← c.by_kind.ensures) c.held_of-held.ensures)
+    (rw (c.owners-owners.ensures.rows, c.new-sheet.ensures) (accepted _ (fine c.index.ensures c.in-Ok.is)), rw (c.owners-owners.ensures.rows, ← c.by_kind.ensures.rows) c.held_of-held.ensures)

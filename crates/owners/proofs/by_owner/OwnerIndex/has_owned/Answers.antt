@@ -4,4 +4,4 @@ use Rattle.chains.proofs.PlaceLaws.{any_first}
 use Rattle.owners.proofs.by_owner.OwnerIndex.has_owned.Goals as goal
 
 pub returns : goal.returns
-returns g c = c.is_some.ensures ∙ ap is_some c.find_owned.ensures ∙ any_first _ _
+returns g c = c.is_some.ensures ∙ ap is_some c.find_owned.ensures.place ∙ any_first _ _
