@@ -6,22 +6,22 @@ ghost use Rattle.std.specs.Prelude.{◌≡◌, true, false, cond, [], ◌+◌, �
 ghost use Rattle.findings.specs.inner.Told.{so_far, tell};
 ghost use Rattle.rows.specs.Cells.{row_count, num, is};
 ghost use Rattle.sheet.specs.Places.{resource_place};
-ghost use Rattle.pieces.specs.inner.Held.{Held};
 ghost use Rattle.check4_claims.specs.inner.Claims.{has_skill, candidate_of, lacking_of, claim_of, filled, claims_of, unclaimed_of, claimable, takes, requirement_rows, runs_on_in};
 
 use findings::{Findings, Violation, ViolationKind};
 use owners::{LinkIndex, OwnerIndex, Owners};
+use pieces::{HeldMarks, MarkedRows};
 use rows::Kind;
 use sheet::{Found, Rows};
 
 // True at each booking of the piece that may be claimed.
-fn free_in(rows: &Owners, held: &[u8; 800], o: usize, p: u64) -> [bool; 800]
-    requires { (o ≤ row_count rows.now) × Held rows.now held.now }
+fn free_in(rows: &MarkedRows, o: usize, p: u64) -> [bool; 800]
+    requires { o ≤ row_count rows.now }
     ensures { unclaimed_of rows.now o result ≡ runs_on_in rows.now o p }
 {
     let mut free = [false; 800];
     for k in rows.owned_by(o, Kind::Booking) {
-        free[k] = check4_pieces::is_free(rows.as_slice(), held, p, k);
+        free[k] = check4_pieces::is_free(rows.as_slice(), rows.held(), p, k);
     }
     free
 }
@@ -127,19 +127,12 @@ fn fill(
 
 // The requirements in order, each of what those before it left.
 #[tactic(auto, using(chains::proofs::PlaceLaws::left_all, model::proofs::OwnedLaws::owned_kind, crate::proofs::Claiming::asked, findings::proofs::SinkLaws::emit_none), unfolding(crate::specs::inner::Claims::claims_of))]
-pub fn fill_all(
-    rows: &Owners,
-    held: &[u8; 800],
-    o: usize,
-    p: u64,
-    activity: u64,
-    found: &mut Findings,
-)
-    requires { (o ≤ row_count rows.now) × Held rows.now held.now × (activity < 9223372036854775808) }
+pub fn fill_all(rows: &MarkedRows, o: usize, p: u64, activity: u64, found: &mut Findings)
+    requires { (o ≤ row_count rows.now) × (activity < 9223372036854775808) }
     ensures { so_far found.new ≡ tell (so_far found.old) (claims_of rows.now activity (requirement_rows rows.now o) (runs_on_in rows.now o p)) }
 {
-    let mut free = free_in(rows, held, o, p);
+    let mut free = free_in(rows, o, p);
     for q in rows.owned_by(o, Kind::Requirement) {
-        fill(rows, &mut free, o, activity, q, found);
+        fill(rows.owners(), &mut free, o, activity, q, found);
     }
 }

@@ -143,3 +143,14 @@ module _ (rows : List ℤ) where
     small = λ k l. let z = leb-false 9007199254740992 (get_or need k 0) (large_here k t l ∙ all_within e k l) in omega arith;
     past = t.past;
   }
+
+-- ---- what a booking needs besides its own setup
+
+module _ (rows : List ℤ) {need : List ℕ} (h : Needs rows need) (k : ℕ) (l : k < row_count rows) where
+  pub rest_small : get_or need k 0 < 9007199254740992
+  rest_small = h.small k l
+
+  pub rest_needed : (a : ℕ) → is rows k 0 23 ≡ true → place_of rows 2 (num rows k 1) ≡ Some a
+      → num rows k 6 + get_or need k 0 ≡ needed_ms (sheet rows) (activity_of rows a) (assignment_of rows k) (runs_on (sheet rows) (assignment_of rows k))
+  rest_needed a b q =
+      sym (h.at k (assignment_of rows k) (activity_of rows a) l (assignment_row rows k b) (find_activity_lem rows (num rows k 1) ∙ ap (λ x. option x None (λ j. Some (activity_of rows j))) q))

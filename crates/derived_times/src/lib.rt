@@ -16,19 +16,24 @@ ghost use Rattle.model.specs.Activity.{piece_of};
 ghost use Rattle.model.specs.Schedule.{assignment_at};
 ghost use Rattle.model.specs.inner.Records.{activity_of, assignment_of};
 ghost use Rattle.pieces.specs.inner.Bookings.{in_piece};
-ghost use Rattle.pieces.specs.inner.Held.{held_at, Held};
+ghost use Rattle.pieces.specs.inner.Held.{held_at};
 ghost use Rattle.derived_times.specs.inner.Rows.{columns_of, part_at, timing_of, timing_place, earlier_of, timed_at, Timings};
 ghost use Rattle.derived_times.specs.Times.{derived, is_too_large, time_refusal};
 ghost use Rattle.derived_times.specs.inner.Needs.{rest_ms, rest_at, Times};
 
+pub mod timed_sheet;
+
 use owners::{LinkIndex, OwnerIndex, Owners};
+use pieces::{HeldMarks, MarkedRows};
 use refusals::{Reason, Verdict};
 use resource_timing::{ActivityDuration, Derived, Piece, ResourceTiming, Timed};
 use rounding::TooLarge;
 use rows::Kind;
 use sheet::{Found, Rows};
+pub use timed_sheet::TimedSheet;
 
-// 2^53: no time that is not refused reaches it.
+// 2^53, which no time reaches that is not refused, stands for one that is: with an Option at each row the table of a call would take 6,400 bytes
+// more than the stack that the header states.
 const REFUSED: u64 = 9007199254740992;
 
 // ---- timings
@@ -77,24 +82,24 @@ pub fn timings_of(rows: &Owners) -> [u16; 800]
 }
 
 // A duration in three columns from c on.
-fn duration_at(rows: &Owners, k: usize, c: usize) -> ActivityDuration
+fn duration_at(rows: &[i64], k: usize, c: usize) -> ActivityDuration
     requires { c < 8 }
     ensures { result ≡ columns_of rows.now k c }
 {
     ActivityDuration {
-        setup_ms: rows.num(k, c),
-        process_ms: rows.num(k, c + 1),
-        teardown_ms: rows.num(k, c + 2),
+        setup_ms: rows::num_at(rows, k, c),
+        process_ms: rows::num_at(rows, k, c + 1),
+        teardown_ms: rows::num_at(rows, k, c + 2),
     }
 }
 
 // The timing of row i, of kind 9 or 10.
 #[tactic(auto, unfolding(crate::specs::inner::Rows::timing_of))]
-fn timing_at(rows: &Owners, i: usize) -> ResourceTiming
+fn timing_at(rows: &[i64], i: usize) -> ResourceTiming
     ensures { result ≡ timing_of rows.now i }
 {
-    if rows.is_of_kind(i, Kind::Speed) {
-        ResourceTiming::Speed(rounding::float_from_bits(rows.num(i, 3)))
+    if rows::is_of_kind(rows, i, Kind::Speed) {
+        ResourceTiming::Speed(rounding::float_from_bits(rows::num_at(rows, i, 3)))
     } else {
         ResourceTiming::Duration(duration_at(rows, i, 3))
     }
@@ -117,23 +122,20 @@ fn rest_ms(d: Derived) -> u64
 // The timings are found with the value and held in it: it is made once for a sheet, and no caller lends room for them.
 #[derive(Drop)]
 pub struct Bookings<'a> {
-    rows: &'a Owners<'a>,
-    held: &'a [u8; 800],
+    rows: &'a MarkedRows<'a>,
     timings: [u16; 800],
     ghost accepted: { Accepted rows.now },
-    ghost held_rows: { Held rows.now held.now },
     ghost timed: { Timings rows.now timings },
 }
 
 impl<'a> Bookings<'a> {
-    pub fn new(rows: &'a Owners<'a>, held: &'a [u8; 800]) -> Bookings<'a>
-        requires { Accepted rows.now × Held rows.now held.now }
+    pub fn new(rows: &'a MarkedRows<'a>) -> Bookings<'a>
+        requires { Accepted rows.now }
         ensures { result.rows.now ≡ rows.now }
     {
         Bookings {
             rows,
-            held,
-            timings: timings_of(rows),
+            timings: timings_of(rows.owners()),
         }
     }
 
@@ -172,8 +174,7 @@ impl<'a> Bookings<'a> {
         requires { j < row_count self.now.rows.now }
         ensures { result ≡ (in_piece self.now.rows.now k j && not (held_at self.now.rows.now j)) }
     {
-        let rows = self.rows.as_slice();
-        pieces::in_piece(rows, k, j) && !pieces::is_marked(rows, self.held, j)
+        pieces::in_piece(self.rows.as_slice(), k, j) && !self.rows.is_held(j)
     }
 
     // One booking more, where booking k's piece runs on it.
@@ -185,7 +186,7 @@ impl<'a> Bookings<'a> {
             return f;
         }
         match self.timing_of(j) {
-            Some(i) => f.on(piece, timing_at(self.rows, i)),
+            Some(i) => f.on(piece, timing_at(self.rows.as_slice(), i)),
             None => f,
         }
     }
@@ -210,7 +211,7 @@ impl<'a> Bookings<'a> {
     {
         let piece = self.piece_at(o, k);
         let f = self.timed_of(o, k, piece);
-        f.duration(piece, duration_at(self.rows, o, 4))
+        f.duration(piece, duration_at(self.rows.as_slice(), o, 4))
     }
 
     // What row k needs besides its own setup, where it is a booking of a known activity; 2^53 where its time is refused.
@@ -231,11 +232,11 @@ impl<'a> Bookings<'a> {
 
 // What each booking of a known activity needs besides its own setup.
 #[tactic(auto, using(loops::proofs::StoreLaws::filled_start, crate::proofs::Parts::times_next, crate::proofs::Parts::times_end))]
-pub fn needs_of(rows: &Owners, held: &[u8; 800]) -> [u64; 800]
-    requires { Accepted rows.now × Held rows.now held.now }
+pub fn needs_of(rows: &MarkedRows) -> [u64; 800]
+    requires { Accepted rows.now }
     ensures { Times rows.now result }
 {
-    let bookings = Bookings::new(rows, held);
+    let bookings = Bookings::new(rows);
     let mut need = [0u64; 800];
     for k in 0..rows.row_count() {
         need[k] = bookings.rest_at(k);

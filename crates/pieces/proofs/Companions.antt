@@ -14,7 +14,6 @@ use Rattle.loops.proofs.ListLaws.{any_map, any_keep, any_collect}
 use Rattle.loops.proofs.NumberLaws.{eqb_swap}
 use Rattle.loops.proofs.SearchLaws.{any_none, none_below}
 use Rattle.loops.proofs.PlaceLaws.{any_same}
-use Rattle.loops.proofs.StoreLaws.{filled_start}
 use Rattle.rows.specs.Cells.{row_count, cell, num, is}
 use Rattle.rows.specs.declared.Class.TheVariants.{OptionalNumber}
 use Rattle.rows.specs.Ranges.{is_none, in_class}
@@ -31,6 +30,7 @@ use Rattle.definition.specs.Pieces.{index_of, same_index, of_piece, held_among, 
 use Rattle.pieces.specs.inner.Bookings.{key_at, in_piece, names, holds_for}
 use Rattle.pieces.specs.inner.Held.{held_at, Held}
 use Rattle.pieces.proofs.Indices.{index_in, same_key, index_in_lem}
+use Rattle.pieces.proofs.Marks.{unmarked}
 
 module _ (rows : List ℤ) where
   -- ---- a booking's row
@@ -160,9 +160,9 @@ module _ (rows : List ℤ) where
         go true g = held_booking acc k m g ∙ none_below _ (row_count rows) (λ j _. not_holding k j)
         go false g = held_none_lem k g
 
-    pub none_held : row_count rows ≤ 800 → Held rows (replicate 800 0)
+    pub none_held : row_count rows ≤ 800 → Held rows (replicate 800 false)
     none_held s = record {
       short = s;
-      at = λ k m. (filled_start (λ _. 0)).rest k (omega arith) ∙ sym (ap (λ b. cond b 1 0) (not_held_lem k m));
-      past = λ k m. (filled_start (λ _. 0)).rest k (omega arith);
+      at = λ k m. unmarked k ∙ sym (not_held_lem k m);
+      past = λ k m. unmarked k;
     }

@@ -1,44 +1,51 @@
--- Marks, 1 or 0 for each row. Assumes nothing.
-use Prim.Native.Nat.{ℕ, ◌+◌, ◌<◌, ◌≤◌}
-use mathlib.Core.Path.{◌≡◌, refl, sym, ap, ◌∙◌}
-use mathlib.Core.Bool.{Bool, true, false, cond}
+-- Marks, true or false for each row. Assumes nothing.
+use Prim.Native.Nat.{ℕ, zero, suc, ◌+◌, ◌<◌, ◌≤◌}
+use mathlib.Core.Path.{◌≡◌, refl, sym, ◌∙◌}
+use mathlib.Core.Bool.{Bool, true, false}
 use mathlib.Core.List.{List}
 use native.Mathlib.Omega.{arith}
-use lib.Dec.{eqb}
+use native.Mathlib.Decide.{ℕ_discrete}
 use lib.IntN.{ℤ}
-use mir.Val.{bool_byte}
-use lib.ListN.{get_or, set}
-use borrow.Author.Tests.{eq-eqb}
-use Rattle.loops.proofs.BoolLaws.{bit}
-use Rattle.loops.proofs.StoreLaws.{Filled, filled_turn}
+use lib.ListN.{length, get_or, set, replicate, length-set, length-replicate}
+use lib.Seq.{get_or-set_same, get_or-set_other}
 use Rattle.rows.specs.Cells.{row_count}
-use Rattle.pieces.specs.inner.Bookings.{first_on, Marks}
-use Rattle.pieces.specs.inner.Held.{held_at, Held}
+use Rattle.pieces.specs.inner.Bookings.{Marks}
 
 -- a mark tells what it marks
-pub mark_is : {x : ℕ} (b : Bool) → x ≡ cond b 1 0 → eqb x 1 ≡ b
-mark_is b e = ap (λ x. eqb x 1) e ∙ bit b
-
-module _ (rows : List ℤ) (t : List ℕ) {j : ℕ} (h : Marks rows (first_on rows) t) (l : j < row_count rows) where
-  pub marked_first : get_or t j 0 ≡ 1 → first_on rows j ≡ true
-  marked_first e = sym (mark_is (first_on rows j) (h.at j l)) ∙ eq-eqb (get_or t j 0) 1 e
-
-pub marked_held : (rows : List ℤ) {t : List ℕ} {k : ℕ} → Held rows t → k < row_count rows → eqb (get_or t k 0) 1 ≡ held_at rows k
-marked_held rows {t} {k} h l = mark_is (held_at rows k) (h.at k l)
+pub mark_is : (rows : List ℤ) {f : ℕ → Bool} {t : List Bool} {k : ℕ} → Marks rows f t → k < row_count rows → get_or t k false ≡ f k
+mark_is rows {k = k} h l = h.at k l
 
 -- ---- a loop that marks row by row
 
--- the rows below k are marked
-abbrev pub Marking : (ℕ → Bool) → ℕ → List ℕ → Type 0
-Marking f = Filled (λ j. cond (f j) 1 0)
+-- the rows below k are marked, the others are not yet
+pub record Marking (f : ℕ → Bool) (k : ℕ) (t : List Bool) : Type 0 where
+  pub size : length t ≡ 800
+  pub at : (j : ℕ) → j < k → get_or t j false ≡ f j
+  pub rest : (j : ℕ) → k ≤ j → get_or t j false ≡ false
 
-byte : (b : Bool) → bool_byte b ≡ cond b 1 0
-byte true = refl
-byte false = refl
+pub unmarked : (j : ℕ) → get_or (replicate 800 false) j false ≡ false
+unmarked j = go 800 j
+  where
+    go : (n j : ℕ) → get_or (replicate n false) j false ≡ false
+    go zero j = refl
+    go (suc n) zero = refl
+    go (suc n) (suc j) = go n j
 
+pub marking_start : (f : ℕ → Bool) → Marking f 0 (replicate 800 false)
+marking_start f = record { size = length-replicate {A = Bool} 800 false; at = λ j l. absurd (omega arith); rest = λ j l. unmarked j }
+
+-- the rows that a table of marks says something of
 module _ (rows : List ℤ) (f : ℕ → Bool) {n : ℕ} (q : n ≡ row_count rows) (s : row_count rows ≤ 800) where
-  pub marking_turn : {k v : ℕ} {b : Bool} (t : List ℕ) → k < n → v ≡ bool_byte b → b ≡ f k → Marking f k t → Marking f (k + 1) (set t k v)
-  marking_turn {b = b} t l e g h = filled_turn _ _ _ t _ (omega arith) (e ∙ byte b ∙ ap (λ x. cond x 1 0) g) refl h
+  pub marking_turn : {k : ℕ} {b : Bool} (t : List Bool) → k < n → b ≡ f k → Marking f k t → Marking f (k + 1) (set t k b)
+  marking_turn {k} {b} t l e h = record {
+    size = length-set t k b ∙ h.size;
+    at = λ j m. go j m (ℕ_discrete j k);
+    rest = λ j m. get_or-set_other t k j b false (λ z. omega arith) ∙ h.rest j (omega arith);
+  }
+    where
+      go : (j : ℕ) → j < k + 1 → Dec (j ≡ k) → get_or (set t k b) j false ≡ f j
+      go j m (yes z) = rw z (get_or-set_same t k b false (omega (arith, h.size)) ∙ e)
+      go j m (no z) = get_or-set_other t k j b false z ∙ h.at j (omega arith)
 
-  pub marking_end : (k : ℕ) {t : List ℕ} → n ≤ k → k ≤ n → Marking f k t → Marks rows f t
+  pub marking_end : (k : ℕ) {t : List Bool} → n ≤ k → k ≤ n → Marking f k t → Marks rows f t
   marking_end k u l h = record { short = s; at = λ j b. h.at j (omega arith); past = λ j b. h.rest j (omega arith) }

@@ -13,11 +13,14 @@ ghost use Rattle.owners.specs.inner.Owners.{owned_by};
 ghost use Rattle.pieces.specs.inner.Bookings.{index_key, key_at, in_piece, same_booking, first_on, Marks, Tells, names, holds_for};
 ghost use Rattle.pieces.specs.inner.Held.{held_at, Held};
 
+pub mod marked_rows;
+
+pub use marked_rows::{HeldMarks, MarkedRows};
 use owners::{ByOwner, LinkIndex, OwnerIndex, Owners};
 use rows::Kind;
 use sheet::{ByKind, Found, KindIndex, Rows};
 
-// A part index as a number: index + 1000001, and 0 for none.
+// A part index as a number: index + 1000001, and 0 for none, which comes before every index: so pieces are compared and ordered as numbers.
 pub fn index_key(x: i64) -> u64
     ensures { result ≡ index_key x }
 {
@@ -93,21 +96,21 @@ fn first_at(rows: &ByKind, k: usize) -> bool
     rows.is_of_kind(k, Kind::Booking) && is_first(rows, k)
 }
 
-// 1 at each row that passes a test, 0 at the others and past the last one.
-fn marks_of<F: Fn(usize) -> bool>(rows: &[i64], test: F) -> [u8; 800]
+// True at each row that passes a test, false at the others and past the last one.
+fn marks_of<F: Fn(usize) -> bool>(rows: &[i64], test: F) -> [bool; 800]
     requires few { row_count rows.now ≤ 800 }
     requires callable { (k : ℕ) → k < row_count rows.now → F.pre test k }
     ensures { (f : ℕ → Bool) → Tells rows.now (F.post test) f → Marks rows.now f result }
 {
-    let mut marks = [0u8; 800];
+    let mut marks = [false; 800];
     for k in 0..rows::row_count(rows) {
-        marks[k] = u8::from(test(k));
+        marks[k] = test(k);
     }
     marks
 }
 
-// 1 at each booking that is the first of its piece on its resource.
-fn firsts_of(rows: &ByKind) -> [u8; 800]
+// True at each booking that is the first of its piece on its resource.
+fn firsts_of(rows: &ByKind) -> [bool; 800]
     ensures { Marks rows.now (first_on rows.now) result }
 {
     marks_of(rows.as_slice(), |k| first_at(rows, k))
@@ -115,61 +118,86 @@ fn firsts_of(rows: &ByKind) -> [u8; 800]
 
 // ---- who is held
 
-// Whether r is a companion of the resource of booking j.
-fn is_companion(rows: &Owners, j: usize, r: u64) -> bool
-    requires { Accepted rows.now × (j < row_count rows.now) × (is rows.now j 0 23 ≡ true) }
-    ensures { result ≡ any_below (names rows.now 13 (num rows.now j 3) r) (row_count rows.now) }
-{
-    let Found::At(o) = rows.booked_resource(j) else {
-        return false;
-    };
-    find_naming(&rows.by_owner(), o, Kind::Companion, rows.num(j, 3), r).is_some()
+// The rows of an accepted sheet, with which bookings are the first of their pieces on their resources: who holds whom is found by it.
+#[derive(Drop)]
+struct Holders<'a> {
+    rows: &'a ByKind<'a>,
+    owners: &'a Owners<'a>,
+    firsts: [bool; 800],
+    ghost accepted: { Accepted rows.now },
+    ghost same_rows: { owners.now ≡ rows.now },
+    ghost marked: { Marks rows.now (first_on rows.now) firsts },
 }
 
-// Whether booking j is of booking k's piece, on a resource that k's resource is a companion of.
-#[tactic(auto, unfolding(crate::specs::inner::Bookings::holds_for))]
-fn holds_for(rows: &Owners, k: usize, j: usize) -> bool
-    requires { Accepted rows.now × (j < row_count rows.now) × (is rows.now j 0 23 ≡ true) }
-    ensures { result ≡ holds_for rows.now k j }
-{
-    let r = rows.num(k, 3);
-    !rows.has(j, 3, r) && is_companion(rows, j, r) && in_piece(rows.as_slice(), k, j)
+impl<'a> Holders<'a> {
+    fn new(rows: &'a ByKind<'a>, owners: &'a Owners<'a>) -> Holders<'a>
+        requires { Accepted rows.now × (owners.now ≡ rows.now) }
+        ensures { result.rows.now ≡ rows.now }
+    {
+        Holders {
+            rows,
+            owners,
+            firsts: firsts_of(rows),
+        }
+    }
+
+    // Whether r is a companion of the resource of booking j.
+    fn is_companion(&self, j: usize, r: u64) -> bool
+        requires { (j < row_count self.now.rows.now) × (is self.now.rows.now j 0 23 ≡ true) }
+        ensures { result ≡ any_below (names self.now.rows.now 13 (num self.now.rows.now j 3) r) (row_count self.now.rows.now) }
+    {
+        let Found::At(o) = self.owners.booked_resource(j) else {
+            return false;
+        };
+        let by_owner = self.owners.by_owner();
+        find_naming(&by_owner, o, Kind::Companion, self.rows.num(j, 3), r).is_some()
+    }
+
+    // Whether booking j is of booking k's piece, on a resource that k's resource is a companion of.
+    #[tactic(auto, unfolding(crate::specs::inner::Bookings::holds_for))]
+    fn holds_for(&self, k: usize, j: usize) -> bool
+        requires { (j < row_count self.now.rows.now) × (is self.now.rows.now j 0 23 ≡ true) }
+        ensures { result ≡ holds_for self.now.rows.now k j }
+    {
+        let r = self.rows.num(k, 3);
+        !self.rows.has(j, 3, r) && self.is_companion(j, r) && in_piece(self.rows.as_slice(), k, j)
+    }
+
+    // The same, where booking j is the first of its resource: the others hold what it holds.
+    #[tactic(auto, using(crate::proofs::Chains::first_kind, crate::proofs::Marks::mark_is))]
+    fn first_holds(&self, k: usize, j: usize) -> bool
+        requires { j < row_count self.now.rows.now }
+        ensures { result ≡ (first_on self.now.rows.now j && holds_for self.now.rows.now k j) }
+    {
+        self.firsts[j] && self.holds_for(k, j)
+    }
+
+    // Whether a booking of booking k's piece holds k's resource as a companion.
+    fn is_held(&self, k: usize) -> bool
+        ensures { result ≡ any_below (holds_for self.now.rows.now k) (row_count self.now.rows.now) }
+    {
+        self.rows
+            .named(Kind::Booking, self.rows.num(k, 1))
+            .any(|j| self.first_holds(k, j))
+    }
+
+    // Whether row k is a booking that is held.
+    #[tactic(auto, using(crate::proofs::Companions::held_told))]
+    fn held_at(&self, k: usize) -> bool
+        requires { k < row_count self.now.rows.now }
+        ensures { result ≡ held_at self.now.rows.now k }
+    {
+        self.rows.is_of_kind(k, Kind::Booking) && self.is_held(k)
+    }
 }
 
-// The same, where booking j is the first of its resource: the others hold what it holds.
-#[tactic(auto, using(crate::proofs::Chains::first_kind, crate::proofs::Marks::marked_first))]
-fn first_holds(rows: &Owners, firsts: &[u8; 800], k: usize, j: usize) -> bool
-    requires { Accepted rows.now × Marks rows.now (first_on rows.now) firsts.now × (j < row_count rows.now) }
-    ensures { result ≡ (first_on rows.now j && holds_for rows.now k j) }
-{
-    firsts[j] == 1 && holds_for(rows, k, j)
-}
-
-// Whether a booking of booking k's piece holds k's resource as a companion.
-fn is_held(rows: &ByKind, owners: &Owners, firsts: &[u8; 800], k: usize) -> bool
-    requires { Accepted rows.now × Marks rows.now (first_on rows.now) firsts.now × (owners.now ≡ rows.now) }
-    ensures { result ≡ any_below (holds_for rows.now k) (row_count rows.now) }
-{
-    rows.named(Kind::Booking, rows.num(k, 1))
-        .any(|j| first_holds(owners, firsts, k, j))
-}
-
-// Whether row k is a booking that is held.
-#[tactic(auto, using(crate::proofs::Companions::held_told))]
-fn held_at(rows: &ByKind, owners: &Owners, firsts: &[u8; 800], k: usize) -> bool
-    requires { Accepted rows.now × Marks rows.now (first_on rows.now) firsts.now × (owners.now ≡ rows.now) × (k < row_count rows.now) }
-    ensures { result ≡ held_at rows.now k }
-{
-    rows.is_of_kind(k, Kind::Booking) && is_held(rows, owners, firsts, k)
-}
-
-// 1 at each booking that is held, each looked at.
-fn held_marks(rows: &ByKind, owners: &Owners) -> [u8; 800]
+// True at each booking that is held, each looked at.
+fn held_marks(rows: &ByKind, owners: &Owners) -> [bool; 800]
     requires { Accepted rows.now × (owners.now ≡ rows.now) }
     ensures { Held rows.now result }
 {
-    let firsts = firsts_of(rows);
-    marks_of(rows.as_slice(), |k| held_at(rows, owners, &firsts, k))
+    let holders = Holders::new(rows, owners);
+    marks_of(rows.as_slice(), |k| holders.held_at(k))
 }
 
 // Whether the sheet has a row that names a companion.
@@ -179,21 +207,22 @@ fn names_companions(rows: &ByKind) -> bool
     rows.of_kind(Kind::Companion).next().is_some()
 }
 
-// 1 at each booking that is held. Where the sheet names no companions that is none.
-pub fn held_of(rows: &ByKind, owners: &Owners) -> [u8; 800]
+// True at each booking that is held. Where the sheet names no companions that is none.
+pub fn held_of(rows: &ByKind, owners: &Owners) -> [bool; 800]
     requires { Accepted rows.now × (owners.now ≡ rows.now) }
     ensures { Held rows.now result }
 {
     if names_companions(rows) {
         return held_marks(rows, owners);
     }
-    [0u8; 800]
+    [false; 800]
 }
 
 // Whether booking k is held, by the marks.
-pub fn is_marked(rows: &[i64], held: &[u8; 800], k: usize) -> bool
+#[tactic(auto, using(crate::proofs::Marks::mark_is))]
+pub fn is_marked(rows: &[i64], held: &[bool; 800], k: usize) -> bool
     requires { Held rows.now held.now × (k < row_count rows.now) }
     ensures { result ≡ held_at rows.now k }
 {
-    held[k] == 1
+    held[k]
 }

@@ -8,5 +8,5 @@ unfolding claims_of
 loop-q-preserved c =
     let e = c.in-Some.ensures.steps in
     let i = c.loop-q.invariant in
-    let a = c.fill.ensures in
+    let a = rw c.owners.ensures at c.fill.ensures in
     (left_next _ _ e i.0, a.size, rw a.left (tell_turn _ _ _ a.wrote (rw e at i.2)))

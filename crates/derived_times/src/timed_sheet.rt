@@ -1,0 +1,108 @@
+// A sheet with who is held and what each booking needs as one value.
+ghost use Rattle.std.specs.Prelude.{◌≡◌, ◌+◌, ◌<◌, Some, true};
+ghost use Rattle.rows.specs.Cells.{row_count, num, is};
+ghost use Rattle.sheet.specs.Places.{place_of};
+ghost use Rattle.model.specs.Sheet.{sheet};
+ghost use Rattle.model.specs.Activity.{needed_ms};
+ghost use Rattle.model.specs.inner.Records.{activity_of, assignment_of};
+ghost use Rattle.definition.specs.Pieces.{runs_on};
+ghost use Rattle.pieces.specs.inner.Held.{Held};
+ghost use Rattle.derived_times.specs.inner.Needs.{Needs};
+
+use model::Sheet;
+use owners::{LinkIndex, OwnerIndex};
+use pieces::HeldMarks;
+use sheet::{KindIndex, Rows};
+use std::marker::Model;
+
+// A sheet that refusals 1 to 6 let pass, with who is held and what each booking needs; seen as the rows.
+#[derive(Drop)]
+pub struct TimedSheet<'a> {
+    sheet: &'a Sheet<'a>,
+    held: &'a [bool; 800],
+    need: &'a [u64; 800],
+}
+
+impl<'a> Model for TimedSheet<'a> {
+    ghost use Rattle.std.specs.Prelude.{List, ℤ};
+    ghost use Rattle.pieces.specs.inner.Held.{Held};
+    ghost use Rattle.derived_times.specs.inner.Needs.{Needs};
+
+    ghost Value = { List ℤ };
+
+    ghost view = { λ s. s.sheet.now };
+
+    ghost invariant = { λ s. Held s.sheet.now s.held.now × Needs s.sheet.now s.need.now };
+}
+
+impl<'a> TimedSheet<'a> {
+    pub fn new(sheet: &'a Sheet<'a>, held: &'a [bool; 800], need: &'a [u64; 800]) -> TimedSheet<'a>
+        requires { Held sheet.now held.now × Needs sheet.now need.now }
+        ensures { result ≡ sheet.now }
+    {
+        TimedSheet { sheet, held, need }
+    }
+
+    // The sheet alone.
+    pub fn sheet(&self) -> &'a Sheet<'a>
+        ensures { result.now ≡ self.now }
+    {
+        self.sheet
+    }
+
+    // What each booking needs besides its own setup.
+    pub fn need(&self) -> &'a [u64; 800]
+        ensures { Needs self.now result.now }
+    {
+        self.need
+    }
+
+    // What booking k, of the activity of row a, needs besides its own setup.
+    #[tactic(auto, using(crate::proofs::Refusing::rest_needed, crate::proofs::Refusing::rest_small))]
+    pub fn rest_ms(&self, a: usize, k: usize) -> u64
+        requires { (k < row_count self.now) × (is self.now k 0 23 ≡ true) × (place_of self.now 2 (num self.now k 1) ≡ Some a) }
+        ensures value { num self.now k 6 + result ≡ needed_ms (sheet self.now) (activity_of self.now a) (assignment_of self.now k) (runs_on (sheet self.now) (assignment_of self.now k)) }
+        ensures bound { result < 9007199254740992 }
+    {
+        let need = self.need;
+        need[k]
+    }
+}
+
+impl<'a> Rows for TimedSheet<'a> {
+    ghost use Rattle.std.specs.Prelude.{None, ◌≡◌, ◌≤◌};
+    ghost use Rattle.rows.specs.Cells.{row_count};
+    ghost use Rattle.sheet.specs.Refusals.{refusal_of};
+
+    ghost rows = { λ s. s };
+
+    ghost known = { λ rows. (refusal_of rows ≡ None) × (row_count rows ≤ 800) };
+
+    fn as_slice(&self) -> &[i64] {
+        self.sheet.as_slice()
+    }
+}
+
+impl<'a> KindIndex for TimedSheet<'a> {
+    fn kinds(&self) -> &[u16; 3680] {
+        self.sheet.kinds()
+    }
+}
+
+impl<'a> LinkIndex for TimedSheet<'a> {
+    fn links(&self) -> &[u16; 1600] {
+        self.sheet.links()
+    }
+}
+
+impl<'a> OwnerIndex for TimedSheet<'a> {
+    fn owned(&self) -> &[u16; 8810] {
+        self.sheet.owned()
+    }
+}
+
+impl<'a> HeldMarks for TimedSheet<'a> {
+    fn held(&self) -> &[bool; 800] {
+        self.held
+    }
+}
