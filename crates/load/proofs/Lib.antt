@@ -1,4 +1,5 @@
 pub mod Caps
+pub mod Finding
 pub mod Firsts
 pub mod Gathering
 pub mod Loads

@@ -57,12 +57,8 @@ impl<'a> Iterator for FirstBookings<'a> {
     ghost remaining = { item_count (λ rest. rest) };
 
     fn next(&mut self) -> Option<usize> {
-        while let Some(k) = self.left.next() {
-            if is_first(self.rows, k) {
-                return Some(k);
-            }
-        }
-        None
+        let rows = self.rows;
+        self.left.find(|&k| is_first(rows, k))
     }
 }
 

@@ -12,26 +12,19 @@ ghost use Rattle.printing.specs.Printed.{printed_refused, printed_accepted, prin
 
 use refusals::{Answer, Refusal};
 
-fn digit(d: u64) -> u8
-    requires { d < 10 }
-    ensures { result ≡ 48 + d }
-{
-    b'0' + d as u8
-}
-
 // A number in decimal digits. Not by `write!`: what does not fit is dropped here, and a writer that drops bytes has no contents that a clause could name.
 fn put_decimal(out: &mut [u8], at: usize, n: u64) -> usize
     requires { at ≤ length out.old }
     ensures { Wrote out.old at out.new result (decimal n) }
 {
     if n < 10 {
-        return lent_room::put(out, at, digit(n));
+        return lent_room::put(out, at, b'0' + n as u8);
     }
     let next = put_decimal(out, at, n / 10);
-    lent_room::put(out, next, digit(n % 10))
+    lent_room::put(out, next, b'0' + (n % 10) as u8)
 }
 
-// A number with a minus where it is negative.
+// A number with a minus where it is negative. Not by `write!`, for the same reason.
 fn put_signed(out: &mut [u8], at: usize, z: i64) -> usize
     requires { at ≤ length out.old }
     ensures { Wrote out.old at out.new result (spelling z) }

@@ -1,8 +1,7 @@
 // When a task completes and when an activity runs, of models/schedule.rs and `activity_span` of scheduler/feasibility.rs.
 #![tactic(auto)]
 
-ghost use Rattle.std.specs.Prelude.{◌≡◌, pos};
-ghost use Rattle.std.specs.Prelude.{None};
+ghost use Rattle.std.specs.Prelude.{◌≡◌, pos, None};
 ghost use Rattle.calendar.specs.Clock.{clock};
 ghost use Rattle.loops.specs.Range.{fold};
 ghost use Rattle.loops.specs.inner.Chain.{only_at};
@@ -26,20 +25,13 @@ pub fn instant_at(rows: &[i64], k: usize, c: usize) -> Option<u64>
     u64::try_from(rows::cell_at(rows, k, c)).ok()
 }
 
-// The later of what there is and x.
-fn later_of(e: Option<u64>, x: u64) -> Option<u64>
-    ensures { meant result ≡ later_of clock (meant e) (pos x) }
-{
-    Some(e.map_or(x, |a| a.max(x)))
-}
-
 // The end in column c of row k, where the row is of the task, if it is later.
 #[tactic(auto, unfolding(crate::specs::inner::Instants::end_if))]
 fn end_if(rows: &ByKind, e: Option<u64>, k: usize, c: usize, task: u64) -> Option<u64>
     ensures { meant result ≡ end_if rows.now c task (meant e) k }
 {
     if rows.has(k, 2, task) {
-        later_of(e, rows.num(k, c))
+        e.max(Some(rows.num(k, c)))
     } else {
         e
     }

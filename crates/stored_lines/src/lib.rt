@@ -56,14 +56,6 @@ pub fn piece_of(line: &[u8]) -> &[u8]
     after(rest, text_fields::first_part(rest, b',').len())
 }
 
-// What lies between two places of a list.
-pub fn between(list: &[u8], from: usize, to: usize) -> &[u8]
-    requires { (from ≤ to) × (to ≤ length list.now) }
-    ensures { result.now ≡ take (to - from) (drop from list.now) }
-{
-    &list[from..to]
-}
-
 // ---- whether the lines of a case are formed
 
 // Whether every field of a line is a number or none.

@@ -121,6 +121,7 @@ pub struct Run {
     pub passed: u64,
 }
 
+// Not `saturating_add`: the count stops at a million, far below what a number holds, and no number above is cut.
 fn one_more(n: u64) -> u64
     ensures { result ≡ more n }
 {
@@ -208,9 +209,9 @@ fn replay_list<F: Fn(&Gathered) -> bool>(
     while at < list.len() {
         let case = stored_lines::case_at(list, at);
         let outcome = judge(
-            stored_lines::between(list, at, case.end),
-            stored_lines::between(list, at, case.line),
-            stored_lines::between(list, case.line, case.end),
+            &list[at..case.end],
+            &list[at..case.line],
+            &list[case.line..case.end],
             passes,
         );
         name_failed(rt, name, list, at, outcome)?;
@@ -336,6 +337,8 @@ pub fn verdict_passes(judging: &[i64], verdict: Verdict) -> bool
 
 // ---- room
 
+// Arrays, since programs have no heap; a case that has more than fits fails.
+
 // Room for the numbers of a case, or for those that a case is to give; what is not written to is still 7.
 pub fn sevens() -> [i64; 8210]
     ensures value { 8210 ≡ length result }
@@ -369,7 +372,7 @@ pub fn no_list() -> [u8; 262144]
 }
 
 // Reads from a file until its end, an error or the end of the room, and gives how many bytes were read. Steps of any length, and no index
-// that counts them.
+// that counts them. `speed` has the same few lines: it shares no crate that reads with this one.
 fn read_whole(from: &mut impl Read, room: &mut [u8]) -> usize
     ensures { result ≤ length room.new }
 {
