@@ -48,18 +48,12 @@ fn unreached_at(rows: &Owners, before: usize, after: usize, from: u64, k: usize)
 }
 
 // Whether a piece of the activity of row `after`, which is booked, starts before the work reaches it.
-#[tactic(auto, using(chains::proofs::PlaceLaws::left_all), unfolding(loops::specs::Lists::any_of))]
 fn any_unreached(rows: &Owners, before: usize, after: usize, from: u64) -> bool
     requires { Accepted rows.now × (before < row_count rows.now) × (is rows.now before 0 2 ≡ true) × (after ≤ row_count rows.now) × (from ≤ 4000000000000) }
     ensures { result ≡ any_of (unreached_at rows.now (num rows.now before 1) from) (places (owned_by rows.now after 23) (row_count rows.now)) }
 {
-    // A loop, not `.any`: `unreached_at` asks that booking k belongs to the row, which a closure is not told.
-    for k in rows.owned_by(after, Kind::Booking) {
-        if unreached_at(rows, before, after, from, k) {
-            return true;
-        }
-    }
-    false
+    rows.owned_by(after, Kind::Booking)
+        .any(|k| unreached_at(rows, before, after, from, k))
 }
 
 // Whether a piece of the activity of row `after` starts before the work, done at `from` by the activity of row `before`, reaches it.

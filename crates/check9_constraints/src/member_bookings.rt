@@ -29,10 +29,6 @@ pub fn gather_bookings(rows: &ByKind, place: u64, resource: u64, list: &mut Lent
 fn first_on(rows: &ByKind, activity: u64, resource: u64) -> Option<usize>
     ensures { result ≡ first_place (booked_on rows.now activity resource) (row_count rows.now) }
 {
-    for k in rows.named(Kind::Booking, activity) {
-        if rows.has(k, 3, resource) {
-            return Some(k);
-        }
-    }
-    None
+    rows.named(Kind::Booking, activity)
+        .find(|&k| rows.has(k, 3, resource))
 }
