@@ -27,7 +27,8 @@ fn has_members(rows: &OwnerLinks, k: usize) -> bool
     rows.is_of_kind(k, Kind::NoOverlap) || rows.is_of_kind(k, Kind::Synchronize)
 }
 
-// Row k names an owner that is not in the sheet. The requirement that a row names is of the row's activity.
+// Row k names an owner that is not in the sheet. The requirement that a row names is of the row's activity. Whether it is there comes first: to go by the kinds
+// first is a jump that differs from row to row, a twentieth of the validation of a week.
 #[tactic(auto, using(owners::proofs::Absent::booked))]
 fn is_unowned(rows: &OwnerLinks, k: usize) -> bool
     requires { k < row_count rows.now }

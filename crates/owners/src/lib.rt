@@ -2,7 +2,7 @@
 // belong to a row are chains of places, as the rows of a kind are.
 #![tactic(auto)]
 
-ghost use Rattle.std.specs.Prelude.{Some, ◌≡◌, suc, ◌+◌, ◌*◌, ◌%◌, ◌<◌, ◌≤◌, true, cond, length, get_or, set};
+ghost use Rattle.std.specs.Prelude.{Some, ◌≡◌, suc, ◌+◌, ◌*◌, ◌%◌, ◌<◌, ◌≤◌, true, cond, length, get_or, set, replicate};
 ghost use Rattle.loops.specs.Search.{first_place, any_below};
 ghost use Rattle.loops.specs.inner.Chain.{First, Stands, same};
 ghost use Rattle.rows.specs.Cells.{row_count, num, is};
@@ -48,18 +48,16 @@ fn number_row(t: &mut [u16; 800], next: usize, k: usize, yes: bool) -> usize
     next + 1
 }
 
-// The row of constraint place m at place m.
-fn numbers_of(rows: &[i64]) -> [u16; 800]
-    requires { row_count rows.now ≤ 800 }
-    ensures { Numbered rows.now result }
+// The row of constraint place m at place m. The table is lent: one that is returned stands twice in the caller's frame.
+fn number_rows(rows: &[i64], t: &mut [u16; 800])
+    requires { (row_count rows.now ≤ 800) × (t.old ≡ replicate 800 (row_count rows.now)) }
+    ensures { Numbered rows.now t.new }
 {
     let n = rows::row_count(rows);
-    let mut t = [n as u16; 800];
     let mut next = 0;
     for k in 0..n {
-        next = number_row(&mut t, next, k, is_constraint(rows, k));
+        next = number_row(t, next, k, is_constraint(rows, k));
     }
-    t
 }
 
 // The row of constraint place m.
@@ -159,8 +157,10 @@ pub fn links_into(rows: &ByKind, t: &mut [u16; 1600])
     requires { length t.old ≡ 1600 }
     ensures { Linked rows.now t.new }
 {
-    let n = rows.row_count();
-    let numbers = numbers_of(rows.as_slice());
+    let cells = rows.as_slice();
+    let n = rows::row_count(cells);
+    let mut numbers = [n as u16; 800];
+    number_rows(cells, &mut numbers);
     t.fill(n as u16);
     for k in 0..n {
         set_links(t, k, own_place(rows, &numbers, k), res_place(rows, k));

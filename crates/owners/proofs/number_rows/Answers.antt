@@ -1,10 +1,10 @@
-use Rattle.std.proofs.Common.{rules}
+use Rattle.std.proofs.Common.{rules, refl}
 use Rattle.loops.proofs.SearchLaws.{counted_le}
 use Rattle.owners.proofs.Tables.{numbering_start, numbering_turn, numbering_end}
-use Rattle.owners.proofs.numbers_of.Goals as goal
+use Rattle.owners.proofs.number_rows.Goals as goal
 
 pub loop-k-init : goal.loop-k-init
-loop-k-init c = numbering_start _ _ c.row_count-n.ensures
+loop-k-init c = rw c.requires.1 (numbering_start c.args.rows.now _ refl)
 
 pub number_row-next-requires : goal.number_row-next-requires
 number_row-next-requires c = (search rules, counted_le _ _ c.loop-k.invariant.count)
