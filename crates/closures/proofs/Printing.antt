@@ -1,9 +1,10 @@
 -- What stands in the buffer after the rows of a calendar were printed; 800 rows take 84,000 bytes at most. Assumes nothing.
 use Rattle.std.specs.Prelude.{Result, Ok, Err}
-use Prim.Native.Nat.{ℕ, zero, suc, ◌+◌, ◌*◌, ◌-◌, ◌/◌, ◌^◌, ◌<◌, ◌≤◌}
+use Prim.Native.Nat.{ℕ, zero, suc, ◌+◌, ◌*◌, ◌/◌, ◌^◌, ◌<◌, ◌≤◌}
 use mathlib.Core.Path.{◌≡◌, refl, sym, ap, ap₂, ◌∙◌}
 use mathlib.Core.List.{List, [], ◌∷◌, ◌++◌}
 use Rattle.std.specs.Prelude.{Option, None, Some}
+use native.Mathlib.Decide.{dec_lt}
 use native.Mathlib.Omega.{arith}
 use lib.IntN.{ℤ}
 use lib.ListN.{length, take, drop, length-append, length-take}
@@ -19,10 +20,10 @@ use Rattle.refusals.specs.Refusals.{number_of}
 use Rattle.refusals.specs.declared.Refusal.{Refusal}
 use Rattle.refusals.specs.Lending.{answered, lent_after}
 use Rattle.refusals.proofs.AnswerLaws.{no_accept, same_count}
-use Rattle.printing.specs.NumberLines.{number_line}
+use Rattle.printing.specs.NumberLines.{number_line, line_at}
 use Rattle.printing.specs.Printed.{printed_refused}
 use Rattle.printing.proofs.FitLaws.{Small, small_take, small_drop, line_length}
-use Rattle.printing.proofs.PutLaws.{wrote_line}
+use Rattle.printing.proofs.ChunkLaws.{Chunked, chunked_all}
 use Rattle.text_program.proofs.Printing.{stands, refused_first}
 use Rattle.freebusy.specs.Call.{Closure, closure_row, closures, freebusy_refusal, freebusy_answer, freebusy_after}
 use Rattle.freebusy.proofs.CallLaws.{answer_asked, after_asked, accepted_few}
@@ -31,36 +32,44 @@ use Rattle.closures.specs.inner.Bytes.{rows_bytes}
 
 -- ---- how long they can be
 
-line_most : (numbers : List ℤ) (k : ℕ) → Small numbers → length (number_line (take 5 (drop (k * 10) numbers))) ≤ 105
+line_most : (numbers : List ℤ) (k : ℕ) → Small numbers → length (number_line (take 5 (line_at 10 numbers k))) ≤ 105
+unfolding line_at
 line_most numbers k s =
-    omega
-    (arith, line_length (take 5 (drop (k * 10) numbers)) (small_take 5 (drop (k * 10) numbers) (small_drop (k * 10) numbers s)), length-take 5 (drop (k * 10) numbers))
+    let row : List ℤ = take 10 (drop (k * 10) numbers) in
+    omega (arith, line_length (take 5 row) (small_take 5 row (small_take 10 (drop (k * 10) numbers) (small_drop (k * 10) numbers s))), length-take 5 row)
 
 rows_length : (numbers : List ℤ) → Small numbers → (n : ℕ) → length (rows_bytes numbers n) ≤ 105 * n
 unfolding rows_bytes collect
 rows_length numbers s zero = omega arith
 rows_length numbers s (suc n) = simp length-append (omega (arith, rows_length numbers s n, line_most numbers n s))
 
--- ---- one row more
+-- ---- one row after the other
 
-pub wrote_row : {l m o : List ℕ} {i j : ℕ} (numbers : List ℤ) (k : ℕ) → Wrote l 0 m i (rows_bytes numbers k)
-    → Wrote m i o j (number_line (take (k * 10 + 5 - k * 10) (drop (k * 10) numbers))) → Wrote l 0 o j (rows_bytes numbers (k + 1))
+-- what is printed of a row
+abbrev pub row_bytes : List ℤ → List ℕ
+row_bytes row = number_line (take 5 row)
+
+pub wrote_rows : {l m : List ℕ} {j : ℕ} (numbers : List ℤ) (n : ℕ) {rest : List ℤ} {c : ℕ} → length numbers ≡ 8000 → n ≤ 800 → Chunked row_bytes 10 l 0 numbers n m j rest c
+    → (0 < c → length rest < 10) → Wrote l 0 m j (rows_bytes numbers n)
 unfolding rows_bytes
-wrote_row numbers k v w =
-    let five : k * 10 + 5 - k * 10 ≡ 5 = omega arith in
-    wrote_line _ k v (rw five at w)
+wrote_rows {l = l} {m = m} {j = j} numbers n {c = c} k h p e = go (dec_lt 0 c)
+  where
+    go : Dec (0 < c) → Wrote l 0 m j (collect (λ k. row_bytes (line_at 10 numbers k)) n)
+    go (yes d) = chunked_all p (omega (arith, p.whole, p.counted, k, h, e d))
+    go (no d) = chunked_all p (omega (arith, p.counted, d))
 
 -- ---- the rows of closures, whatever follows them
 
 module _ (resource : ℤ) (c : Closure) (rest : List ℤ) where
-  first_line : number_line (take 5 (drop (0 * 10) (closure_row resource c ++ rest))) ≡ closure_line resource c
-  unfolding closure_line
+  first_line : row_bytes (line_at 10 (closure_row resource c ++ rest) 0) ≡ closure_line resource c
+  unfolding closure_line line_at
   first_line = refl
 
-  next_line : (k : ℕ) → number_line (take 5 (drop (suc k * 10) (closure_row resource c ++ rest))) ≡ number_line (take 5 (drop (k * 10) rest))
+  next_line : (k : ℕ) → row_bytes (line_at 10 (closure_row resource c ++ rest) (suc k)) ≡ row_bytes (line_at 10 rest k)
+  unfolding line_at
   next_line k =
       let on : suc k * 10 ≡ 10 + k * 10 = omega arith in
-      ap (λ l. number_line (take 5 l)) (ap (λ n. drop n (closure_row resource c ++ rest)) on ∙ sym (drop-drop (k * 10) 10 (closure_row resource c ++ rest)))
+      ap (λ l. row_bytes (take 10 l)) (ap (λ n. drop n (closure_row resource c ++ rest)) on ∙ sym (drop-drop (k * 10) 10 (closure_row resource c ++ rest)))
 
 lines_are : (resource : ℤ) (cs : List Closure) (rest : List ℤ) → rows_bytes (flat_lines (closure_row resource) cs ++ rest) (length cs) ≡ each (closure_line resource) cs
 unfolding rows_bytes flat_lines each

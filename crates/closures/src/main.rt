@@ -8,16 +8,14 @@ ghost use Rattle.closures.specs.inner.Bytes.{rows_bytes};
 
 use text_program::Words;
 
-// The first n rows.
+// The first five numbers of each of the first n rows.
 fn put_rows(out: &mut [u8], rows: &[i64], n: usize) -> usize
     requires { (n ≤ 800) × (length rows.now ≡ 8000) }
     ensures { Wrote out.old 0 out.new result (rows_bytes rows.now n) }
 {
     let mut at = 0;
-    for k in 0..n {
-        let from = k * 10;
-        let to = from + 5;
-        at = printing::put_line(out, at, &rows[from..to]);
+    for row in rows.chunks_exact(10).take(n) {
+        at = printing::put_line(out, at, &row[..5]);
     }
     at
 }
@@ -28,7 +26,8 @@ fn print_closures(text: &[u8], resource: i64, out: &mut [u8]) -> usize
     ensures upper_bound { result ≤ 84000 }
     ensures out_after { take result out.new ≡ printed_closures text.now resource }
 {
-    let mut rows = text_program::no_rows();
+    // Room for 800 rows.
+    let mut rows = [0i64; 8000];
     let answer = freebusy::read_freebusy(text, resource, &mut rows);
     let rows = text_program::kept(rows);
     match answer {

@@ -4,11 +4,12 @@ use Prim.Native.Nat.{ℕ, zero, suc, ◌+◌, ◌-◌, ◌*◌, ◌<◌, ◌≤�
 use mathlib.Core.Path.{◌≡◌, refl, sym, ap, ap₂, ◌∙◌}
 use mathlib.Core.Bool.{Bool, true, false, cond}
 use mathlib.Core.List.{List, [], ◌∷◌, ◌++◌}
+use native.Mathlib.Decide.{dec_lt}
 use native.Mathlib.Omega.{arith}
 use lib.Dec.{eqb}
 use lib.IntN.{ℤ, pos}
 use lib.ListN.{length, get_or, take, drop, length-append, length-take, length-drop}
-use lib.Seq.{drop-drop, length-take-le}
+use lib.Seq.{drop-drop}
 use mir.Syntax.{w64}
 use mir.Val.{SFits, to_z, of_z}
 use mir.Facts.{to_z-of_z}
@@ -21,7 +22,7 @@ use Rattle.loops.proofs.StoreLaws.{wrote_as, wrote_then}
 use Rattle.loops.proofs.RangeLaws.{collect_zero, collect_front, collect_ext}
 use Rattle.line_buffer.specs.Lines.{flat_lines}
 use Rattle.printing.specs.NumberLines.{number_line, line_at}
-use Rattle.printing.proofs.PutLaws.{wrote_line}
+use Rattle.printing.proofs.ChunkLaws.{Chunked, chunked_all}
 use Rattle.printing.proofs.FitLaws.{Small, small_take, small_drop, line_length}
 use Rattle.margin_lines.specs.declared.lines.Margin.{Margin}
 use Rattle.margin_lines.specs.Margins.{three, flat_margins}
@@ -64,19 +65,15 @@ pub wrote_three : {l m o : List ℕ} {i j k of : ℕ} (line : List ℤ) → SFit
 unfolding line_bytes
 wrote_three line f e v w = wrote_then _ _ (wrote_as (ap word_of (e ∙ ap to_nat (to_z-of_z f))) v) (wrote_as (ap number_line (rest_is 1 line)) w)
 
--- a line that is cut out of the numbers
-pub cut_line : (numbers : List ℤ) (k n : ℕ) → k < n → n ≤ 800 → length numbers ≡ 2400 → length (take (k * 3 + 3 - k * 3) (drop (k * 3) numbers)) ≡ 3
-cut_line numbers k n h l e =
-    let three : k * 3 + 3 - k * 3 ≡ 3 = omega arith in
-    rw three (length-take-le 3 (drop (k * 3) numbers) (simp length-drop (omega arith)))
-
--- one line more
-pub wrote_margins : {l m o : List ℕ} {i j : ℕ} (numbers : List ℤ) (k : ℕ) → Wrote l 0 m i (lines_bytes numbers k)
-    → Wrote m i o j (line_bytes (take (k * 3 + 3 - k * 3) (drop (k * 3) numbers))) → Wrote l 0 o j (lines_bytes numbers (k + 1))
-unfolding lines_bytes line_at
-wrote_margins numbers k v w =
-    let three : k * 3 + 3 - k * 3 ≡ 3 = omega arith in
-    wrote_line _ k v (rw three at w)
+-- the first n lines, as the chunks of the numbers end
+pub wrote_lines : {l m : List ℕ} {j : ℕ} (numbers : List ℤ) (n : ℕ) {rest : List ℤ} {c : ℕ} → length numbers ≡ 2400 → n ≤ 800 → Chunked line_bytes 3 l 0 numbers n m j rest c
+    → (0 < c → length rest < 3) → Wrote l 0 m j (lines_bytes numbers n)
+unfolding lines_bytes
+wrote_lines {l = l} {m = m} {j = j} numbers n {c = c} k h p e = go (dec_lt 0 c)
+  where
+    go : Dec (0 < c) → Wrote l 0 m j (collect (λ k. line_bytes (line_at 3 numbers k)) n)
+    go (yes d) = chunked_all p (omega (arith, p.whole, p.counted, k, h, e d))
+    go (no d) = chunked_all p (omega (arith, p.counted, d))
 
 -- ---- the lines of margins, whatever follows them
 

@@ -36,10 +36,8 @@ fn put_margins(out: &mut [u8], lines: &[i64], n: usize) -> usize
     ensures { Wrote out.old 0 out.new result (lines_bytes lines.now n) }
 {
     let mut at = 0;
-    for k in 0..n {
-        let from = k * 3;
-        let to = from + 3;
-        at = put_margin(out, at, &lines[from..to]);
+    for line in lines.chunks_exact(3).take(n) {
+        at = put_margin(out, at, line);
     }
     at
 }

@@ -1,3 +1,4 @@
+pub mod ChunkLaws
 pub mod DecimalLaws
 pub mod Examples
 pub mod FitLaws

@@ -7,7 +7,9 @@ ghost use Rattle.loops.specs.Lists.{all_of};
 ghost use Rattle.text_fields.specs.Parts.{parts};
 ghost use Rattle.text_line.specs.Line.{fields_of, value_of, spelled};
 ghost use Rattle.stored_lines.specs.inner.Line.{letter, body, count, piece, is_judging, has_count, has_numbers, has_row, is_formed};
+ghost use Rattle.std.specs.Iterator.{at_most};
 ghost use Rattle.stored_lines.specs.inner.Case.{judging_at, CaseAt};
+ghost use Rattle.stored_lines.specs.inner.Cases.{NextCase};
 
 use text_fields::Parts;
 
@@ -18,13 +20,6 @@ pub fn number_of(s: &[u8]) -> i64
     ensures { result ≡ value_of s.now }
 {
     text_fields::read_number(s).unwrap_or(0)
-}
-
-// What follows the first n bytes and the one after them.
-fn after(s: &[u8], n: usize) -> &[u8]
-    ensures { result.now ≡ drop (n + 1) s.now }
-{
-    if n < s.len() { &s[n + 1..] } else { &[] }
 }
 
 // The letter that a line starts with, 0 where it is empty.
@@ -38,7 +33,7 @@ pub fn letter_of(line: &[u8]) -> u8
 pub fn body_of(line: &[u8]) -> &[u8]
     ensures { result.now ≡ body line.now }
 {
-    after(line, 0)
+    line.get(1..).unwrap_or(&[])
 }
 
 // The number before the first comma, how often the rest is gathered.
@@ -53,7 +48,8 @@ pub fn piece_of(line: &[u8]) -> &[u8]
     ensures { result.now ≡ piece line.now }
 {
     let rest = body_of(line);
-    after(rest, text_fields::first_part(rest, b',').len())
+    let count = text_fields::first_part(rest, b',');
+    rest.get(count.len() + 1..).unwrap_or(&[])
 }
 
 // ---- whether the lines of a case are formed
@@ -125,9 +121,10 @@ pub fn all_formed(lines: &[u8]) -> bool
 
 // ---- where a case ends
 
-// Places in a list: where the line that judges a case starts and ends, and where the next case starts.
+// Places in a list: where a case starts, where the line that judges it starts and ends, and where the next case starts.
 #[derive(Clone, Copy)]
 pub struct Case {
+    pub start: usize,
     pub line: usize,
     pub end: usize,
     pub next: usize,
@@ -158,5 +155,42 @@ pub fn case_at(list: &[u8], at: usize) -> Case
     let line = judging_at(list, at);
     let end = line + text_fields::first_part(&list[line..], b'\n').len();
     let next = if end < list.len() { end + 1 } else { end };
-    Case { line, end, next }
+    Case {
+        start: at,
+        line,
+        end,
+        next,
+    }
+}
+
+// The cases of a list, in order.
+#[derive(Drop)]
+pub struct Cases<'a> {
+    list: &'a [u8],
+    at: usize,
+}
+
+impl<'a> Cases<'a> {
+    pub fn new(list: &'a [u8]) -> Cases<'a>
+        ensures { (result.list.now ≡ list.now) × (result.at ≡ 0) }
+    {
+        Cases { list, at: 0 }
+    }
+}
+
+impl<'a> Iterator for Cases<'a> {
+    type Item = Case;
+
+    ghost next_gives = { NextCase };
+
+    ghost remaining = { λ s. at_most (length s.list.now - s.at) };
+
+    fn next(&mut self) -> Option<Case> {
+        if self.list.len() <= self.at {
+            return None;
+        }
+        let case = case_at(self.list, self.at);
+        self.at = case.next;
+        Some(case)
+    }
 }

@@ -17,6 +17,7 @@ use std::fs::File;
 use std::io::Read;
 use std::rt::Files;
 use std::{io, str};
+use stored_lines::Cases;
 use text_fields::Parts;
 
 // ---- what a case gathers
@@ -69,10 +70,11 @@ fn is_passed<F: Fn(&Gathered) -> bool>(lines: &[u8], line: &[u8], passes: &F) ->
     requires { F.IsAlwaysCallable passes.now }
     ensures { IfSome result (λ yes. (c : Gathered) × Gathers lines.now line.now c × FnReturnsAt F.Fn passes.now c yes) }
 {
-    let mut judging = few();
-    let mut numbers = sevens();
-    let mut bytes = no_bytes();
-    let mut expected = sevens();
+    // What no line gathers to is still 7 among the numbers.
+    let mut judging = [0i64; 16];
+    let mut numbers = [7i64; 8210];
+    let mut bytes = [0u8; 70010];
+    let mut expected = [7i64; 8210];
     let case = Gathered {
         letter: stored_lines::letter_of(line),
         judging: first_of(
@@ -194,7 +196,7 @@ pub fn name_failed(
 
 // ---- the lists
 
-// Judges each case of a list, and names those that fail. Steps of any length, a case each, and no index that counts them.
+// Judges each case of a list, and names those that fail.
 fn replay_list<F: Fn(&Gathered) -> bool>(
     rt: &impl Print,
     name: &[u8],
@@ -205,18 +207,15 @@ fn replay_list<F: Fn(&Gathered) -> bool>(
     requires { F.IsAlwaysCallable passes.now }
 {
     let mut run = before;
-    let mut at = 0;
-    while at < list.len() {
-        let case = stored_lines::case_at(list, at);
+    for case in Cases::new(list) {
         let outcome = judge(
-            &list[at..case.end],
-            &list[at..case.line],
+            &list[case.start..case.end],
+            &list[case.start..case.line],
             &list[case.line..case.end],
             passes,
         );
-        name_failed(rt, name, list, at, outcome)?;
+        name_failed(rt, name, list, case.start, outcome)?;
         run = run.judged(outcome);
-        at = case.next;
     }
     Ok(run)
 }
@@ -230,7 +229,7 @@ fn replay_file<F: Fn(&Gathered) -> bool>(
 ) -> io::Result<Run>
     requires { F.IsAlwaysCallable passes.now }
 {
-    let mut list = no_list();
+    let mut list = [0u8; 262144];
     let n = read_list(rt, name, &mut list);
     name_unread(rt, name, &list, n)?;
     replay_list(rt, name, &list[..n], before, passes)
@@ -312,7 +311,7 @@ fn lent_passes<F: FnOnce(&mut [i64]) -> Answer>(
     requires room { lent ≤ 8210 }
     ensures { result ≡ true → (answer : Result ℕ Refusal) × (left : List ℤ) × FnOnceReturnsAtMut F.FnOnce call (take lent (replicate 8210 (pos 7))) answer left × (passes answer (left ++ drop lent (replicate 8210 (pos 7))) expected.now number place ≡ true) }
 {
-    let mut numbers = sevens();
+    let mut numbers = [7i64; 8210];
     let answer = call(&mut numbers[..lent]);
     came_out(answer, &numbers, expected, number, place)
 }
@@ -335,41 +334,7 @@ pub fn verdict_passes(judging: &[i64], verdict: Verdict) -> bool
     }
 }
 
-// ---- room
-
-// Arrays, since programs have no heap; a case that has more than fits fails.
-
-// Room for the numbers of a case, or for those that a case is to give; what is not written to is still 7.
-pub fn sevens() -> [i64; 8210]
-    ensures value { 8210 ≡ length result }
-    ensures value_2 { result ≡ replicate 8210 (pos 7) }
-{
-    [7; 8210]
-}
-
-// Room for the numbers of a line that judges.
-pub fn few() -> [i64; 16]
-    ensures value { 16 ≡ length result }
-    ensures value_2 { result ≡ replicate 16 (pos 0) }
-{
-    [0; 16]
-}
-
-// Room for the bytes of a case.
-pub fn no_bytes() -> [u8; 70010]
-    ensures value { 70010 ≡ length result }
-    ensures value_2 { result ≡ replicate 70010 0 }
-{
-    [0; 70010]
-}
-
-// Room for a list.
-pub fn no_list() -> [u8; 262144]
-    ensures value { 262144 ≡ length result }
-    ensures value_2 { result ≡ replicate 262144 0 }
-{
-    [0; 262144]
-}
+// ---- the reading of a list
 
 // Reads from a file until its end, an error or the end of the room, and gives how many bytes were read. Steps of any length, and no index
 // that counts them. `speed` has the same few lines: it shares no crate that reads with this one.

@@ -1,24 +1,8 @@
-// What the programs share that read a sheet as text: the room that they lend. The length is what lending an array as a slice asks for.
+// What the programs share that read a sheet as text: the run from input to output.
 #![tactic(auto)]
 
-ghost use Rattle.std.specs.Prelude.{◌≡◌, ◌≤◌, ℕ, ℤ, List, pos, length, take, replicate};
+ghost use Rattle.std.specs.Prelude.{◌≡◌, ◌≤◌, ℕ, ℤ, List, length, take};
 ghost use Rattle.text_program.specs.Text.{printed_text, TakesRoom, PrintsRows, KeepsWithin};
-
-// 800 rows.
-pub fn no_rows() -> [i64; 8000]
-    ensures value { 8000 ≡ length result }
-    ensures value_2 { result ≡ replicate 8000 (pos 0) }
-{
-    [0; 8000]
-}
-
-// One byte more than a text may have: a longer one is refused whatever follows.
-pub fn no_text() -> [u8; 65537]
-    ensures value { 65537 ≡ length result }
-    ensures value_2 { result ≡ replicate 65537 0 }
-{
-    [0; 65537]
-}
 
 // The numbers as they are. Handed on by value they are known to be numbers of 64 bits, which bounds what is printed of them; of a lent array of signed
 // numbers the proofs know no bound.
@@ -41,7 +25,8 @@ pub fn print_text<F: FnOnce(&[i64], &mut [u8]) -> usize>(
     ensures upper_bound { result ≤ length out.old }
     ensures out_after { take result out.new ≡ printed_text of_rows text.now }
 {
-    let mut rows = no_rows();
+    // Room for 800 rows.
+    let mut rows = [0i64; 8000];
     match text::read_text(text, &mut rows) {
         Ok(n) => print_rows(&rows[..10 * n], out),
         Err(e) => printing::put_refusal(out, e),
@@ -66,8 +51,9 @@ pub fn run<F: FnOnce(&[u8], &mut [u8]) -> usize>(
     requires callable { TakesRoom (F.pre print) (length out.old) }
     requires within { KeepsWithin (F.post print) (length out.old) }
 {
-    // A lent array, and no heap: there is no memory to run out of, and nothing to say of it.
-    let mut text = no_text();
+    // One byte more than a text may have: a longer one is refused whatever follows. A lent array, and no heap: there is no memory to run out of, and nothing
+    // to say of it.
+    let mut text = [0u8; 65537];
     let reading = program_io::read_input(rt, words.input, words.awaited, &mut text);
     let Some(n) = reading.input else {
         return;

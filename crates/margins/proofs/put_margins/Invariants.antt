@@ -1,6 +1,11 @@
-use Rattle.loops.specs.inner.Wrote.{Wrote}
-use Rattle.margins.specs.inner.Bytes.{lines_bytes}
+use Rattle.std.proofs.Common.{◌≡◌}
+use Rattle.std.specs.Iterator.Adapters.{take_source, take_count}
+use Rattle.std.specs.Slice.Iter.{chunks_exact_rest, chunks_exact_size}
+use Rattle.printing.proofs.ChunkLaws.{Chunked}
+use Rattle.margins.specs.inner.Bytes.{line_bytes}
 use Rattle.margins.proofs.put_margins.Given as goal
 
-abbrev pub invariant-loop-k : goal.invariant-loop-k
-invariant-loop-k l = Wrote l.initial.out 0 l.out l.at (lines_bytes l.lines l.k)
+abbrev pub invariant-loop-line : goal.invariant-loop-line
+invariant-loop-line l =
+    (chunks_exact_size (take_source l.line-iterator) ≡ 3)
+    × Chunked line_bytes 3 l.initial.out 0 l.lines l.n l.out l.at (chunks_exact_rest (take_source l.line-iterator)) (take_count l.line-iterator)

@@ -13,8 +13,9 @@ gathering_length (l ∷ ls) = cond (is_judging l) 0 (length l + 1 + gathering_le
 abbrev pub judging_at : List ℕ → ℕ → ℕ
 judging_at list at = min (at + gathering_length (parts 10 (drop at list))) (length list)
 
--- the case from a place on: where the line that judges it starts, where that line ends, and where the next case starts
+-- the case from a place on: where it starts, where the line that judges it starts, where that line ends, and where the next case starts
 pub record CaseAt (list : List ℕ) (at : ℕ) (c : Case) : Type 0 where
+  pub start : c.start ≡ at
   pub line : c.line ≡ judging_at list at
   pub end : c.end ≡ c.line + length (until_byte 10 (drop c.line list))
   pub next : c.next ≡ min (c.end + 1) (length list)

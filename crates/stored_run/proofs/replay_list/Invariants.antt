@@ -1,8 +1,5 @@
-use Rattle.std.proofs.Common.{length, ◌-◌, ◌≤◌}
+use Rattle.std.proofs.Common.{◌≡◌}
 use Rattle.stored_run.proofs.replay_list.Given as goal
 
-abbrev pub invariant-loop-at : goal.invariant-loop-at
-invariant-loop-at g l = goal.F-IsAlwaysCallable g l.passes × (l.at ≤ length l.list)
-
-abbrev pub decreases-loop-at : goal.decreases-loop-at
-decreases-loop-at g l = length l.list - l.at
+abbrev pub invariant-loop-case : goal.invariant-loop-case
+invariant-loop-case g l = goal.F-IsAlwaysCallable g l.passes × (l.case-iterator.list.now ≡ l.list)
