@@ -2,8 +2,7 @@
 // resumable work starts in the joint working time of its piece, and that time within its span covers it.
 #![tactic(auto)]
 
-ghost use Rattle.std.specs.Prelude.{◌≡◌, ◌+◌, ◌<◌, ◌≤◌, true, not, ◌||◌, ltb, pos, get_or};
-ghost use Rattle.std.specs.Prelude.{None, Some};
+ghost use Rattle.std.specs.Prelude.{◌≡◌, ◌+◌, ◌<◌, ◌≤◌, true, not, ◌||◌, ltb, pos, get_or, None, Some};
 ghost use Rattle.loops.specs.Lists.{given, each};
 ghost use Rattle.rows.specs.Cells.{row_count, num, is};
 ghost use Rattle.rows.specs.Kinds.{kind_number};
@@ -96,6 +95,7 @@ fn lacks_time(rows: &Sheet, need: &[u64; 800], a: usize, k: usize) -> bool
     requires { (refusal_of rows.now ≡ None) × Needs rows.now need.now × (k < row_count rows.now) × (is rows.now k 0 23 ≡ true) × (place_of rows.now 2 (num rows.now k 1) ≡ Some a) }
     ensures { result ≡ (not (joint_working clock (piece_calendars clock (sheet rows.now) (assignment_of rows.now k) (activity_of rows.now a)) (pos (num rows.now k 4))) || ltb (joint_available_ms clock (piece_calendars clock (sheet rows.now) (assignment_of rows.now k) (activity_of rows.now a)) (pos (num rows.now k 4)) (pos (num rows.now k 5))) (num rows.now k 6 + get_or need.now k 0)) }
 {
+    // No heap: room for a window, and for a calendar, of each row.
     let mut windows = [window_rows::NO_WINDOW; 800];
     let mut places = [check6_joint_calendars::NO_PLACES; 800];
     let laid = check6_joint_calendars::lay_calendars(rows, a, k, &mut windows, &mut places);
@@ -118,7 +118,8 @@ fn lacks_at(rows: &Sheet, need: &[u64; 800], k: usize) -> bool
     rows.has(a, 7, 1) && lacks_time(rows, need, a, k)
 }
 
-// Which bookings of resumable activities lack working time. Found once for a sheet, since it is the dearest question of all checks. Its calendars
+// Which bookings of resumable activities lack working time. Found once for a sheet, since it is the dearest question of all checks, and kept in a
+// mark for each of at most 800 rows, since there is no heap. Its calendars
 // need room that the calls after it do not: apart, they share the stack that the header states.
 #[inline(never)]
 #[tactic(auto, using(chains::proofs::PlaceLaws::left_all), unfolding(sheet::specs::Places::of_kind))]

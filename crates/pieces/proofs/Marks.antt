@@ -12,8 +12,9 @@ use borrow.Author.Tests.{eq-eqb}
 use Rattle.loops.proofs.BoolLaws.{bit}
 use Rattle.loops.proofs.StoreLaws.{Filled, filled_turn}
 use Rattle.rows.specs.Cells.{row_count}
-use Rattle.pieces.specs.inner.Bookings.{first_on, Marks}
+use Rattle.pieces.specs.inner.Bookings.{first_on}
 use Rattle.pieces.specs.inner.Held.{held_at, Held}
+use Rattle.pieces.specs.inner.Marks.{Marks}
 
 -- a mark tells what it marks
 pub mark_is : {x : ℕ} (b : Bool) → x ≡ cond b 1 0 → eqb x 1 ≡ b

@@ -6,7 +6,7 @@ ghost use Rattle.loops.specs.Search.{first};
 ghost use Rattle.rows.specs.Cells.{row_count};
 ghost use Rattle.refusals.specs.declared.Refusal.{Refusal};
 ghost use Rattle.refusals.specs.Refusals.{verdict_of};
-ghost use Rattle.sheet.specs.Refusals.{misshapen, column_fault, owner_fault, repeat_fault, refusal_of};
+ghost use Rattle.sheet.specs.Refusals.{misshapen, refusal_of};
 ghost use Rattle.validation.specs.inner.Answer.{shape_refusal, link_refusal, Tells, Indexing};
 
 use owners::OwnerLinks;
@@ -82,6 +82,7 @@ pub fn index(
 pub fn validate(rows: &[i64]) -> Verdict
     ensures { verdict_of result ≡ refusal_of rows.now }
 {
+    // No heap: the tables of the sheet (`model::Sheet`).
     let mut kinds = [0u16; 3680];
     let mut links = [0u16; 1600];
     let mut owned = [0u16; 8810];

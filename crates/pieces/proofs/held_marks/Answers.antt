@@ -4,5 +4,4 @@ use Rattle.pieces.proofs.held_marks.Goals as goal
 
 pub returns : goal.returns
 returns c =
-    let h = rw c.as_slice.ensures.rows at (c.marks_of.ensures (held_at c.args.rows.now) (record { same = λ k r l p. search rules })) in
-    record { short = h.short; at = h.at; past = h.past }
+    rw c.as_slice.ensures.rows at (c.marks_of.ensures (held_at c.args.rows.now) (λ k r l p. search rules))
