@@ -72,9 +72,6 @@ module _ (list : List ℕ) (at line : ℕ) (f : List ℕ) (p : line ≡ judging_
   case_found : (next : ℕ) → next ≡ min (line + length f + 1) (length list) → CaseAt list at (record { line = line; end = line + length f; next = next })
   case_found next q = record { line = p; end = ap (λ (g : List ℕ). line + length g) (line_at list line f e); next = q }
 
-  pub case_more : line + length f < length list → CaseAt list at (record { line = line; end = line + length f; next = line + length f + 1 })
-  case_more h = case_found (line + length f + 1) (omega arith)
-
   pub case_last : length list ≤ line + length f → CaseAt list at (record { line = line; end = line + length f; next = line + length f })
   case_last h = case_found (line + length f) (omega (arith, line_within))
 
