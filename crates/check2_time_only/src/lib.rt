@@ -1,8 +1,7 @@
 // Check 2, `check_time_only`: the spans of the activities that hold no resource, and the activities among them that have none.
 #![tactic(auto)]
 
-ghost use Rattle.std.specs.Prelude.{◌≡◌, true, ◌<◌, ◌≤◌, map};
-ghost use Rattle.std.specs.Prelude.{None, Some};
+ghost use Rattle.std.specs.Prelude.{◌≡◌, true, ◌<◌, ◌≤◌, map, None, Some};
 ghost use Rattle.loops.specs.Lists.{is_empty, each};
 ghost use Rattle.loops.specs.Range.{collect};
 ghost use Rattle.calendar.specs.Clock.{clock};
@@ -138,6 +137,7 @@ fn check_first(rows: &Sheet, a: usize, k: usize, found: &mut Findings)
 {
     let own = is_early(rows, k, spans::instant_at(rows.as_slice(), a, 8));
     let of_task = is_early(rows, k, task_release(rows, a));
+    // No heap: room for a window of each row.
     let mut room = [window_rows::NO_WINDOW; 800];
     let mut windows = WindowList::over(&mut room);
     window_rows::gather_windows(&rows.by_owner(), a, Kind::ActivityWindow, &mut windows);

@@ -14,7 +14,7 @@ use owners::{LinkIndex, OwnerIndex, Owners};
 use rows::Kind;
 use sheet::{Found, Rows};
 
-// True at each booking of the piece that may be claimed.
+// True at each booking of the piece that may be claimed: a mark for each of at most 800 rows, since there is no heap.
 fn free_in(rows: &Owners, held: &[u8; 800], o: usize, p: u64) -> [bool; 800]
     requires { (o ≤ row_count rows.now) × Held rows.now held.now }
     ensures { unclaimed_of rows.now o result ≡ runs_on_in rows.now o p }

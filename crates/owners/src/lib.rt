@@ -2,13 +2,10 @@
 // belong to a row are chains of places, as the rows of a kind are.
 #![tactic(auto)]
 
-ghost use Rattle.std.specs.Prelude.{Some, ◌≡◌, suc, ◌+◌, ◌*◌, ◌%◌, ◌<◌, ◌≤◌, true, cond, length, get_or, set};
-ghost use Rattle.loops.specs.Search.{first_place, any_below};
+ghost use Rattle.std.specs.Prelude.{Some, ◌≡◌, suc, ◌+◌, ◌*◌, ◌%◌, ◌<◌, ◌≤◌, cond, length, get_or, set};
 ghost use Rattle.loops.specs.inner.Chain.{First, Stands, same};
-ghost use Rattle.rows.specs.Cells.{row_count, num, is};
-ghost use Rattle.sheet.specs.Places.{task_place, activity_place, resource_place, requirement_place, is_constraint, constraint_place};
-ghost use Rattle.sheet.specs.inner.Found.{found_of};
-ghost use Rattle.sheet.specs.inner.Index.{or_end, Kinds};
+ghost use Rattle.rows.specs.Cells.{row_count, num};
+ghost use Rattle.sheet.specs.Places.{requirement_place, is_constraint, constraint_place};
 ghost use Rattle.owners.specs.inner.Owners.{owner_kind, owner_place, own_place, res_place, owned_by, owned_key, Numbered, Linked, Owned};
 
 pub mod by_owner;
@@ -46,7 +43,7 @@ fn number_row(t: &mut [u16; 800], next: usize, k: usize, yes: bool) -> usize
     next + 1
 }
 
-// The row of constraint place m at place m.
+// The row of constraint place m at place m, in an array since there is no heap.
 fn numbers_of(rows: &[i64]) -> [u16; 800]
     requires { row_count rows.now ≤ 800 }
     ensures { Numbered rows.now result }
@@ -182,6 +179,8 @@ fn resource_of(rows: &[i64], links: &[u16; 1600], k: usize) -> usize
 }
 
 // ---- the rows that belong to a row
+
+// Private functions on the table take a kind by its number, since that is what the table is indexed by.
 
 // Row i before the other rows of its key.
 fn link_owned(t: &mut [u16; 8810], k: usize, i: usize)

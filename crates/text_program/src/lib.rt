@@ -1,4 +1,5 @@
-// What the programs share that read a sheet as text: the room that they lend. The length is what lending an array as a slice asks for.
+// What the programs share that read a sheet as text: the room that they lend, arrays since programs have no heap. The length is what lending an array as
+// a slice asks for.
 #![tactic(auto)]
 
 ghost use Rattle.std.specs.Prelude.{◌≡◌, ◌≤◌, ℕ, ℤ, List, pos, length, take, replicate};
