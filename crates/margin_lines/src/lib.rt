@@ -85,6 +85,7 @@ fn put_resources(rows: &Sheet, lines: &mut Lines)
     requires { refusal_of rows.now ≡ None }
     ensures { so_far lines.new ≡ tell (so_far lines.old) (each (resource_margin clock (sheet rows.now)) (booked_resources (sheet rows.now))) }
 {
+    // No heap: room for a booking of each row.
     let mut room = [NO_BOOKING; 800];
     let mut bookings = Bookings::over(&mut room);
     let by_kind = rows.by_kind();
@@ -136,6 +137,7 @@ pub fn margins(rows: &[i64], out: &mut [i64]) -> Answer
     ensures value { result ≡ margins_answer rows.now (length out.old / 3) }
     ensures out_after { out.new ≡ margins_after rows.now out.old }
 {
+    // No heap: the tables of the sheet (`model::Sheet`).
     let mut kinds = [0u16; 3680];
     let mut links = [0u16; 1600];
     let mut owned = [0u16; 8810];

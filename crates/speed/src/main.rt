@@ -20,7 +20,7 @@ use std::io;
 use std::io::Read;
 use text_fields::Parts;
 
-// Room for two lines and many texts. The promises give the lengths, which is all that lending an array as a slice asks.
+// Room for two lines and many texts: programs have no heap. The promises give the lengths, which is all that lending an array as a slice asks.
 fn no_text() -> [u8; 400000]
     ensures { 400000 ≡ length result }
 {
@@ -190,6 +190,7 @@ fn timed(rows: &Sheet, part: Part, count: u64) -> usize {
 }
 
 fn found_of(rows: &[i64], part: Part, count: u64) -> usize {
+    // The tables of the sheet (`model::Sheet`).
     let mut kinds = [0u16; 3680];
     let mut links = [0u16; 1600];
     let mut owned = [0u16; 8810];
@@ -229,6 +230,7 @@ fn found_by(texts: &[u8], number: u64, count: u64) -> usize {
 }
 
 // Reads until the input ends, a read fails or the room is full, and gives how many bytes were read. Steps of any length, and no index that counts them.
+// `stored_run` has the same few lines: it shares no crate that reads with this one.
 fn read_whole(from: &mut impl Read, room: &mut [u8]) -> usize
     ensures { result ≤ length room.new }
 {
