@@ -46,9 +46,6 @@ module _ (w : List TimeWindow) (cs : List Places) (t b : ℕ) {s : Stretch} (e :
     gained_within : t + d ≤ b
     gained_within = let k = looked_at w cs t b s e in omega (arith, k.above l, k.most, gained_le s.working (s.stop - t))
 
-    pub end_fits : (left : ℕ) → left ≤ d → Fits w64 b → Fits w64 (t + left)
-    end_fits left m f = record { fits = omega (arith, gained_within, f.fits) }
-
     -- what is counted so far, and what is left to count
     module _ (a sum : ℕ) (i : sum + available_at (joint_at w cs) t b ≡ available_at (joint_at w cs) a b) where
       pub sum_next : sum + d + available_at (joint_at w cs) s.stop b ≡ available_at (joint_at w cs) a b

@@ -1,8 +1,7 @@
 // Check 2, `check_time_only`: the spans of the activities that hold no resource, and the activities among them that have none.
 #![tactic(auto)]
 
-ghost use Rattle.std.specs.Prelude.{◌≡◌, true, ◌<◌, ◌≤◌, map};
-ghost use Rattle.std.specs.Prelude.{Some};
+ghost use Rattle.std.specs.Prelude.{◌≡◌, true, ◌<◌, ◌≤◌, map, Some};
 ghost use Rattle.loops.specs.Lists.{is_empty, each};
 ghost use Rattle.loops.specs.Range.{collect};
 ghost use Rattle.calendar.specs.Clock.{clock};

@@ -125,9 +125,6 @@ key_small (negsuc n) h = let s = sub_most 1000001 (suc n) in omega arith
 -- ---- the bookings of the activity at row o
 
 module _ (rows : List ℤ) (acc : Accepted rows) (o : ℕ) (l : o < row_count rows) (h : is rows o 0 2 ≡ true) where
-  abbrev own : ℕ → Bool
-  own = owned_by rows o 23
-
   own_is : (k : ℕ) → owned_by rows o 23 k ≡ (is rows k 0 23 && is rows k 1 (num rows o 1))
   own_is k = of_activity rows 23 o (num rows o 1) (unfold owner_kind in refl) (activity_at_lem rows acc o l h) k
 

@@ -35,6 +35,7 @@ fn check_resource(rows: &Sheet, x: u64, bookings: &mut Bookings, found: &mut Fin
 pub fn check_capacity(rows: &Sheet, found: &mut Findings)
     ensures { so_far found.new ≡ tell (so_far found.old) (check_capacity clock (sheet rows.now)) }
 {
+    // No heap: room for a booking of each row.
     let mut room = [NO_BOOKING; 800];
     let mut bookings = Bookings::over(&mut room);
     let by_kind = rows.by_kind();

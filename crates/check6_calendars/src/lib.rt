@@ -2,8 +2,7 @@
 // resumable work starts in the joint working time of its piece, and that time within its span covers it.
 #![tactic(auto)]
 
-ghost use Rattle.std.specs.Prelude.{◌≡◌, ◌+◌, ◌<◌, ◌≤◌, true, not, ◌||◌, ltb, pos, get_or};
-ghost use Rattle.std.specs.Prelude.{Some};
+ghost use Rattle.std.specs.Prelude.{◌≡◌, ◌+◌, ◌<◌, ◌≤◌, true, not, ◌||◌, ltb, pos, get_or, Some};
 ghost use Rattle.loops.specs.Lists.{given, each};
 ghost use Rattle.rows.specs.Cells.{row_count, num, is};
 ghost use Rattle.rows.specs.Kinds.{kind_number};

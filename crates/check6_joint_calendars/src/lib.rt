@@ -2,8 +2,7 @@
 // and that of its activity, laid out for the calendar functions.
 #![tactic(auto)]
 
-ghost use Rattle.std.specs.Prelude.{◌≡◌, suc, ◌<◌, true};
-ghost use Rattle.std.specs.Prelude.{Some};
+ghost use Rattle.std.specs.Prelude.{◌≡◌, suc, ◌<◌, true, Some};
 ghost use Rattle.rows.specs.Cells.{row_count, num, is};
 ghost use Rattle.sheet.specs.Places.{place_of};
 ghost use Rattle.calendar.specs.Layout.{calendars_of};
@@ -36,7 +35,8 @@ fn mark_resource(rows: &Sheet, k: usize, j: usize, marks: &mut [bool; 800])
     }
 }
 
-// True at the row of each resource that a booking of booking k's piece is on. The activity of the piece is of row a.
+// True at the row of each resource that a booking of booking k's piece is on, a mark for each of at most 800 rows, since there is no heap. The activity of
+// the piece is of row a.
 #[tactic(auto, using(sheet::proofs::Lookups::place_low))]
 fn mark_resources(rows: &Sheet, a: usize, k: usize) -> [bool; 800]
     requires { (is rows.now k 0 23 ≡ true) × (place_of rows.now 2 (num rows.now k 1) ≡ Some a) }

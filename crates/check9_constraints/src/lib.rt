@@ -1,8 +1,7 @@
 // Check 9, `check_constraints`: time windows, activities that may not overlap on a resource, activities that start together.
 #![tactic(auto)]
 
-ghost use Rattle.std.specs.Prelude.{◌≡◌, true, false, ◌+◌, ◌<◌, pos, length};
-ghost use Rattle.std.specs.Prelude.{None};
+ghost use Rattle.std.specs.Prelude.{◌≡◌, true, false, ◌+◌, ◌<◌, pos, length, None};
 ghost use Rattle.calendar.specs.Clock.{clock};
 ghost use Rattle.loops.specs.Lists.{each};
 ghost use Rattle.loops.specs.Range.{collect};
@@ -74,7 +73,7 @@ fn check_later(rows: &ByKind, a: usize, later: &[usize], f: Violation, found: &m
     }
 }
 
-// The findings of each two bookings, in order.
+// The findings of each two bookings, in order. A loop by hand: a turn takes a booking and all that are left, which a `for` would cut out again by its place.
 fn check_pairs(rows: &ByKind, bookings: &[usize], f: Violation, found: &mut Findings)
     requires { f.entity < 9223372036854775808 }
     ensures { so_far found.new ≡ tell (so_far found.old) (pairs_of rows.now f bookings.now) }
@@ -93,6 +92,7 @@ fn check_overlaps(rows: &ByKind, k: usize, place: u64, found: &mut Findings)
     ensures { so_far found.new ≡ tell (so_far found.old) (check_constraint_at clock (sheet rows.now) k) }
 {
     let resource = rows.num(k, 1);
+    // No heap: room for a booking of each row.
     let mut room = [0usize; 800];
     let mut bookings = LentList::over(&mut room);
     member_bookings::gather_bookings(rows, place, resource, &mut bookings);

@@ -13,7 +13,7 @@ fn print_sheet(rows: &[i64], out: &mut [u8]) -> usize
     ensures upper_bound { result ≤ 168030 }
     ensures out_after { take result out.new ≡ printed_sheet rows.now }
 {
-    // Room for 2,000 findings.
+    // Room for 2,000 findings: programs have no heap.
     let mut found = [0i64; 8000];
     let answer = feasibility::check_schedule(rows, &mut found);
     let found = text_program::kept(found);
@@ -39,7 +39,7 @@ fn main(rt: HostRuntime) {
         awaited: b"check_schedule: a sheet is read from standard input, up to the end of input (Ctrl-D)",
         output: b"check_schedule: standard output",
     };
-    // Room for what is printed of 2,000 findings.
+    // Room for what is printed of them.
     let mut out = [0u8; 168030];
     text_program::run(&rt, words, &mut out, print_text);
 }

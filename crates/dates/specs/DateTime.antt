@@ -1,7 +1,6 @@
 -- A date and time in sixteen bytes, as 20240229T235959Z: RFC 5545, 3.3.4, 3.3.5 and 3.3.12, the form with UTC time. Bytes are given by their numbers.
 -- Assumes nothing.
-use Rattle.std.specs.Prelude.{ℕ, ◌+◌, ◌*◌, ◌-◌, Bool, ◌&&◌, List, [], ◌∷◌, ltb, leb, eqb, length, get_or, take, drop}
-use Rattle.std.specs.Prelude.{Option}
+use Rattle.std.specs.Prelude.{ℕ, ◌+◌, ◌*◌, ◌-◌, Bool, ◌&&◌, List, [], ◌∷◌, ltb, leb, eqb, length, get_or, take, drop, Option}
 use Rattle.loops.specs.Lists.{all_of}
 use Rattle.loops.specs.Search.{some_if}
 use Rattle.text_fields.specs.Spelling.{is_digit}

@@ -1,6 +1,5 @@
 -- Refusal 6: a booking whose derived time is not finite, or is 2^53 or more. Assumes nothing.
-use Rattle.std.specs.Prelude.{ℕ, ◌^◌, Bool, true, false, not, List, ltb, ℤ}
-use Rattle.std.specs.Prelude.{Option, None, Some}
+use Rattle.std.specs.Prelude.{ℕ, ◌^◌, Bool, true, false, not, List, ltb, ℤ, Option, None, Some}
 use Rattle.loops.specs.Lists.{any_of, option}
 use Rattle.loops.specs.Search.{first}
 use Rattle.rows.specs.Cells.{row_count}

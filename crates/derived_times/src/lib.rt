@@ -38,7 +38,8 @@ const REFUSED: u64 = 9007199254740992;
 
 // ---- timings
 
-// The earlier of two places.
+// The earlier of two places. Not Option's own `min`: None is below every place there, and here it is no place. `freebusy_components` has the same
+// two lines, and no crate below both has code of places that may be none.
 fn earlier(x: Option<usize>, y: Option<usize>) -> Option<usize>
     ensures { result ≡ earlier_of x y }
 {
@@ -68,7 +69,7 @@ fn timing_row(rows: &Owners, k: usize) -> Option<usize>
     earlier(speed, fixed)
 }
 
-// The row of booking k's timing, kept for row k.
+// The row of booking k's timing, kept for row k: a place for each of at most 800 rows, since there is no heap.
 #[tactic(auto, using(crate::proofs::Parts::timings_turn, crate::proofs::Parts::timings_end, crate::proofs::Parts::timing_found))]
 pub fn timings_of(rows: &Owners) -> [u16; 800]
     requires { Accepted rows.now }
@@ -230,7 +231,7 @@ impl<'a> Bookings<'a> {
     }
 }
 
-// What each booking of a known activity needs besides its own setup.
+// What each booking of a known activity needs besides its own setup: a number for each of at most 800 rows, since there is no heap.
 #[tactic(auto, using(loops::proofs::StoreLaws::filled_start, crate::proofs::Parts::times_next, crate::proofs::Parts::times_end))]
 pub fn needs_of(rows: &MarkedRows) -> [u64; 800]
     requires { Accepted rows.now }

@@ -1,7 +1,6 @@
 -- The call `check_schedule`: what it answers for any rows and any lent buffer, and what it leaves in the buffer. Assumes nothing.
-use Rattle.std.specs.Prelude.{Result}
+use Rattle.std.specs.Prelude.{Result, ℕ, ◌/◌, List, ℤ, length}
 use Rattle.refusals.specs.declared.Refusal.{Refusal}
-use Rattle.std.specs.Prelude.{ℕ, ◌/◌, List, ℤ, length}
 use Rattle.refusals.specs.Lending.{answered, lent_after}
 use Rattle.findings.specs.Findings.{flat}
 use Rattle.definition.specs.CheckSchedule.{findings}

@@ -1,8 +1,6 @@
 -- Demand 3: two accepted sheets, the second being the first with one whole number of milliseconds, zero or below too, added to every instant and nothing
 -- else changed, have the same findings, line for line: those of the definition, and those that any two calls write. Assumes nothing.
-use Rattle.std.specs.Prelude.{Ok}
-use Rattle.std.specs.Prelude.{ℕ, ◌*◌, ◌/◌, ◌≡◌, List, ℤ, length, take}
-use Rattle.std.specs.Prelude.{None}
+use Rattle.std.specs.Prelude.{Ok, ℕ, ◌*◌, ◌/◌, ◌≡◌, List, ℤ, length, take, None}
 use Rattle.findings.specs.Findings.{flat}
 use Rattle.definition.specs.CheckSchedule.{findings}
 use Rattle.shift.specs.Shift.{Shifted}

@@ -1,8 +1,7 @@
 // `check_schedule` of scheduler/feasibility.rs: refusals 1 to 7, the nine checks in call order, and what is written to the lent buffer.
 #![tactic(auto)]
 
-ghost use Rattle.std.specs.Prelude.{◌/◌, ◌≡◌, length};
-ghost use Rattle.std.specs.Prelude.{None};
+ghost use Rattle.std.specs.Prelude.{◌/◌, ◌≡◌, length, None};
 ghost use Rattle.findings.specs.inner.Sink.{sink, emit};
 ghost use Rattle.pieces.specs.inner.Held.{Held};
 ghost use Rattle.derived_times.specs.inner.Needs.{Needs};
@@ -49,6 +48,7 @@ fn write_findings(rows: &Sheet, held: &[u8; 800], need: &[u64; 800], out: &mut [
     ensures out_after { out.new ≡ findings_after rows.now out.old }
 {
     let lacking = check6_calendars::lacking_of(rows, need);
+    // No heap: room for 1,024 findings.
     let mut first = [0i64; 4096];
     let count = check_all(rows, held, need, &lacking, &mut first);
     let handed = line_buffer::hand_over(out, 4, count, &first);

@@ -1,3 +1,2 @@
 pub mod Reporting
-pub mod Reports
 pub mod SinkLaws

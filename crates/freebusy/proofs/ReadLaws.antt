@@ -145,12 +145,6 @@ module _ {room : ℕ} {resource : ℤ} {rows₀ : List ℤ} {from : Reading} {al
         long = lines_kept 10 (closure_row resource) rows so_far.count (each closures_of a) r.numbers ∙ g.long;
       }
 
-  pub going_last : (a : List Busy) → rest ≡ a → ReadOn room resource rows so_far a rows' to → ReadOn room resource rows₀ from all rows' to
-  going_last a e r = g.on rows' to (rw e r)
-
-  pub last_long : (a : List Busy) → ReadOn room resource rows so_far a rows' to → length rows' ≡ length rows₀
-  last_long a r = lines_kept 10 (closure_row resource) rows so_far.count (each closures_of a) r.numbers ∙ g.long
-
 pub going_end : {room : ℕ} {resource : ℤ} {rows₀ : List ℤ} {from : Reading} {all : List Busy} {rows : List ℤ} {so_far : Reading} {rest : List Busy}
     → Going room resource rows₀ from all rows so_far rest → rest ≡ [] → ReadOn room resource rows₀ from all rows so_far
 going_end {room = room} {resource = resource} {rows = rows} {so_far = so_far} g e = g.on rows so_far (rw e (read_none room resource rows so_far))

@@ -1,7 +1,5 @@
 -- The call `read_freebusy`: what it answers for any bytes, any resource number and any lent numbers, and what it leaves in them. Assumes nothing.
-use Rattle.std.specs.Prelude.{Result, Ok, Err}
-use Rattle.std.specs.Prelude.{ℕ, ◌+◌, ◌/◌, cond, ◌&&◌, not, List, [], ◌∷◌, ltb, length, ℤ, pos}
-use Rattle.std.specs.Prelude.{Option, None, Some}
+use Rattle.std.specs.Prelude.{Result, Ok, Err, ℕ, ◌+◌, ◌/◌, cond, ◌&&◌, not, List, [], ◌∷◌, ltb, length, ℤ, pos, Option, None, Some}
 use Rattle.loops.specs.Lists.{each}
 use Rattle.loops.specs.Search.{or_else}
 use Rattle.refusals.specs.Refusals.{at, refuse}

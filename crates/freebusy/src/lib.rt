@@ -180,7 +180,8 @@ fn read_closures(text: &[u8], resource: i64, rows: &mut [i64], space: &mut [u8])
     Ok(found.count)
 }
 
-// The lines of a text, and when all have passed its periods. What ends the call before is tested by the caller: the space is a large frame (docs/DECISIONS.md, 38).
+// The lines of a text, and when all have passed its periods. There is no heap: a line without its folds
+// stands in the space. What ends the call before is tested by the caller, since the space is a large frame (docs/DECISIONS.md, 38).
 fn read_calendar(text: &[u8], resource: i64, rows: &mut [i64]) -> Answer
     requires { length text.now < 65537 }
     ensures value { result ≡ answered (text_refusal text.now (length rows.old / 10)) (length (closures text.now)) }

@@ -1,6 +1,5 @@
 -- The components VFREEBUSY of a calendar: which of its lines are against the rules (11), and which periods are the components'. Assumes nothing.
-use Rattle.std.specs.Prelude.{ℕ, suc, Bool, cond, ◌&&◌, ◌||◌, not, List, [], ◌∷◌, ◌++◌, map, min}
-use Rattle.std.specs.Prelude.{Option, None, Some}
+use Rattle.std.specs.Prelude.{ℕ, suc, Bool, cond, ◌&&◌, ◌||◌, not, List, [], ◌∷◌, ◌++◌, map, min, Option, None, Some}
 use Rattle.loops.specs.Search.{some_if}
 use Rattle.freebusy_lines.specs.Bytes.{spells}
 use Rattle.freebusy_lines.specs.Lines.{Line}

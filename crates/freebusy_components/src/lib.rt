@@ -15,7 +15,7 @@ struct Walked {
     wrong: Option<usize>,
 }
 
-// The lesser of two places.
+// The lesser of two places. Not Option's own `min`: None is below every place there, and here it is no place.
 fn lesser(a: Option<usize>, b: Option<usize>) -> Option<usize>
     ensures { result ≡ least a b }
 {

@@ -1,6 +1,5 @@
 -- Worked examples of the definitions: texts by their bytes, how many rows are lent, and the answers. Assumes nothing.
-use Rattle.std.specs.Prelude.{Err}
-use Rattle.std.specs.Prelude.{Result, Ok}
+use Rattle.std.specs.Prelude.{Err, Result, Ok}
 use Rattle.refusals.specs.Refusals.{at}
 use Rattle.refusals.specs.declared.Reason.TheVariants.{Malformed, OutOfRange, Overfull, Undated}
 use Rattle.refusals.specs.declared.Refusal.{Refusal}

@@ -1,6 +1,5 @@
 -- What holds of the call `read_freebusy` as a whole. Assumes nothing.
-use Rattle.std.specs.Prelude.{Ok}
-use Rattle.std.specs.Prelude.{ℕ, ◌/◌, ◌<◌, ◌≤◌, true, false, List, ◌≡◌, ℤ, length}
+use Rattle.std.specs.Prelude.{Ok, ℕ, ◌/◌, ◌<◌, ◌≤◌, true, false, List, ◌≡◌, ℤ, length}
 use Rattle.letters.specs.Letters.{capitals}
 use Rattle.freebusy_lines.specs.Folding.{Refolded}
 use Rattle.freebusy.specs.Call.{freebusy_answer, freebusy_after}

@@ -78,9 +78,6 @@ pub record Copied (s to₀ to rest : List ℕ) (n : ℕ) : Type 0 where
   pub long : length to ≡ length to₀
 
 module _ {s to₀ : List ℕ} where
-  pub copied_start : Copied s to₀ to₀ s 0
-  copied_start = record { seen = refl; kept = refl; room = omega arith; long = refl }
-
   module _ {to rest : List ℕ} {n : ℕ} (c : Copied s to₀ to rest n) where
     pub copied_fold : fold_first rest ≡ true → Copied s to₀ to (take (length rest - 3) (drop 3 rest)) n
     copied_fold e = rw (rest_is 3 rest) record {
@@ -116,6 +113,3 @@ module _ {s to₀ : List ℕ} where
         copied_all =
             sym (take-append-drop n to) ∙ ap (λ (l : List ℕ). l ++ drop n to) all_seen
             ∙ ap (λ (l : List ℕ). unfolded s ++ l) (c.kept ∙ ap (λ (k : ℕ). drop k to₀) copied_count)
-
-    pub copied_long : length to ≡ length to₀
-    copied_long = c.long

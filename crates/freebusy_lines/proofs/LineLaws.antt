@@ -1,14 +1,13 @@
 -- Laws of a text's lines for whoever walks over them: the first, those after its end, a line without a fold. Assumes nothing.
 use Prim.Native.Nat.{ℕ, suc, ◌+◌, ◌-◌, ◌≤◌, ◌<◌, min}
 use mathlib.Core.Bool.{Bool, true, false, cond, not, ◌&&◌}
-use mathlib.Core.List.{List, [], ◌∷◌, ◌++◌}
+use mathlib.Core.List.{List, [], ◌∷◌}
 use mathlib.Core.Path.{◌≡◌, refl, sym, ap, ◌∙◌}
 use native.Mathlib.Omega.{arith}
 use native.Mathlib.Decide.{dec_lt}
 use Rattle.std.specs.Prelude.{⊤}
 use lib.Dec.{ltb}
 use lib.ListN.{length, drop, take, drop_of_length-le}
-use lib.Seq.{length-take-le, take_at}
 use borrow.Author.Tests.{ltb-true, ltb-false}
 use Rattle.loops.proofs.ListLaws.{rest_is}
 use Rattle.loops.proofs.BoolLaws.{neither_left, neither_right}
@@ -23,40 +22,7 @@ no_fold [] h = refl
 no_fold (x ∷ s) h =
     unfolded_byte x s (neither_left (fold_first (x ∷ s)) (is_folded s) h) ∙ ap (λ (l : List ℕ). x ∷ l) (no_fold s (neither_right (fold_first (x ∷ s)) (is_folded s) h))
 
--- unfolding makes no line longer
-pub unfolded_short : (s : List ℕ) → length (unfolded s) ≤ length s
-unfolding unfolded
-unfolded_short [] = omega arith
-unfolded_short (x ∷ []) = omega arith
-unfolded_short (x ∷ y ∷ []) = omega arith
-unfolded_short (x ∷ y ∷ z ∷ s) = go (fold_first (x ∷ y ∷ z ∷ s)) (unfolded_short s) (unfolded_short (y ∷ z ∷ s))
-  where
-    go : (t : Bool) → length (unfolded s) ≤ length s → length (unfolded (y ∷ z ∷ s)) ≤ suc (suc (length s))
-        → length (cond t (unfolded s) (x ∷ unfolded (y ∷ z ∷ s))) ≤ suc (suc (suc (length s)))
-    go true h k = omega arith
-    go false h k = omega arith
-
--- what a copy put at the front of a buffer
-pub front_is : (u to₀ to : List ℕ) (n : ℕ) → n ≡ length u → to ≡ u ++ drop (length u) to₀ → take n to ≡ u
-front_is u to₀ to n p e = ap (take n) e ∙ take_at u (drop (length u) to₀) n (sym p)
-
-module _ (s to₀ to : List ℕ) {n : ℕ} (p : n ≡ length (unfolded s)) (room : length s ≤ length to₀) (k : length to ≡ length to₀) where
-  pub front_fits : n ≤ length to
-  front_fits = omega (arith, p, room, k, unfolded_short s)
-
-  pub front_long : n ≡ length (take n to)
-  front_long = sym (length-take-le n to front_fits)
-
 -- ---- the lines: the first, and those after its end
-
-pub sent_short : (s : List ℕ) → length (first_sent s) ≤ length s
-unfolding first_sent
-sent_short [] = omega arith
-sent_short (x ∷ s) = go (end_first (x ∷ s)) (sent_short s)
-  where
-    go : (b : Bool) → length (first_sent s) ≤ length s → length (cond b [] (x ∷ first_sent s)) ≤ suc (length s)
-    go true h = omega arith
-    go false h = omega arith
 
 sent_whole : (s : List ℕ) → length s ≤ length (first_sent s) → first_sent s ≡ s
 unfolding first_sent

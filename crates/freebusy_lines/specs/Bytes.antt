@@ -1,6 +1,5 @@
 -- Bytes by their numbers, and words with letters in either case. Assumes nothing.
-use Rattle.std.specs.Prelude.{ℕ, Bool, true, false, cond, ◌&&◌, ◌||◌, not, List, [], ◌∷◌, eqb}
-use Rattle.std.specs.Prelude.{Option, None, Some}
+use Rattle.std.specs.Prelude.{ℕ, Bool, true, false, cond, ◌&&◌, ◌||◌, not, List, [], ◌∷◌, eqb, Option, None, Some}
 use Rattle.loops.specs.Lists.{all_of, is_empty}
 use Rattle.text_fields.specs.Spelling.{is_digit}
 use Rattle.letters.specs.Letters.{is_capital, capital}

@@ -3,10 +3,9 @@
 
 ghost use Rattle.std.specs.Prelude.{◌≡◌, ◌++◌, ◌≤◌, length, drop};
 ghost use Rattle.freebusy_lines.specs.Bytes.{spells, is_name_byte};
-ghost use Rattle.freebusy_lines.specs.Lines.{is_blank, unfolded};
+ghost use Rattle.freebusy_lines.specs.Lines.{is_blank, unfolded, sent_lines};
 ghost use Rattle.std.specs.Iterator.{YieldsFirstBy, item_count};
 ghost use Rattle.freebusy_lines.specs.inner.Reading.{fold_first, end_first, is_folded, first_sent};
-ghost use Rattle.freebusy_lines.specs.Lines.{sent_lines};
 ghost use Rattle.freebusy_lines.specs.inner.Sent.{as_sent, lines_left};
 
 // A space or a tab.

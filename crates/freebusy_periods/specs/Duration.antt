@@ -1,7 +1,6 @@
 -- A duration: RFC 5545, 3.3.6, one definition for each of its productions, under its name. Each reads all that is left of the period, and gives
 -- seconds, of any size; none where it is no such production. Assumes nothing.
-use Rattle.std.specs.Prelude.{ℕ, ◌+◌, ◌*◌, ◌-◌, Bool, true, false, cond, ◌||◌, List, [], ◌∷◌, eqb}
-use Rattle.std.specs.Prelude.{Option, None, Some}
+use Rattle.std.specs.Prelude.{ℕ, ◌+◌, ◌*◌, ◌-◌, Bool, true, false, cond, ◌||◌, List, [], ◌∷◌, eqb, Option, None, Some}
 use Rattle.loops.specs.Lists.{option}
 use Rattle.loops.specs.Search.{or_else}
 use Rattle.text_fields.specs.Spelling.{is_digit}

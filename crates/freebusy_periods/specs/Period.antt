@@ -1,6 +1,5 @@
 -- A period: RFC 5545, 3.3.9, and the window that it stands for. Assumes nothing.
-use Rattle.std.specs.Prelude.{ℕ, ◌+◌, ◌*◌, ◌-◌, Bool, false, cond, ◌&&◌, ◌||◌, List, ltb, leb}
-use Rattle.std.specs.Prelude.{Option, None, Result, Ok, Err}
+use Rattle.std.specs.Prelude.{ℕ, ◌+◌, ◌*◌, ◌-◌, Bool, false, cond, ◌&&◌, ◌||◌, List, ltb, leb, Option, None, Result, Ok, Err}
 use Rattle.loops.specs.Lists.{option, is_some}
 use Rattle.loops.specs.Search.{some_if}
 use Rattle.text_fields.specs.Parts.{until_byte}

@@ -28,6 +28,7 @@ const MOST: u64 = 4000000001;
 
 const LAST_INSTANT: u64 = 4000000000000;
 
+// The definition's `at_most`: one name for its five uses, with the bound that each of them rests on.
 fn cut(n: u64) -> u64
     ensures { (result ≡ at_most n) × (result ≤ 4000000001) }
 {

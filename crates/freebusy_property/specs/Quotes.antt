@@ -1,6 +1,5 @@
 -- The parts of a line that quotes keep together: a byte within quotes parts nothing. Assumes nothing.
-use Rattle.std.specs.Prelude.{ℕ, Bool, true, false, cond, ◌&&◌, not, List, [], ◌∷◌, eqb}
-use Rattle.std.specs.Prelude.{Option, None, Some}
+use Rattle.std.specs.Prelude.{ℕ, Bool, true, false, cond, ◌&&◌, not, List, [], ◌∷◌, eqb, Option, None, Some}
 use Rattle.text_fields.specs.Parts.{on_first}
 use Rattle.freebusy_lines.specs.Bytes.{QUOTE}
 

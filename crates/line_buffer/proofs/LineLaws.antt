@@ -1,4 +1,4 @@
--- Laws of `put_line` and `put_lines`: two runs in a row, a loop that reports, the buffer's length. Assumes nothing.
+-- Laws of `put_line` and `put_lines`: two runs in a row, the buffer's length. Assumes nothing.
 use Prim.Native.Nat.{ℕ, suc, ◌+◌, ◌*◌, ◌/◌, ◌^◌, ◌<◌, ◌≤◌}
 use mathlib.Core.Path.{◌≡◌, refl, ap, ap₂, sym, ◌∙◌}
 use mathlib.Core.Bool.{Bool, true, false, cond}
@@ -10,10 +10,8 @@ use lib.IntN.{ℤ}
 use mir.Syntax.{w64}
 use mir.Val.{Fits}
 use native.Mathlib.Omega.{arith}
-use native.Mathlib.Nat.{suc-mul, mul-le-mul_right, div-mul-le_self, div-zero}
+use native.Mathlib.Nat.{suc-mul, mul-le-mul_right, div-mul-le_self}
 use borrow.Author.Tests.{lt-ltb, le-ltb, ltb-true}
-use Rattle.loops.specs.Range.{collect}
-use Rattle.loops.proofs.RangeLaws.{collect_zero, collect_step, collect_done}
 use Rattle.line_buffer.specs.inner.Sink.{Sink, sink, more, put_line, put_lines}
 
 pub more_below : (n : ℕ) → n < 2 ^ 60 → more n ≡ n + 1
@@ -33,9 +31,6 @@ held_room l n w e f = held_within l n w (sym e ∙ f)
 
 pub held_fits : (l n w : ℕ) {b : Bool} → b ≡ ltb n (l / w) → b ≡ true → Fits w64 l → Fits w64 (n * w)
 held_fits l n w e f g = let h = held_room l n w e f in record { fits = omega (arith, g.fits) }
-
-pub held_none_lem : (l n w : ℕ) → w ≤ 0 → false ≡ ltb n (l / w)
-held_none_lem l n w h = let z : w ≡ 0 = omega arith in rw (z, div-zero) (sym (le-ltb n 0 (omega arith)))
 
 pub put_fits : (w : ℕ) (o : List ℤ) (n : ℕ) (line : List ℤ) → ltb n (length o / w) ≡ true → put_line w (sink o n) line ≡ sink (sets o (n * w) line) (more n)
 unfolding put_line
@@ -87,15 +82,3 @@ module _ {X : Type 0} (w : ℕ) (numbers : X → List ℤ) where
 
   pub lines_kept : {o : List ℤ} (o₀ : List ℤ) {n : ℕ} (n₀ : ℕ) (xs : List X) → sink o n ≡ put_lines w numbers (sink o₀ n₀) xs → length o ≡ length o₀
   lines_kept o₀ n₀ xs e = ap (λ s. length s.buf) e ∙ lines_length xs (sink o₀ n₀)
-
-  -- a loop that reports f i at turn i
-  module _ (f : ℕ → List X) where
-    pub turns_start : (s : Sink) → s ≡ put_lines w numbers s (collect f 0)
-    turns_start s = sym (ap (put_lines w numbers s) (collect_zero f) ∙ lines_none s)
-
-    pub turns_again : (i : ℕ) (s₀ : Sink) {s s' : Sink} → s ≡ put_lines w numbers s₀ (collect f i) → s' ≡ put_lines w numbers s (f i)
-        → s' ≡ put_lines w numbers s₀ (collect f (i + 1))
-    turns_again i s₀ p q = lines_then _ _ s₀ p q ∙ ap (put_lines w numbers s₀) (sym (collect_step f i))
-
-    pub turns_end : (i n N : ℕ) (s₀ : Sink) {s : Sink} → i ≤ n → n ≤ i → n ≡ N → s ≡ put_lines w numbers s₀ (collect f i) → s ≡ put_lines w numbers s₀ (collect f N)
-    turns_end i n N s₀ h k q p = p ∙ ap (put_lines w numbers s₀) (collect_done f i n N h k q)

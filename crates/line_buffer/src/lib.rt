@@ -14,7 +14,7 @@ fn store(out: &mut [i64], at: usize, line: &[i64])
     out[at..at + line.len()].copy_from_slice(line);
 }
 
-// One more, as far as is counted.
+// One more, as far as is counted. Not `saturating_add`: the count stops at 2^60, so that no sum with it overflows, and none above is cut.
 fn next(n: usize) -> usize
     ensures { result ≡ more n }
 {

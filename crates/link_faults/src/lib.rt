@@ -1,13 +1,8 @@
 // Refusals 4 and 5 of one row, which look at the others: an owner that is not in the sheet, a repeat of an earlier row.
 #![tactic(auto)]
 
-ghost use Rattle.std.specs.Prelude.{◌≡◌, ◌<◌, ◌≤◌};
-ghost use Rattle.std.specs.Prelude.{Some};
-ghost use Rattle.loops.specs.Search.{any_below};
+ghost use Rattle.std.specs.Prelude.{◌≡◌, ◌<◌, ◌≤◌, Some};
 ghost use Rattle.rows.specs.Cells.{row_count};
-ghost use Rattle.rows.specs.Kinds.{kind_number};
-ghost use Rattle.sheet.specs.Places.{named};
-ghost use Rattle.sheet.specs.inner.Index.{Kinds};
 ghost use Rattle.refusals.specs.Refusals.{verdict_of};
 ghost use Rattle.sheet.specs.Refusals.{has_members, unowned, owner_fault, repeat_fault};
 ghost use Rattle.sheet.specs.inner.Groups.{repeated_by};

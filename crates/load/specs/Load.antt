@@ -1,7 +1,6 @@
 -- Load: what the bookings of a resource take of it, its limit, and the resources that are booked. Beside it: `check_capacity` of scheduler/feasibility.rs,
 -- whose names stand in backquotes. An instant is anything that can be compared.
-use Rattle.std.specs.Prelude.{ℕ, Bool, cond, not, ◌&&◌, List, [], eqb, ℤ, pos}
-use Rattle.std.specs.Prelude.{Option}
+use Rattle.std.specs.Prelude.{ℕ, Bool, cond, not, ◌&&◌, List, [], eqb, ℤ, pos, Option}
 use Rattle.loops.specs.Lists.{given, any_of, last, option, each}
 use Rattle.loops.specs.Numbers.{max_z, min_z}
 use Rattle.loops.specs.Range.{collect}

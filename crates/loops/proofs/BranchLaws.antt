@@ -1,8 +1,8 @@
 -- Tests that code makes one after another, and the test or the answer that the definition puts together of them. Assumes nothing.
 use Prim.Native.Nat.{ℕ, ◌<◌, ◌≤◌}
-use mathlib.Core.Path.{◌≡◌, sym, ap, ◌∙◌}
+use mathlib.Core.Path.{◌≡◌, sym, ◌∙◌}
 use mathlib.Core.Bool.{Bool, true, false, cond, not, ◌&&◌, ◌||◌, and-false, and-true}
-use Rattle.std.specs.Prelude.{Option, None, Some}
+use Rattle.std.specs.Prelude.{Option, Some}
 use lib.Dec.{leb}
 use borrow.Author.Tests.{le-leb, lt-leb, not-true, not-false}
 use Rattle.loops.specs.Search.{or_else, some_if}
@@ -15,13 +15,7 @@ matched e f = sym e ∙ f
 pub told : {r b v : Bool} → r ≡ b → r ≡ v → b ≡ v
 told = matched
 
-pub untold_no : {r b : Bool} → r ≡ b → not r ≡ true → b ≡ false
-untold_no {r} e f = sym e ∙ not-true r f
-
 -- ---- of a choice
-
-pub chosen : {A : Type 0} {r : A} (b : Bool) (x y : A) → b ≡ true → r ≡ x → r ≡ cond b x y
-chosen b x y t e = rw t e
 
 pub passed : {A : Type 0} {r : A} (b : Bool) (x y : A) → b ≡ false → r ≡ y → r ≡ cond b x y
 passed b x y t e = rw t e
@@ -33,9 +27,6 @@ both_told e h f = rw (sym e ∙ h) f
 
 pub one_told : (q : Bool) {b p : Bool} → b ≡ p → b ≡ false → b ≡ (p && q)
 one_told q e h = rw (sym e ∙ h) h
-
-pub or_yes : {a : Bool} (b : Bool) → a ≡ true → true ≡ (a || b)
-or_yes b e = rw e
 
 pub or_no : {a b r : Bool} → a ≡ false → r ≡ b → r ≡ (a || b)
 or_no e q = rw e q
@@ -56,19 +47,7 @@ range_under low high {x} e l = rw (← e, lt-leb low x l)
 
 -- ---- of a refusal
 
-pub told_no : {r b : Bool} → r ≡ b → r ≡ false → not b ≡ true
-told_no e f = ap not (sym e ∙ f)
-
-pub told_yes : {r b : Bool} → r ≡ b → r ≡ true → not b ≡ false
-told_yes e f = ap not (sym e ∙ f)
-
 module _ {A : Type 0} {b : Bool} (x : A) where
-  pub if_yes : b ≡ true → Some x ≡ some_if b x
-  if_yes e = rw e
-
-  pub if_no : b ≡ false → None ≡ some_if b x
-  if_no e = rw e
-
   pub else_yes : (y : Option A) → b ≡ true → Some x ≡ or_else (some_if b x) y
   else_yes y e = rw e
 

@@ -1,12 +1,12 @@
 -- What a search that found a place says of it, what one that found none says of every place, and searches that agree. Assumes nothing.
 use Prim.Native.Nat.{ℕ, zero, suc, ◌+◌, ◌-◌, ◌<◌, ◌≤◌}
 use mathlib.Core.Path.{◌≡◌, refl, ap, ap₂, sym, ◌∙◌}
-use mathlib.Core.Bool.{Bool, true, false, cond, ◌||◌, true≢false}
+use mathlib.Core.Bool.{Bool, true, false, ◌||◌, true≢false}
 use Rattle.std.specs.Prelude.{Option, None, Some}
 use mathlib.Core.Logic.{◌⊎◌, inl, inr, ⊎_elim}
 use native.Mathlib.Omega.{arith}
 use native.Mathlib.Nat.{add-zero, add-suc, eq-or-lt_of_le, le_of_suc-le-suc, not-suc-le-zero}
-use Rattle.loops.specs.Search.{or_else, some_if, first, first_place, any_below, count_below}
+use Rattle.loops.specs.Search.{or_else, some_if, first, first_place, any_below}
 use Rattle.loops.specs.inner.Chain.{First}
 use Rattle.loops.proofs.SearchLaws.{any_none}
 
@@ -138,11 +138,6 @@ module _ (p q : ℕ → Bool) where
   unfolding first_place
   place_same zero h = refl
   place_same (suc n) h = ap₂ or_else (place_same n (λ k l. h k (omega arith))) (ap (λ b. some_if b n) (h n (omega arith)))
-
-  pub count_same : (n : ℕ) → ((k : ℕ) → k < n → p k ≡ q k) → count_below p n ≡ count_below q n
-  unfolding count_below
-  count_same zero h = refl
-  count_same (suc n) h = ap₂ ◌+◌ (count_same n (λ k l. h k (omega arith))) (ap (λ b. cond b 1 0) (h n (omega arith)))
 
   either_at : (a b x y : Bool) → ((a || b) || (x || y)) ≡ ((a || x) || (b || y))
   either_at true b x y = refl

@@ -1,5 +1,5 @@
 -- Laws of `fold` and `collect`, as a loop that counts up goes through them: its start, its turn, its end. Assumes nothing.
-use Prim.Native.Nat.{ℕ, zero, suc, ◌+◌, ◌*◌, ◌≤◌, ◌<◌}
+use Prim.Native.Nat.{ℕ, zero, suc, ◌+◌, ◌≤◌, ◌<◌}
 use mathlib.Core.Path.{◌≡◌, refl, ap, ap₂, sym, ◌∙◌}
 use mathlib.Core.List.{List, [], ◌++◌, append-nil, append_assoc}
 use native.Mathlib.Numerals.{add-one}
@@ -7,24 +7,6 @@ use native.Mathlib.Nat.{le_antisymm}
 use native.Mathlib.Omega.{arith}
 use lib.ListN.{length, length-append}
 use Rattle.loops.specs.Range.{fold, collect}
-
-module _ {B : Type 0} (f : B → ℕ → B) (b : B) where
-  pub fold_zero : fold f b 0 ≡ b
-  unfolding fold
-  fold_zero = refl
-
-  pub fold_start : b ≡ fold f b 0
-  fold_start = sym fold_zero
-
-  pub fold_step : (i : ℕ) → fold f b (i + 1) ≡ f (fold f b i) i
-  unfolding fold
-  fold_step i = rw add-one
-
-  pub fold_again : (i : ℕ) {e e' : B} → e ≡ fold f b i → e' ≡ f e i → e' ≡ fold f b (i + 1)
-  fold_again i p q = q ∙ ap (λ x. f x i) p ∙ sym (fold_step i)
-
-  pub fold_done : (i n N : ℕ) {e : B} → i ≤ n → n ≤ i → n ≡ N → e ≡ fold f b i → e ≡ fold f b N
-  fold_done i n N h k q p = p ∙ ap (fold f b) (le_antisymm h k ∙ q)
 
 module _ {A : Type 0} (f : ℕ → List A) where
   pub collect_zero : collect f 0 ≡ []
@@ -43,12 +25,6 @@ module _ {A : Type 0} (f : ℕ → List A) where
 
   pub collect_done : (i n N : ℕ) → i ≤ n → n ≤ i → n ≡ N → collect f i ≡ collect f N
   collect_done i n N h k q = ap (collect f) (le_antisymm h k ∙ q)
-
--- a sum that grows by at most g a turn
-pub fold_grows : (f : ℕ → ℕ → ℕ) (b g : ℕ) → ((a k : ℕ) → f a k ≤ a + g) → (n : ℕ) → fold f b n ≤ b + g * n
-unfolding fold
-fold_grows f b g h zero = omega arith
-fold_grows f b g h (suc n) = omega (arith, h (fold f b n) n, fold_grows f b g h n)
 
 -- ---- two ranges, turn by turn
 

@@ -36,9 +36,6 @@ module _ {A : Type 0} (f : ℕ → Option A) where
   first_done i n N h k q e = sym (ap (first f) (sym (le_antisymm h k ∙ q)) ∙ e)
 
 module _ (p : ℕ → Bool) where
-  place_at : ℕ → Option ℕ
-  place_at k = some_if (p k) k
-
   pub place_first : (n : ℕ) → first_place p n ≡ first (λ k. some_if (p k) k) n
   unfolding first first_place
   place_first zero = refl
@@ -85,9 +82,6 @@ module _ (p : ℕ → Bool) where
   pub any_hit : (i n N : ℕ) → i < n → n ≡ N → p i ≡ true → true ≡ any_below p N
   any_hit i n N l q e = sym (any_here n i l e) ∙ ap (any_below p) q
 
-  pub any_done : (i n N : ℕ) → i ≤ n → n ≤ i → n ≡ N → any_below p i ≡ false → false ≡ any_below p N
-  any_done i n N h h' q a = sym a ∙ ap (any_below p) (le_antisymm h h' ∙ q)
-
   -- nothing below n passes
   pub any_none : (n i : ℕ) → any_below p n ≡ false → i < n → p i ≡ false
   any_none n i e l = go (p i) refl
@@ -100,14 +94,6 @@ module _ (p : ℕ → Bool) where
   unfolding any_below
   none_below zero h = refl
   none_below (suc n) h = rw (none_below n (λ k l. h k (omega arith)), h n (omega arith))
-
-  pub count_zero : 0 ≡ count_below p 0
-  unfolding count_below
-  count_zero = refl
-
-  pub count_again : (i : ℕ) {x y : ℕ} → x ≡ count_below p i → y ≡ x + cond (p i) 1 0 → y ≡ count_below p (i + 1)
-  unfolding count_below
-  count_again i a e = e ∙ rw (a, add-one)
 
   pub count_le : (n : ℕ) → count_below p n ≤ n
   unfolding count_below

@@ -32,9 +32,6 @@ module _ {A : Type 0} where
   pub wrote_none : (l : List A) (at : ℕ) → at ≤ length l → Wrote l at l at []
   wrote_none l at h = record { place = omega arith; buffer = refl }
 
-  pub wrote_past : (l : List A) (at : ℕ) (x : A) → at ≤ length l → length l ≤ at → Wrote l at l at (x ∷ [])
-  wrote_past l at x h k = record { place = omega arith; buffer = sym (set_out l at x k) }
-
   pub wrote_long : {l m : List A} {i j : ℕ} {a : List A} → Wrote l i m j a → length m ≡ length l
   wrote_long {l = l} {i = i} {a = a} v = ap length v.buffer ∙ length-sets l i a
 

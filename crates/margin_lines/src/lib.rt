@@ -83,6 +83,7 @@ fn put_resource(rows: &Sheet, x: u64, bookings: &mut Bookings, lines: &mut Lines
 fn put_resources(rows: &Sheet, lines: &mut Lines)
     ensures { so_far lines.new ≡ tell (so_far lines.old) (each (resource_margin clock (sheet rows.now)) (booked_resources (sheet rows.now))) }
 {
+    // No heap: room for a booking of each row.
     let mut room = [NO_BOOKING; 800];
     let mut bookings = Bookings::over(&mut room);
     let by_kind = rows.by_kind();

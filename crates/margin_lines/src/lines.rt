@@ -54,7 +54,8 @@ fn put(out: &mut [i64], n: usize, m: Margin) -> usize
     line_buffer::put(out, n, &line)
 }
 
-// The lines so far: a lent buffer, and how many there are.
+// The lines so far: a lent buffer, and how many there are. `findings::Findings` has the same two fields; what both rest on is one (`line_buffer::put` and
+// its page Told), and a type over it would still be wrapped by each, to be told of margins here and of violations there.
 #[derive(Drop)]
 pub struct Lines<'a> {
     out: &'a mut [i64],

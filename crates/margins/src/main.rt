@@ -48,7 +48,7 @@ fn print_margins(rows: &[i64], out: &mut [u8]) -> usize
     ensures upper_bound { result ≤ 40800 }
     ensures out_after { take result out.new ≡ printed_margins rows.now }
 {
-    // Room for 800 lines.
+    // Room for 800 lines: programs have no heap.
     let mut lines = [0i64; 2400];
     let answer = margin_lines::margins(rows, &mut lines);
     let lines = text_program::kept(lines);
@@ -77,7 +77,7 @@ fn main(rt: HostRuntime) {
         awaited: b"margins: a sheet is read from standard input, up to the end of input (Ctrl-D)",
         output: b"margins: standard output",
     };
-    // Room for what is printed of 800 lines.
+    // Room for what is printed of them.
     let mut out = [0u8; 40800];
     text_program::run(&rt, words, &mut out, print_text);
 }

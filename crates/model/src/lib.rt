@@ -10,7 +10,8 @@ use owners::{ByOwner, LinkIndex, OwnerIndex, Owners};
 use sheet::{ByKind, KindIndex, Rows};
 use std::marker::Model;
 
-// A sheet that refusals 1 to 5 let pass, with the tables that index its rows; seen as the rows.
+// A sheet that refusals 1 to 5 let pass, with the tables that index its rows; seen as the rows. There is no heap: the tables are arrays of 16-bit places for
+// at most 800 rows, lent by the call.
 #[derive(Drop)]
 pub struct Sheet<'a> {
     rows: &'a [i64],

@@ -120,7 +120,7 @@ pub trait OwnerIndex: Rows {
     }
 }
 
-// The rows of a sheet with the table of owners; seen as the rows.
+// The rows of a sheet with the table of owners; seen as the rows. There is no heap: tables are arrays that are lent.
 #[derive(Drop)]
 pub struct OwnerLinks<'a> {
     rows: &'a [i64],

@@ -5,10 +5,8 @@
 ghost use Rattle.std.specs.Prelude.{Some, ◌≡◌, suc, ◌+◌, ◌*◌, ◌%◌, ◌<◌, ◌≤◌, true, cond, length, get_or, set, replicate};
 ghost use Rattle.loops.specs.Search.{first_place, any_below};
 ghost use Rattle.loops.specs.inner.Chain.{First, Stands, same};
-ghost use Rattle.rows.specs.Cells.{row_count, num, is};
-ghost use Rattle.sheet.specs.Places.{task_place, activity_place, resource_place, requirement_place, is_constraint, constraint_place};
-ghost use Rattle.sheet.specs.inner.Found.{found_of};
-ghost use Rattle.sheet.specs.inner.Index.{or_end, Kinds};
+ghost use Rattle.rows.specs.Cells.{row_count, num};
+ghost use Rattle.sheet.specs.Places.{requirement_place, is_constraint, constraint_place};
 ghost use Rattle.owners.specs.inner.Owners.{owner_kind, owner_place, own_place, res_place, owned_by, owned_key, Numbered, Linked, Owned};
 
 pub mod by_owner;
@@ -184,6 +182,8 @@ fn resource_of(rows: &[i64], links: &[u16; 1600], k: usize) -> usize
 }
 
 // ---- the rows that belong to a row
+
+// Private functions on the table take a kind by its number, since that is what the table is indexed by.
 
 // Row i before the other rows of its key.
 fn link_owned(t: &mut [u16; 8810], k: usize, i: usize)

@@ -1,8 +1,7 @@
 // The share of a fixed processing time that a part of a split activity takes.
 #![tactic(auto)]
 
-ghost use Rattle.std.specs.Prelude.{◌≡◌, ◌≤◌};
-ghost use Rattle.std.specs.Prelude.{Some};
+ghost use Rattle.std.specs.Prelude.{◌≡◌, ◌≤◌, Some};
 ghost use Rattle.rounding.specs.inner.Limited.{limited};
 ghost use Rattle.part_share.specs.Share.{share_of};
 ghost use Rattle.part_share.specs.inner.Within.{share_within};

@@ -9,7 +9,7 @@ use lib.IntN.{ℤ}
 use lib.ListN.{length, get_or, set, replicate, length-set, length-replicate}
 use lib.Seq.{get_or-set_same, get_or-set_other}
 use Rattle.rows.specs.Cells.{row_count}
-use Rattle.pieces.specs.inner.Bookings.{Marks}
+use Rattle.pieces.specs.inner.Marks.{Marks}
 
 -- a mark tells what it marks
 pub mark_is : (rows : List ℤ) {f : ℕ → Bool} {t : List Bool} {k : ℕ} → Marks rows f t → k < row_count rows → get_or t k false ≡ f k

@@ -1,2 +1,3 @@
 pub mod Bookings
 pub mod Held
+pub mod Marks

@@ -4,14 +4,16 @@
 
 ghost use Rattle.std.specs.Prelude.{◌≡◌, ◌<◌, ◌≤◌, ℕ, Bool, true, not, ◌&&◌};
 ghost use Rattle.loops.specs.inner.Chain.{Blind};
+ghost use Rattle.loops.specs.inner.Tells.{TellsAs};
 ghost use Rattle.loops.specs.Search.{any_below, first_place};
 ghost use Rattle.rows.specs.Cells.{row_count, num, is};
 ghost use Rattle.rows.specs.Kinds.{kind_number};
 ghost use Rattle.sheet.specs.Places.{of_kind};
 ghost use Rattle.sheet.specs.inner.Accepted.{Accepted};
 ghost use Rattle.owners.specs.inner.Owners.{owned_by};
-ghost use Rattle.pieces.specs.inner.Bookings.{index_key, key_at, in_piece, same_booking, first_on, Marks, Tells, names, holds_for};
+ghost use Rattle.pieces.specs.inner.Bookings.{index_key, key_at, in_piece, same_booking, first_on, names, holds_for};
 ghost use Rattle.pieces.specs.inner.Held.{held_at, Held};
+ghost use Rattle.pieces.specs.inner.Marks.{Marks};
 
 pub mod marked_rows;
 
@@ -96,11 +98,11 @@ fn first_at(rows: &ByKind, k: usize) -> bool
     rows.is_of_kind(k, Kind::Booking) && is_first(rows, k)
 }
 
-// True at each row that passes a test, false at the others and past the last one.
+// True at each row that passes a test, false at the others and past the last one: a mark for each of at most 800 rows, since there is no heap.
 fn marks_of<F: Fn(usize) -> bool>(rows: &[i64], test: F) -> [bool; 800]
     requires few { row_count rows.now ≤ 800 }
     requires callable { (k : ℕ) → k < row_count rows.now → F.pre test k }
-    ensures { (f : ℕ → Bool) → Tells rows.now (F.post test) f → Marks rows.now f result }
+    ensures { (f : ℕ → Bool) → TellsAs (λ b. b) (row_count rows.now) (F.post test) f → Marks rows.now f result }
 {
     let mut marks = [false; 800];
     for k in 0..rows::row_count(rows) {

@@ -1,8 +1,7 @@
 -- Worked examples of the definitions. Assumes nothing.
-use Rattle.std.specs.Prelude.{Err}
+use Rattle.std.specs.Prelude.{Err, Ok}
 use Rattle.refusals.specs.Refusals.{at}
 use Rattle.refusals.specs.declared.Reason.TheVariants.{Crowded}
-use Rattle.std.specs.Prelude.{Ok}
 use Prim.Native.Nat.{ℕ}
 use mathlib.Core.List.{List, [], ◌∷◌, ◌++◌}
 use mathlib.Core.Path.{◌≡◌, refl, ap}

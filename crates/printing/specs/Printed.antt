@@ -1,7 +1,6 @@
 -- What the programs print: "refused,NUMBER,PLACE"; or of findings "accepted,COUNT" and then a line "check,type,entity,severity" for each, of other lines
 -- these alone. Each line is ended by a line feed (10); 44 is the comma. Assumes nothing.
-use Rattle.std.specs.Prelude.{ℕ, List, [], ◌∷◌, ◌++◌, ℤ}
-use Rattle.std.specs.Prelude.{Result, Ok, Err}
+use Rattle.std.specs.Prelude.{ℕ, List, [], ◌∷◌, ◌++◌, ℤ, Result, Ok, Err}
 use Rattle.refusals.specs.Refusals.{number_of}
 use Rattle.refusals.specs.declared.Refusal.{Refusal}
 use Rattle.printing.specs.Decimal.{decimal}

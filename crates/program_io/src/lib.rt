@@ -114,7 +114,7 @@ fn read_at(source: &mut Channel<Stdin>, buffer: &mut [u8], place: Place) -> Answ
     system::read(source, &mut buffer[done..])
 }
 
-// Reads until the input ends or the buffer is full. No read follows the end: at a terminal it would wait for more.
+// Reads until the input ends or the buffer is full, in steps of any length. No read follows the end: at a terminal it would wait for more.
 // Writing has a loop of its own: one for both would take a trait whose contracts repeat what becomes of the lent buffer, longer than this loop.
 fn read_to_end(source: &mut Channel<Stdin>, buffer: &mut [u8]) -> Ended
     ensures { ToEnd result (length buffer.new) }
@@ -176,7 +176,7 @@ fn write_at(sink: &mut Channel<Stdout>, bytes: &[u8], place: Place) -> Answer
     system::write(sink, rest_of(bytes, done))
 }
 
-// Writes until every byte is taken, or a write fails or takes nothing.
+// Writes until every byte is taken, or a write fails or takes nothing. Steps of any length, as in `read_to_end`, where it is said why each has its loop.
 fn write_to_end(sink: &mut Channel<Stdout>, bytes: &[u8]) -> Ended
     ensures { ToEnd result (length bytes.now) }
 {

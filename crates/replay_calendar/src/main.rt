@@ -22,7 +22,7 @@ fn number_at(numbers: &[i64], i: usize) -> i64 {
     numbers.get(i).copied().unwrap_or(0)
 }
 
-// The numbers, three by three, as windows.
+// The numbers, three by three, as windows, in arrays since programs have no heap.
 fn windows_of(numbers: &[i64]) -> [TimeWindow; 800] {
     let none = TimeWindow {
         kind: WindowKind::Neither,

@@ -1,7 +1,6 @@
 -- The time of a piece on the resources that it runs on, as activity.rs has it, with exact sums. Assumes nothing.
-use Rattle.std.specs.Prelude.{ℕ, ◌+◌, false, cond, ltb, ℤ, pos, Float}
+use Rattle.std.specs.Prelude.{ℕ, ◌+◌, false, cond, ltb, ℤ, pos, Float, Option, None, Some}
 use mathlib.Core.List.{List, foldl}
-use Rattle.std.specs.Prelude.{Option, None, Some}
 use Rattle.std.specs.Int.Signed.{lt_z}
 use Rattle.std.specs.Float.{fin, binary64}
 use Rattle.std.specs.Float.Ieee.{mul, eq}

@@ -81,7 +81,7 @@ impl ActivityDuration {
     }
 }
 
-// The duration of greater total, the first of two equal ones.
+// The duration of greater total, the first of two equal ones. Not by `max_by_key`: it gives the last of equal ones, and either total may be refused.
 #[tactic(auto, unfolding(rounding::specs::inner::Limited::limited, crate::specs::inner::Limits::longer_of, crate::specs::inner::Limits::time_of))]
 fn longer(first: Derived, next: Derived) -> Derived
     ensures { result ≡ longer_of first next }

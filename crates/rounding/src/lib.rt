@@ -1,8 +1,7 @@
 // Times in whole ms that floats yield: a processing time divided by a product of speeds, and rounded.
 #![tactic(auto)]
 
-ghost use Rattle.std.specs.Prelude.{◌≡◌, from_bits};
-ghost use Rattle.std.specs.Prelude.{Some};
+ghost use Rattle.std.specs.Prelude.{◌≡◌, from_bits, Some};
 ghost use Rattle.std.specs.Float.{binary64};
 ghost use Rattle.rounding.specs.Rounding.{rounded, divided_by};
 ghost use Rattle.rounding.specs.inner.Limited.{limited};

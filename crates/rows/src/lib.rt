@@ -285,7 +285,7 @@ fn cell_past(rows: &[i64], k: usize, c: usize) -> i64
     }
 }
 
-// A number as a natural number, 0 for a negative one.
+// A number as a natural number, 0 for a negative one: the definition's `to_nat`, under one name for all who read a number so.
 pub fn nat(x: i64) -> u64
     ensures { result ≡ to_nat x }
 {

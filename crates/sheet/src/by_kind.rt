@@ -184,7 +184,7 @@ pub trait KindIndex: Rows {
     }
 }
 
-// The rows of a sheet with the table of the rows by kind and by name; seen as the rows.
+// The rows of a sheet with the table of the rows by kind and by name; seen as the rows. There is no heap: the table is an array that is lent.
 #[derive(Drop)]
 pub struct ByKind<'a> {
     rows: &'a [i64],

@@ -2,11 +2,11 @@
 // each place. A lookup answers an enum; a table of places holds what was found as a number.
 #![tactic(auto)]
 
-ghost use Rattle.std.specs.Prelude.{◌≡◌, suc, ◌+◌, ◌<◌, ◌≤◌, length, get_or, set, replicate};
+ghost use Rattle.std.specs.Prelude.{◌≡◌, suc, ◌+◌, ◌<◌, ◌≤◌, length, get_or, set};
 ghost use Rattle.loops.specs.Search.{any_below};
 ghost use Rattle.loops.specs.inner.Chain.{First, Stands, same};
 ghost use Rattle.rows.specs.Cells.{row_count};
-ghost use Rattle.sheet.specs.Places.{of_kind, named, place_of, task_place, activity_place, resource_place};
+ghost use Rattle.sheet.specs.Places.{of_kind, named};
 ghost use Rattle.sheet.specs.inner.Found.{found_of};
 ghost use Rattle.sheet.specs.inner.Groups.{named_pair};
 ghost use Rattle.sheet.specs.inner.Kept.{IsRow};
@@ -16,7 +16,7 @@ pub mod by_kind;
 
 pub use by_kind::{ByKind, KindIndex, Rows};
 
-// What a lookup of an activity or a resource answers.
+// What a lookup of an activity or a resource answers. No Option: the project's paper asks for an enum of its own (docs/DECISIONS.md, 26).
 #[derive(Clone, Copy)]
 pub enum Found {
     At(usize),
@@ -71,6 +71,8 @@ pub fn stored_place(rows: &[i64], i: usize) -> Option<usize>
 
 // ---- rows by kind
 
+// Private functions on the table take a kind by its number, since that is what the table is indexed by.
+
 // Row i before the other rows of its kind.
 fn link_kind(t: &mut [u16; 3680], k: usize, i: usize)
     requires { (i < 800) × (k < 32) }
@@ -99,7 +101,7 @@ fn link_name(t: &mut [u16; 3680], k: usize, i: usize)
     t[832 + (800 + k)] = i as u16;
 }
 
-// Fills the table of the rows by kind: the next row of row i's kind at place i, the first row of kind k at place 800 + k.
+// Fills the table of the rows by kind, an array since there is no heap: the next row of row i's kind at place i, the first row of kind k at place 800 + k.
 // Behind them the rows by kind and name, in the same way: the next row of row i's chain at place 832 + i, the first row of chain k at place 1632 + k.
 pub fn kinds_into(rows: &[i64], t: &mut [u16; 3680])
     requires { Shaped rows.now × (length t.old ≡ 3680) }

@@ -1,16 +1,16 @@
 -- Laws of the bytes that a case's lines give. Assumes nothing.
-use Prim.Native.Nat.{ℕ, ◌+◌, ◌≤◌, ◌<◌}
+use Prim.Native.Nat.{ℕ, ◌+◌, ◌<◌}
 use mathlib.Core.List.{List, [], ◌∷◌, ◌++◌, map}
-use mathlib.Core.Path.{◌≡◌, sym, ap}
+use mathlib.Core.Path.{◌≡◌, sym}
 use native.Mathlib.Numerals.{add-one}
 use borrow.Author.Tests.{eq-eqb, ne_eqb}
-use lib.ListN.{length, get_or, drop, drop_of_length-le}
+use lib.ListN.{length, get_or, drop}
 use lib.Seq.{drop-cons}
 use Rattle.loops.specs.inner.Wrote.{Wrote}
 use Rattle.stored_lines.specs.inner.Line.{letter, count, piece}
 use Rattle.stored_numbers.specs.inner.Numbers.{times}
 use Rattle.stored_numbers.specs.inner.Yet.{Yet}
-use Rattle.stored_numbers.proofs.PutLaws.{yet_less, yet_none, yet_as}
+use Rattle.stored_numbers.proofs.PutLaws.{yet_less, yet_as}
 use Rattle.stored_bytes.specs.inner.Bytes.{meant, bytes_of}
 
 -- the bytes that others stand for: one more of them is written, none is left
@@ -19,9 +19,6 @@ pub bytes_less : {l m o : List ℕ} {i j k : ℕ} {all : List ℕ} (s : List ℕ
 bytes_less s n x h y e w =
     let d : map meant (drop n s) ≡ (x ∷ []) ++ map meant (drop (n + 1) s) = rw (drop-cons s n 0 h, e, add-one n) in
     yet_less (x ∷ []) (map meant (drop (n + 1) s)) (yet_as d y) w
-
-pub bytes_none : {l m : List ℕ} {i j : ℕ} {all : List ℕ} (s : List ℕ) (n : ℕ) → length s ≤ n → Yet l i all m j (map meant (drop n s)) → Wrote l i m j all
-bytes_none s n h y = yet_none (yet_as (ap (map meant) (drop_of_length-le s {i = n} h)) y)
 
 -- what a line gives, by its letter
 module _ (l : List ℕ) {x : ℕ} (e : x ≡ letter l) where

@@ -1,19 +1,14 @@
 -- Laws of a line's letter, count and piece, and of the tests that say whether it is formed. Assumes nothing.
-use Prim.Native.Nat.{ℕ, ◌+◌, ◌≤◌, ◌<◌}
+use Prim.Native.Nat.{ℕ, ◌≤◌, ◌<◌}
 use mathlib.Core.Bool.{Bool}
 use mathlib.Core.List.{List}
 use mathlib.Core.Path.{◌≡◌, sym, ap, ◌∙◌}
 use borrow.Author.Tests.{lt-ltb, le-ltb}
 use lib.Dec.{ltb}
-use lib.IntN.{ℤ}
-use lib.ListN.{length, drop}
-use mir.Syntax.{w64}
-use mir.Val.{SFits, to_z, of_z}
-use mir.Facts.{to_z-of_z}
-use Rattle.loops.specs.Numbers.{to_nat}
+use lib.ListN.{length}
 use Rattle.text_fields.specs.Parts.{until_byte}
-use Rattle.text_line.specs.Line.{fields_of, value_of, spelled}
-use Rattle.stored_lines.specs.inner.Line.{body, count, piece, has_count}
+use Rattle.text_line.specs.Line.{fields_of, spelled}
+use Rattle.stored_lines.specs.inner.Line.{body, count, has_count}
 
 -- the parts of a line: b is what follows its letter, f what stands there before the first comma
 module _ {b : List ℕ} (l : List ℕ) (e : b ≡ body l) where
@@ -24,12 +19,6 @@ module _ {b : List ℕ} (l : List ℕ) (e : b ≡ body l) where
   body_short h = h ∙ ap (λ (s : List ℕ). ltb (length (fields_of s)) 12) e
 
   module _ {f : List ℕ} (p : f ≡ until_byte 44 b) where
-    pub piece_is : {r : List ℕ} → r ≡ drop (length f + 1) b → r ≡ piece l
-    piece_is h = rw (h, p, e)
-
-    pub count_is : {r : ℕ} {v : ℤ} → v ≡ value_of f → SFits w64 v → r ≡ to_nat (to_z w64 (of_z w64 v)) → r ≡ count l
-    count_is q k h = h ∙ ap to_nat (to_z-of_z k ∙ q ∙ ap value_of (p ∙ ap (until_byte 44) e))
-
     pub has_more : {n : ℕ} → n ≡ count l → 0 < n → ltb (length f) (length b) ≡ has_count l
     unfolding has_count
     has_more {n} q h = rw (sym q, lt-ltb 0 n h, p, e)

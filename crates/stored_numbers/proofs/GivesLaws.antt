@@ -7,9 +7,8 @@ use mathlib.Core.Bool.{Bool, true, false, cond}
 use mathlib.Core.List.{List, [], ◌∷◌, map}
 use mathlib.Core.Path.{◌≡◌, refl, ap, ◌∙◌}
 use Rattle.std.specs.Prelude.{Option, None, Some}
-use Rattle.loops.specs.Lists.{option}
+use Rattle.loops.specs.Lists.{option, each}
 use lib.Dec.{eqb}
-use Rattle.loops.specs.Lists.{each}
 use Rattle.loops.proofs.ListLaws.{each_ext}
 use Rattle.text_line.specs.Line.{row_of}
 use Rattle.stored_lines.specs.inner.Line.{letter, count, piece}

@@ -1,10 +1,9 @@
 -- A text: lines, each ended by a line feed. It gives its rows, or it is refused: by 8, or at the first line that is refused by 9, 2, 9 (see
 -- Line) or, past the lent rows, 10. Assumes nothing.
-use Rattle.std.specs.Prelude.{ℕ, suc, ◌*◌, cond, List, [], ◌∷◌, ◌++◌, ltb, length, drop, ℤ}
+use Rattle.std.specs.Prelude.{ℕ, suc, ◌*◌, cond, List, [], ◌∷◌, ◌++◌, ltb, length, drop, ℤ, Result, Ok, Err}
 use Rattle.loops.specs.Lists.{is_empty}
 use Rattle.text_fields.specs.Parts.{parts}
 use Rattle.text_line.specs.Line.{line_of, row_of}
-use Rattle.std.specs.Prelude.{Result, Ok, Err}
 use Rattle.refusals.specs.Refusals.{at}
 use Rattle.refusals.specs.declared.Reason.{Reason}
 use Rattle.refusals.specs.declared.Reason.TheVariants.{Overlong, Misspelt, Crowded}

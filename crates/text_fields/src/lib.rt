@@ -76,7 +76,7 @@ fn read_digits(s: &[u8]) -> Option<u64>
     }
 }
 
-// The number with a minus in front.
+// The number with a minus in front; of 0 none, since -0 is misspelt. The library's negations take 0.
 fn negated(n: u64) -> Option<i64>
     requires { n < 2 ^ 63 }
     ensures { result ≡ negative (Some n) }

@@ -10,7 +10,7 @@ use Rattle.rows.specs.declared.Kind.{Kind}
 use Rattle.rows.specs.Kinds.{kind_of, kind_number}
 use Rattle.rows.specs.Table.{width}
 use Rattle.rows.proofs.KindNumbers.{is_known, kind_number_is}
-use Prim.Native.Nat.{ℕ, suc, ◌+◌, ◌-◌, ◌≤◌, ◌<◌, ◌^◌}
+use Prim.Native.Nat.{ℕ, suc, ◌+◌, ◌-◌, ◌<◌, ◌^◌}
 use mathlib.Core.Bool.{Bool, true}
 use mathlib.Core.List.{List, [], ◌∷◌, map}
 use mathlib.Core.Path.{◌≡◌, refl, ap, sym, ◌∙◌}
@@ -30,9 +30,6 @@ use Rattle.text_fields.proofs.PartLaws.{parts_first, parts_count}
 module _ {all : List ℤ} (rows : List ℤ) (i to : ℕ) (now : sets rows i (replicate (to - i) (pos 0)) ≡ all) where
   pub zero_more : {m : List ℤ} → i < to → m ≡ set rows i (pos 0) → sets m (i + 1) (replicate (to - (i + 1)) (pos 0)) ≡ all
   zero_more h s = let e : to - i ≡ suc (to - (i + 1)) = omega arith in rw (s, add-one i) (rw (e, add-one i) at now)
-
-  pub zero_end : to ≤ i → rows ≡ all
-  zero_end h = let e : to - i ≡ 0 = omega arith in rw e at now
 
 -- the kinds are 1 to 24
 known : (k : ℕ) → (ltb 0 k && ltb k 25) ≡ is_some (kind_of k)

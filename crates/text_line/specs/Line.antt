@@ -1,6 +1,6 @@
 -- A line: the kind and its columns in order, parted by commas. It is a row, or it is refused by 9 (spelling, empty kind), 2 (no such kind) or
 -- 9 (field count), in this order. Assumes nothing.
-use Rattle.std.specs.Prelude.{ℕ, suc, ◌-◌, Bool, cond, ◌&&◌, not, List, [], ◌++◌, map, eqb, ltb, length, get_or, replicate, ℤ, pos}
+use Rattle.std.specs.Prelude.{ℕ, suc, ◌-◌, Bool, cond, ◌&&◌, not, List, [], ◌++◌, map, eqb, ltb, length, get_or, replicate, ℤ, pos, Option, Result, Ok, Err}
 use Rattle.loops.specs.Lists.{all_of, is_empty}
 use Rattle.loops.specs.Numbers.{to_nat}
 use Rattle.refusals.specs.declared.Reason.{Reason}
@@ -8,7 +8,6 @@ use Rattle.refusals.specs.declared.Reason.TheVariants.{UnknownKind, Misspelt}
 use Rattle.rows.specs.Table.{width}
 use Rattle.text_fields.specs.Parts.{parts}
 use Rattle.text_fields.specs.Spelling.{number_of}
-use Rattle.std.specs.Prelude.{Option, Result, Ok, Err}
 use Rattle.std.specs.Option.{is_some, unwrap_or}
 
 abbrev pub fields_of : List ℕ → List (List ℕ)

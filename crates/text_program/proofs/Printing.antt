@@ -1,5 +1,5 @@
 -- What stands in a program's buffer of bytes after it has printed a text; the parts of the buffers that it lends. Assumes nothing.
-use Rattle.std.specs.Prelude.{Option, Some, Result, Ok, Err}
+use Rattle.std.specs.Prelude.{Result, Ok, Err}
 use Rattle.refusals.specs.Refusals.{at, number_of}
 use Rattle.refusals.specs.declared.Reason.{Reason}
 use Rattle.refusals.specs.declared.Reason.TheVariants.{Misshapen, UnknownKind, OutOfRange, Stray, Twice, Stretched, Full, Overlong, Misspelt, Crowded, Malformed, Undated, Overfull}
@@ -26,7 +26,6 @@ use Rattle.text.proofs.TextLaws.{accepted_rows}
 use Rattle.refusals.proofs.AnswerLaws.{no_accept}
 use Rattle.printing.specs.Printed.{printed_refused}
 use Rattle.printing.proofs.FitLaws.{Small, refused_fits}
-use Rattle.program_io.specs.inner.Input.{Held}
 use Rattle.text_program.specs.Text.{printed_text}
 
 -- ---- numbers of 64 bits
@@ -84,17 +83,6 @@ module _ {o o' : List ℕ} {r most : ℕ} (e : Refusal) (w : Wrote o 0 o' r (pri
 
   pub refused_first : take r o' ≡ printed_refused (number_of e.reason) e.place
   refused_first = stood.1
-
--- the first bytes of a text that was read, and of what is printed
-module _ (i : Option ℕ) (n : ℕ) (buffer : List ℕ) (h : Held i buffer) (e : i ≡ Some n) where
-  pub read_within : n ≤ length buffer
-  read_within = (rw e at h).0
-
-  pub read_first : n ≡ length (take n buffer)
-  read_first = (rw e at h).1
-
-pub printed_first : (n : ℕ) (o : List ℕ) {most : ℕ} → n ≤ most → length o ≡ most → n ≡ length (take n o)
-printed_first n o h l = sym (length-take-le n o (omega arith))
 
 -- ---- a text
 

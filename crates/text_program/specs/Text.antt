@@ -1,9 +1,8 @@
 -- What a program that reads a sheet as text prints of a text, by what it prints of rows. It lends 800 rows. One list of bytes for each text: two printouts
 -- of one text are the same. Assumes nothing.
-use Rattle.std.specs.Prelude.{Result, Ok, Err}
+use Rattle.std.specs.Prelude.{Result, Ok, Err, ℕ, List, ℤ, ◌≡◌, ◌≤◌, length, take}
 use Rattle.refusals.specs.Refusals.{number_of}
 use Rattle.refusals.specs.declared.Refusal.{Refusal}
-use Rattle.std.specs.Prelude.{ℕ, List, ℤ, ◌≡◌, ◌≤◌, length, take}
 use denote.Ref.{Bor, MutBor}
 use Rattle.text_fields.specs.Parts.{parts}
 use Rattle.text.specs.Text.{answer_of, rows_of}

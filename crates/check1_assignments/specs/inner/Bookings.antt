@@ -1,7 +1,6 @@
 -- A booking with its activity by their rows, and what check 1 counts and sums of them. Assumes nothing.
-use Rattle.std.specs.Prelude.{ℕ, ◌<◌, ◌≡◌, Bool, true, not, ◌&&◌, ℤ, pos, ◌+ℤ◌}
+use Rattle.std.specs.Prelude.{ℕ, ◌<◌, ◌≡◌, Bool, true, not, ◌&&◌, ℤ, pos, ◌+ℤ◌, Some}
 use mathlib.Core.List.{List, map, foldl}
-use Rattle.std.specs.Prelude.{Some}
 use Rattle.loops.specs.Lists.{any_of}
 use Rattle.rows.specs.Cells.{row_count, num, is}
 use Rattle.sheet.specs.Places.{place_of}

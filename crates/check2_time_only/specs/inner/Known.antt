@@ -1,6 +1,5 @@
 -- The activity that a span names, by its row. Assumes nothing.
-use Rattle.std.specs.Prelude.{ℕ, ◌&&◌, cond, List, ℤ}
-use Rattle.std.specs.Prelude.{Option, None, Some}
+use Rattle.std.specs.Prelude.{ℕ, ◌&&◌, cond, List, ℤ, Option, None, Some}
 use Rattle.loops.specs.Lists.{option, is_empty}
 use Rattle.rows.specs.Cells.{num, is}
 use Rattle.sheet.specs.Places.{place_of}

@@ -1,6 +1,5 @@
 -- Which resources the bookings of a piece are on, by row. Assumes nothing.
-use Rattle.std.specs.Prelude.{ℕ, ◌<◌, ◌≤◌, ◌≡◌, Bool, true, false, ◌&&◌, List, eqb, ℤ, length, get_or}
-use Rattle.std.specs.Prelude.{Some}
+use Rattle.std.specs.Prelude.{ℕ, ◌<◌, ◌≤◌, ◌≡◌, Bool, true, false, ◌&&◌, List, eqb, ℤ, length, get_or, Some}
 use Rattle.loops.specs.Lists.{option}
 use Rattle.loops.specs.Search.{any_below}
 use Rattle.rows.specs.Cells.{row_count, num}

@@ -1,6 +1,5 @@
 -- The starts of a synchronize constraint's members, seen one after the other. Assumes nothing.
-use Rattle.std.specs.Prelude.{ℕ, Bool, false, not, ◌||◌, List, [], ◌∷◌, ℤ}
-use Rattle.std.specs.Prelude.{Option, Some}
+use Rattle.std.specs.Prelude.{ℕ, Bool, false, not, ◌||◌, List, [], ◌∷◌, ℤ, Option, Some}
 use Rattle.loops.specs.Lists.{option}
 use Rattle.calendar.specs.Clock.{clock}
 use Rattle.rows.specs.Cells.{num}

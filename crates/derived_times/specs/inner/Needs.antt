@@ -1,6 +1,5 @@
 -- The derived times of the bookings, by row, as the code holds them. Assumes nothing.
-use Rattle.std.specs.Prelude.{ℕ, ◌+◌, ◌^◌, ◌<◌, ◌≤◌, ◌≡◌, List, [], ◌∷◌, ℤ, get_or}
-use Rattle.std.specs.Prelude.{Some, Ok, Err}
+use Rattle.std.specs.Prelude.{ℕ, ◌+◌, ◌^◌, ◌<◌, ◌≤◌, ◌≡◌, List, [], ◌∷◌, ℤ, get_or, Some, Ok, Err}
 use Rattle.loops.specs.Lists.{head, option}
 use Rattle.rows.specs.Cells.{row_count}
 use Rattle.resource_timing.specs.inner.Limits.{Derived, within}

@@ -1,7 +1,5 @@
 -- What reading some periods comes to, where others went before them: the public promises do not speak of it. Assumes nothing.
-use Rattle.std.specs.Prelude.{Ok}
-use Rattle.std.specs.Prelude.{ℕ, List, ◌≡◌, ℤ}
-use Rattle.std.specs.Prelude.{Option, None, Some}
+use Rattle.std.specs.Prelude.{Ok, ℕ, List, ◌≡◌, ℤ, Option, None, Some}
 use Rattle.loops.specs.Lists.{each}
 use Rattle.loops.specs.Search.{or_else}
 use Rattle.line_buffer.specs.inner.Sink.{Sink, sink, put_lines}

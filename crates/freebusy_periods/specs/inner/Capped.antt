@@ -1,6 +1,5 @@
 -- Seconds as the code counts them: no more than 4,000,000,001, which lead out of the range of instants from each of them. Assumes nothing.
-use Rattle.std.specs.Prelude.{ℕ, ◌+◌, Bool, cond, ◌||◌, List, [], ◌∷◌, ltb}
-use Rattle.std.specs.Prelude.{Option, None, Some}
+use Rattle.std.specs.Prelude.{ℕ, ◌+◌, Bool, cond, ◌||◌, List, [], ◌∷◌, ltb, Option, None, Some}
 use Rattle.loops.specs.Lists.{option, is_some}
 use Rattle.loops.specs.Search.{or_else}
 use Rattle.letters.specs.Letters.{is_letter}

@@ -1,6 +1,5 @@
 -- The share of any times, as the code works it out. Assumes nothing.
-use Rattle.std.specs.Prelude.{ℕ, cond, ◌&&◌, leb}
-use Rattle.std.specs.Prelude.{Option, None, Some}
+use Rattle.std.specs.Prelude.{ℕ, cond, ◌&&◌, leb, Option, None, Some}
 use Rattle.part_share.specs.Share.{share_of}
 
 -- the share of times as a sheet has them; of greater ones none is worked out

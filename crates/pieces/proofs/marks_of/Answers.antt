@@ -8,7 +8,7 @@ loop-k-init g c = λ f h. marking_start _
 pub loop-k-preserved : goal.loop-k-preserved
 loop-k-preserved g c = λ f h.
     marking_turn c.args.rows.now f c.row_count-k-end.ensures c.requires.few c.loop-k.marks c.loop-k-test.true
-    (h.same c.loop-k.k c.test.result (omega (arith, c.loop-k-test.true, c.row_count-k-end.ensures)) c.test.ensures)
+    (h c.loop-k.k c.test.result (omega (arith, c.loop-k-test.true, c.row_count-k-end.ensures)) c.test.ensures)
     (c.loop-k.invariant f h)
 
 pub returns : goal.returns

@@ -1,5 +1,5 @@
 -- Bookings by row: the piece that each is of, and who holds whom as a companion. Assumes nothing.
-use Rattle.std.specs.Prelude.{ℕ, ◌<◌, ◌≤◌, ◌≡◌, Bool, false, not, ◌&&◌, List, eqb, get_or, ℤ, pos, ◌+ℤ◌}
+use Rattle.std.specs.Prelude.{ℕ, Bool, not, ◌&&◌, List, eqb, ℤ, pos, ◌+ℤ◌}
 use Rattle.loops.specs.Numbers.{to_nat}
 use Rattle.loops.specs.Search.{any_below}
 use Rattle.rows.specs.Cells.{row_count, cell, num, is}
@@ -22,16 +22,6 @@ same_booking rows k j = is rows j 3 (num rows k 3) && in_piece rows k j
 -- row k is the first booking of its piece on its resource
 unfoldable pub first_on : List ℤ → ℕ → Bool
 first_on rows k = is rows k 0 23 && not (any_below (same_booking rows k) k)
-
--- marks, true at each row that passes, false at the others and past the last row
-pub record Marks (rows : List ℤ) (f : ℕ → Bool) (marks : List Bool) : Type 0 where
-  pub short : row_count rows ≤ 800
-  pub at : (k : ℕ) → k < row_count rows → get_or marks k false ≡ f k
-  pub past : (k : ℕ) → row_count rows ≤ k → get_or marks k false ≡ false
-
--- what is answered of each row is f of it
-pub record Tells (rows : List ℤ) (answers : ℕ → Bool → Type 0) (f : ℕ → Bool) : Type 0 where
-  pub same : (k : ℕ) (r : Bool) → k < row_count rows → answers k r → r ≡ f k
 
 -- row i is of kind x and names a and b
 unfoldable pub names : List ℤ → ℕ → ℕ → ℕ → ℕ → Bool

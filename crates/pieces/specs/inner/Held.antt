@@ -4,7 +4,7 @@ use Rattle.loops.specs.Lists.{any_of}
 use Rattle.model.specs.Sheet.{sheet}
 use Rattle.model.specs.Schedule.{assignment_at}
 use Rattle.definition.specs.Pieces.{is_held}
-use Rattle.pieces.specs.inner.Bookings.{Marks}
+use Rattle.pieces.specs.inner.Marks.{Marks}
 
 -- row k is a booking that is held
 unfoldable pub held_at : List ℤ → ℕ → Bool

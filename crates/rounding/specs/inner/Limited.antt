@@ -1,6 +1,5 @@
 -- A derived time as the code holds it. Assumes nothing.
-use Rattle.std.specs.Prelude.{ℕ, ◌^◌, cond, nat_lt}
-use Rattle.std.specs.Prelude.{Option, None, Some, Result, Ok, Err}
+use Rattle.std.specs.Prelude.{ℕ, ◌^◌, cond, nat_lt, Option, None, Some, Result, Ok, Err}
 use Rattle.rounding.specs.declared.TooLarge.{TooLarge}
 
 -- a time that is refused, or a duration of which it is a part

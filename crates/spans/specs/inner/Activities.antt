@@ -1,6 +1,5 @@
 -- What a span stands for, and a step of the loop over an activity's bookings. Assumes nothing.
-use Rattle.std.specs.Prelude.{ℕ, cond, List, ℤ, pos}
-use Rattle.std.specs.Prelude.{Option, None, Some}
+use Rattle.std.specs.Prelude.{ℕ, cond, List, ℤ, pos, Option, None, Some}
 use Rattle.calendar.specs.Clock.{clock}
 use Rattle.rows.specs.Cells.{num}
 use Rattle.definition.specs.ActivitySpan as page

@@ -1,6 +1,5 @@
 -- What an answer stands for, and a step of the loop over ends. Assumes nothing.
-use Rattle.std.specs.Prelude.{ℕ, cond, List, ℤ, pos}
-use Rattle.std.specs.Prelude.{Option, None, Some}
+use Rattle.std.specs.Prelude.{ℕ, cond, List, ℤ, pos, Option, None, Some}
 use Rattle.calendar.specs.Clock.{clock}
 use Rattle.rows.specs.Cells.{num, is}
 use Rattle.model.specs.Schedule.{later_of}

@@ -1,7 +1,6 @@
 -- What the loop over the lines stores before it knows the answer: the public promises do not speak of it. Assumes nothing.
-use Rattle.std.specs.Prelude.{Result, Ok, Err}
+use Rattle.std.specs.Prelude.{Result, Ok, Err, ℕ, suc, cond, List, [], ◌∷◌, ◌++◌, ltb, ℤ}
 use Rattle.refusals.specs.declared.Reason.{Reason}
-use Rattle.std.specs.Prelude.{ℕ, suc, cond, List, [], ◌∷◌, ◌++◌, ltb, ℤ}
 use Rattle.text_line.specs.Line.{line_of, row_of}
 
 abbrev pub on_row : Result Unit Reason → List ℤ → List ℤ

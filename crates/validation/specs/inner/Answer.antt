@@ -1,8 +1,9 @@
 -- What the validation of a sheet answers. Assumes nothing.
 use Rattle.std.specs.Prelude.{Result}
-use Rattle.std.specs.Prelude.{ℕ, ◌<◌, ◌≡◌, List, ℤ, length}
+use Rattle.std.specs.Prelude.{ℕ, ◌≡◌, List, ℤ, length}
 use Rattle.std.specs.Prelude.{Option, None}
 use Rattle.loops.specs.Search.{or_else, first}
+use Rattle.loops.specs.inner.Tells.{TellsAs}
 use Rattle.rows.specs.Cells.{row_count}
 use Rattle.owners.specs.declared.sheet_index.SheetIndex.{SheetIndex}
 use Rattle.owners.specs.inner.Filled.{Filled}
@@ -21,7 +22,7 @@ link_refusal rows = or_else (first (owner_fault rows) (row_count rows)) (first (
 
 -- what a test may answer of each of so many rows is what f says
 abbrev pub Tells : (ℕ → Option Refusal) → ℕ → (ℕ → Result Unit Refusal → Type 0) → Type 0
-Tells f count may = (k : ℕ) (v : Result Unit Refusal) → k < count → may k v → verdict_of v ≡ f k
+Tells f count may = TellsAs verdict_of count may f
 
 -- what `index` answers and leaves: the verdict; the tables of the rows, if none of 1 to 3 refuses the sheet, and else what was lent
 pub record Indexing (rows : List ℤ) (before : SheetIndex) (v : Result Unit Refusal) (after : SheetIndex) : Type 0 where

@@ -1,6 +1,5 @@
 -- Whose windows are laid out. Assumes nothing.
-use Rattle.std.specs.Prelude.{ℕ, ◌≡◌, List, ◌⊎◌, ℤ}
-use Rattle.std.specs.Prelude.{Some}
+use Rattle.std.specs.Prelude.{ℕ, ◌≡◌, List, ◌⊎◌, ℤ, Some}
 use Rattle.calendar.specs.declared.TimeWindow.{TimeWindow}
 use Rattle.calendar.specs.Calendar.{kind_of}
 use Rattle.rows.specs.Cells.{num}
