@@ -1,8 +1,7 @@
 // The work-end inquiry on a sheet: when work ends that is started on a resource and runs only in its working time.
 #![tactic(auto)]
 
-ghost use Rattle.std.specs.Prelude.{◌≡◌, true, [], ◌∷◌};
-ghost use Rattle.std.specs.Prelude.{None};
+ghost use Rattle.std.specs.Prelude.{◌≡◌, true, [], ◌∷◌, None};
 ghost use Rattle.calendar.specs.Clock.{clock};
 ghost use Rattle.calendar.specs.WorkEnd.{joint_work_end};
 ghost use Rattle.sheet.specs.Refusals.{refusal_of};
@@ -75,6 +74,7 @@ fn ending(rows: &Sheet, resource: i64, start: i64, work: i64) -> InquiryAnswer
     requires { (refusal_of rows.now ≡ None) × (in_order start work ≡ true) }
     ensures { outcome_of result ≡ ends (joint_work_end clock (inquired_calendar rows.now resource ∷ []) start work) }
 {
+    // No heap: room for a window of each row.
     let mut room = [window_rows::NO_WINDOW; 800];
     let mut list = WindowList::over(&mut room);
     resource_calendar(rows, resource, &mut list);
@@ -93,6 +93,7 @@ fn ending(rows: &Sheet, resource: i64, start: i64, work: i64) -> InquiryAnswer
 pub fn work_end(rows: &[i64], resource: i64, start: i64, work: i64) -> InquiryAnswer
     ensures { outcome_of result ≡ inquiry rows.now resource start work }
 {
+    // No heap: the tables of the sheet (`model::Sheet`).
     let mut kinds = [0u16; 3680];
     let mut links = [0u16; 1600];
     let mut owned = [0u16; 8810];
