@@ -1,7 +1,5 @@
 -- The call `margins`: what it answers for any rows and any lent buffer, and what it leaves in the buffer. Assumes nothing.
-use Rattle.std.specs.Prelude.{Result}
-use Rattle.std.specs.Prelude.{ℕ, ◌/◌, ◌≤◌, ◌≡◌, List, ℤ, length}
-use Rattle.std.specs.Prelude.{Option}
+use Rattle.std.specs.Prelude.{Result, ℕ, ◌/◌, ◌≤◌, ◌≡◌, List, ℤ, length, Option}
 use Rattle.refusals.specs.declared.Refusal.{Refusal}
 use Rattle.refusals.specs.Lending.{answered, lent_after}
 use Rattle.acceptance.specs.Refusals.{sheet_refusal, call_refusal}

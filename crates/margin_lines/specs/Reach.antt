@@ -1,7 +1,6 @@
 -- How far margins reach in an accepted sheet: a task's 4,000,000,000,000 on both sides of zero, and Examples shows that it gets there; a resource's never
 -- comes near that. Assumes nothing.
-use Rattle.std.specs.Prelude.{ℕ, ◌≡◌, Bool, true, List, leb, ℤ, nat_abs}
-use Rattle.std.specs.Prelude.{None}
+use Rattle.std.specs.Prelude.{ℕ, ◌≡◌, Bool, true, List, leb, ℤ, nat_abs, None}
 use Rattle.loops.specs.Lists.{all_of, each}
 use Rattle.calendar.specs.Clock.{clock}
 use Rattle.model.specs.Sheet.{sheet}

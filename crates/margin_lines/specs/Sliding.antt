@@ -1,8 +1,6 @@
 -- Two accepted sheets, the second being the first with one whole number of milliseconds added to every instant and nothing else changed, have the same
 -- margins: by the definition, and as any two calls write them. Assumes nothing.
-use Rattle.std.specs.Prelude.{Ok}
-use Rattle.std.specs.Prelude.{ℕ, ◌*◌, ◌/◌, ◌≡◌, List, ℤ, length, take}
-use Rattle.std.specs.Prelude.{None}
+use Rattle.std.specs.Prelude.{Ok, ℕ, ◌*◌, ◌/◌, ◌≡◌, List, ℤ, length, take, None}
 use Rattle.shift.specs.Shift.{Shifted}
 use Rattle.acceptance.specs.Refusals.{sheet_refusal}
 use Rattle.margin_lines.specs.Margins.{margins}

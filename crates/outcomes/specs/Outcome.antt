@@ -1,7 +1,6 @@
 -- An answer as two numbers: a refusal's number and place, or 0 and the count. Assumes nothing.
 use Rattle.loops.specs.Numbers.{to_nat}
-use Rattle.std.specs.Prelude.{Result, Ok, Err}
-use Rattle.std.specs.Prelude.{ℕ, Option, None, Some}
+use Rattle.std.specs.Prelude.{Result, Ok, Err, ℕ, Option, None, Some}
 use Rattle.calendar.specs.WorkEnd.{ends_at, pauses, never}
 use Rattle.refusals.specs.Refusals.{number_of}
 use Rattle.refusals.specs.declared.Refusal.{Refusal}

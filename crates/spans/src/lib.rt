@@ -10,7 +10,7 @@ ghost use Rattle.rows.specs.Kinds.{kind_number};
 ghost use Rattle.sheet.specs.Places.{of_kind, named};
 ghost use Rattle.model.specs.Sheet.{sheet};
 ghost use Rattle.model.specs.inner.Records.{maybe_at};
-ghost use Rattle.model.specs.Schedule.{later_of, task_completion_time};
+ghost use Rattle.model.specs.Schedule.{task_completion_time};
 ghost use Rattle.definition.specs.ActivitySpan.{activity_span};
 ghost use Rattle.spans.specs.inner.Instants.{meant, end_if};
 ghost use Rattle.spans.specs.inner.Activities.{span_meant, widened, widen_by};

@@ -1,6 +1,5 @@
 -- The work-end inquiry: when work ends that is started on a resource. Assumes nothing.
-use Rattle.std.specs.Prelude.{Bool, cond, not, ◌&&◌, List, [], ◌∷◌, ℤ, pos}
-use Rattle.std.specs.Prelude.{Option}
+use Rattle.std.specs.Prelude.{Bool, cond, not, ◌&&◌, List, [], ◌∷◌, ℤ, pos, Option, Result, Ok, Err}
 use Rattle.loops.specs.Numbers.{to_nat}
 use Rattle.loops.specs.Lists.{option}
 use Rattle.loops.specs.Search.{or_else}
@@ -15,7 +14,6 @@ use Rattle.refusals.specs.declared.Refusal.{Refusal}
 use Rattle.sheet.specs.Refusals.{refusal_of}
 use Rattle.model.specs.Sheet.{sheet}
 use Rattle.model.specs.Resource.{resource_calendar}
-use Rattle.std.specs.Prelude.{Result, Ok, Err}
 use Rattle.work_end_inquiry.specs.declared.InquiryEnd.{InquiryEnd}
 use Rattle.work_end_inquiry.specs.declared.InquiryEnd.TheVariants.{End, Pause, Never}
 

@@ -77,6 +77,7 @@ fn ending(rows: &Sheet, resource: i64, start: i64, work: i64) -> InquiryAnswer
     requires { in_order start work ≡ true }
     ensures { outcome_of result ≡ ends (joint_work_end clock (inquired_calendar rows.now resource ∷ []) start work) }
 {
+    // No heap: room for a window of each row.
     let mut room = [window_rows::NO_WINDOW; 800];
     let mut list = WindowList::over(&mut room);
     resource_calendar(rows, resource, &mut list);
