@@ -2,7 +2,7 @@
 // out as expected.
 #![tactic(auto)]
 
-ghost use Rattle.std.specs.Prelude.{◌≡◌, ◌≤◌, length, ◌<◌};
+ghost use Rattle.std.specs.Prelude.{◌≡◌, ◌<◌};
 ghost use Rattle.rows.specs.Cells.{row_count};
 ghost use Rattle.sheet.specs.inner.Accepted.{Accepted};
 ghost use Rattle.pieces.specs.inner.Held.{Held};
@@ -30,6 +30,7 @@ fn natural(z: i64) -> u64 {
     u64::try_from(z).unwrap_or(u64::MAX)
 }
 
+// As the lists have it: -1, which no time is, for a number that no time reaches.
 fn signed(x: u64) -> i64 {
     i64::try_from(x).unwrap_or(-1)
 }
