@@ -22,6 +22,9 @@ use Rattle.loops.proofs.ListLaws.{each_append}
 use Rattle.loops.proofs.SearchLaws.{count_le}
 use Rattle.loops.proofs.Walks.{over}
 use Rattle.lent_room.specs.declared.lent_list.LentList.{LentList}
+use Rattle.lent_room.specs.Listed.{Room, behind, past}
+use Rattle.lent_room.proofs.Pushing.{past_past, past_more}
+use Rattle.calendar.specs.declared.Places.{Places}
 use Rattle.calendar.specs.declared.TimeWindow.{TimeWindow}
 use Rattle.calendar.specs.Calendar.{Calendar}
 use Rattle.calendar.specs.Layout.{window_of, windows_of, calendar_of, lists_of, calendars_of}
@@ -68,8 +71,8 @@ unfolding calendar_in
 listed_length l = length-map (listed l) window_of
 
 -- one calendar more
-pub out_more : (cs : List (Calendar ℤ)) {x : Calendar ℤ} {m : ℕ} {l l' : LaidCalendars} → LaidOut cs l → Added x m l l' → LaidOut (cs ++ x ∷ []) l'
-out_more cs {x} {m} {l} {l'} o a =
+pub out_more : (cs : List (Calendar ℤ)) (w : Room TimeWindow) (p : Room Places) {x : Calendar ℤ} {m : ℕ} {l l' : LaidCalendars} → LaidOut cs w p l → Added x m l l' → LaidOut (cs ++ x ∷ []) w p l'
+out_more cs w p {x} {m} {l} {l'} o a =
     let n : length (listed l.windows) ≡ 0 + total length cs =
     omega (arith, listed_length l.windows, ap length o.windows, row_total cs) in
     record {
@@ -78,7 +81,27 @@ out_more cs {x} {m} {l} {l'} o a =
           a.places
           ∙ ap (λ p. p ++ record { from = length (listed l.windows); to = length (listed l.windows) + length x } ∷ []) o.places
           ∙ sym (places_more 0 (length (listed l.windows)) cs x n);
+      behind_windows =
+          a.behind_windows
+          ∙ ap (past (length x)) o.behind_windows
+          ∙ past_past (length (in_a_row cs)) (length x) w
+          ∙ ap (λ i. past i w) (sym (ap length (row_more cs x) ∙ length-append (in_a_row cs) x));
+      behind_places = past_more x cs p refl a.behind_places o.behind_places;
     }
+
+-- where no calendar is laid out yet, all of the room lies behind
+pub out_first : {w : Room TimeWindow} {p : Room Places} {l : LaidCalendars} → LaidOut [] w p l → LaidOut [] (behind l.windows) (behind l.places) l
+unfolding past in_a_row each
+out_first o = record { windows = o.windows; places = o.places; behind_windows = refl; behind_places = refl }
+
+-- so what is laid out from there on is laid out in the room that was lent
+pub out_over : {w : Room TimeWindow} {p : Room Places} {l l' : LaidCalendars} (cs : List (Calendar ℤ)) → LaidOut [] w p l → LaidOut cs (behind l.windows) (behind l.places) l' → LaidOut cs w p l'
+out_over cs o h = record {
+  windows = h.windows;
+  places = h.places;
+  behind_windows = h.behind_windows ∙ ap (past (length (in_a_row cs))) (o.behind_windows ∙ (unfold past in_a_row each in refl));
+  behind_places = h.behind_places ∙ ap (past (length cs)) (o.behind_places ∙ (unfold past in refl));
+}
 
 -- a calendar behind others, read at its places
 calendar_from : (w : List TimeWindow) (p c r : Calendar ℤ) (n : ℕ) → map window_of w ≡ p ++ (c ++ r) → n ≡ length p → calendar_of w n (n + length c) ≡ c
@@ -98,8 +121,8 @@ laid_from w p (c ∷ cs) n e z =
     (laid_from w (p ++ c) cs (n + length c) (e ∙ sym (append_assoc p c (each (λ x. x) cs))) (omega (arith, z, length-append p c)))
 
 -- as they are lent, they are the calendars that were laid out
-pub lent : (cs : List (Calendar ℤ)) (l : LaidCalendars) → LaidOut cs l → calendars_of (listed l.windows) (laid.placed l) ≡ cs
-lent cs l o = ap (calendars_of (listed l.windows)) o.places ∙ laid_from (listed l.windows) [] cs 0 (unfold calendar_in in o.windows) refl
+pub lent : (cs : List (Calendar ℤ)) (w : Room TimeWindow) (p : Room Places) (l : LaidCalendars) → LaidOut cs w p l → calendars_of (listed l.windows) (laid.placed l) ≡ cs
+lent cs w p l o = ap (calendars_of (listed l.windows)) o.places ∙ laid_from (listed l.windows) [] cs 0 (unfold calendar_in in o.windows) refl
 
 -- ---- counts of rows
 
@@ -163,30 +186,30 @@ module _ (rows : List ℤ) where
 
 module _ (rows : List ℤ) (marks : List Bool) where
   -- there is place for one calendar more
-  module _ {r : ℕ} (l : LaidCalendars) (h : Resources rows marks r l) (b : row_count rows ≤ 800) where
+  module _ {r : ℕ} {w : Room TimeWindow} {p : Room Places} (l : LaidCalendars) (h : Resources rows marks r w p l) (b : row_count rows ≤ 800) where
     pub room_windows : length (listed l.windows) + count_below (owned_by rows r 15) (row_count rows) ≤ 800
     room_windows = omega (arith, windows_more rows r (row_count rows), count_le (window_above rows (suc r)) (row_count rows), h.windows)
 
     pub room_calendars : r < row_count rows → length (laid.placed l) < 800
     room_calendars m = omega (arith, count_le (of_kind rows 11) r, h.calendars)
 
-  pub gather_more : {r : ℕ} (l l' : LaidCalendars) → marked marks r ≡ true → of_kind rows 11 r ≡ true
+  pub gather_more : {r : ℕ} {w : Room TimeWindow} {p : Room Places} (l l' : LaidCalendars) → marked marks r ≡ true → of_kind rows 11 r ≡ true
       → Added (windows (sheet rows) 15 (num rows r 1)) (count_below (owned_by rows r 15) (row_count rows)) l l'
-      → Resources rows marks r l → Resources rows marks (suc r) l'
-  gather_more {r} l l' e k a h = record {
+      → Resources rows marks r w p l → Resources rows marks (suc r) w p l'
+  gather_more {r} {w} {p} l l' e k a h = record {
     out =
         let s : collect (calendar_at rows marks) r ++ windows (sheet rows) 15 (num rows r 1) ∷ [] ≡ collect (calendar_at rows marks) (suc r) =
         unfold collect calendar_at in rw e in
-        subst (λ c. LaidOut c l') s (out_more _ h.out a);
+        subst (λ c. LaidOut c w p l') s (out_more _ w p h.out a);
     windows = let b = windows_more rows r (row_count rows) in omega (arith, a.count, h.windows);
     calendars = let q = resource_more rows r k in omega (arith, ap length a.places, length_push (laid.placed l) (record { from = length (listed l.windows); to = length (listed l.windows) + length (windows (sheet rows) 15 (num rows r 1)) }), h.calendars);
   }
 
-  pub gather_none : {r : ℕ} (l : LaidCalendars) → marked marks r ≡ false → Resources rows marks r l → Resources rows marks (suc r) l
-  gather_none {r} l e h = record {
+  pub gather_none : {r : ℕ} {w : Room TimeWindow} {p : Room Places} (l : LaidCalendars) → marked marks r ≡ false → Resources rows marks r w p l → Resources rows marks (suc r) w p l
+  gather_none {r} {w} {p} l e h = record {
     out =
         let s : collect (calendar_at rows marks) r ≡ collect (calendar_at rows marks) (suc r) = unfold collect calendar_at in rw e (sym (append-nil _)) in
-        subst (λ c. LaidOut c l) s h.out;
+        subst (λ c. LaidOut c w p l) s h.out;
     windows = let b = windows_more rows r (row_count rows) in omega (arith, h.windows);
     calendars = let b = h.calendars in unfold count_below in omega arith;
   }
@@ -201,31 +224,34 @@ module _ (rows : List ℤ) (marks : List Bool) where
     unmarked r l e true q = absurd (true≢false (sym (num_is rows r 0 11 (placed rows 11 _ r (m.resource r l q)).kind) ∙ e))
     unmarked r l e false q = q
 
-    -- what is known of row i, where it is one or the end
-    abbrev At : LaidCalendars → ℕ → Type 0
-    At l i = i ≤ row_count rows → Resources rows marks i l
+    module _ (w : Room TimeWindow) (p : Room Places) (l : LaidCalendars) where
+      -- what is known of row i, where it is one or the end
+      abbrev At : ℕ → Type 0
+      At i = i ≤ row_count rows → Resources rows marks i w p l
 
-    still : (l : LaidCalendars) (r : ℕ) → of_kind rows 11 r ≡ false → At l r → At l (r + 1)
-    still l r e h b =
-        let q : r + 1 ≡ suc r = omega arith in
-        rw q (gather_none l (unmarked r (omega arith) e (marked marks r) refl) (h (omega arith)))
+      still : (r : ℕ) → of_kind rows 11 r ≡ false → At r → At (r + 1)
+      still r e h b =
+          let q : r + 1 ≡ suc r = omega arith in
+          rw q (gather_none l (unmarked r (omega arith) e (marked marks r) refl) (h (omega arith)))
 
-    pub gather_first : {i : ℕ} (l : LaidCalendars) → First (of_kind rows 11) 0 (row_count rows) i → LaidOut [] l → Resources rows marks i l
+    pub gather_first : {i : ℕ} {w : Room TimeWindow} {p : Room Places} (l : LaidCalendars) → First (of_kind rows 11) 0 (row_count rows) i → LaidOut [] w p l
+        → Resources rows marks i (behind l.windows) (behind l.places) l
     gather_first {i} l f o =
-        over (At l) (of_kind rows 11) 0 _ _ (still l) f
+        over (At (behind l.windows) (behind l.places) l) (of_kind rows 11) 0 _ _ (still (behind l.windows) (behind l.places) l) f
         (λ z.
         record {
-          out = unfold collect in o;
+          out = unfold collect in out_first o;
           windows = let e : length (calendar_in l.windows) ≡ 0 = ap length o.windows ∙ row_none in omega (arith, e, listed_length l.windows);
           calendars = let e = ap length o.places in omega arith;
         })
         f.high
 
-    pub gather_next : {i j : ℕ} (l : LaidCalendars) → First (of_kind rows 11) (suc i) (row_count rows) j → Resources rows marks (suc i) l → Resources rows marks j l
-    gather_next l f h = over (At l) (of_kind rows 11) (suc _) _ _ (still l) f (λ _. h) f.high
+    pub gather_next : {i j : ℕ} {w : Room TimeWindow} {p : Room Places} (l : LaidCalendars) → First (of_kind rows 11) (suc i) (row_count rows) j → Resources rows marks (suc i) w p l
+        → Resources rows marks j w p l
+    gather_next {w = w} {p} l f h = over (At w p l) (of_kind rows 11) (suc _) _ _ (still w p l) f (λ _. h) f.high
 
   -- there is place for the calendar of the activity of row a, which booking k is of
-  module _ (l : LaidCalendars) (h : Resources rows marks (row_count rows) l) (b : row_count rows ≤ 800) where
+  module _ {w : Room TimeWindow} {p : Room Places} (l : LaidCalendars) (h : Resources rows marks (row_count rows) w p l) (b : row_count rows ≤ 800) where
     pub last_windows : (a : ℕ) → length (listed l.windows) + count_below (owned_by rows a 16) (row_count rows) ≤ 800
     last_windows a = omega (arith, windows_all rows (row_count rows) a (row_count rows), h.windows)
 
@@ -235,13 +261,15 @@ module _ (rows : List ℤ) (marks : List Bool) where
 -- ---- a calendar more in the room that is lent
 
 pub added : (l l' : LaidCalendars) {x : Calendar ℤ} {m from to : ℕ} → from ≡ length (listed l.windows) → to ≡ length (listed l'.windows)
-    → calendar_in l'.windows ≡ calendar_in l.windows ++ x → length (listed l'.windows) ≡ length (listed l.windows) + m
-    → laid.placed l' ≡ laid.placed l ++ record { from = from; to = to } ∷ [] → Added x m l l'
-added l l' {x} {from = from} {to = to} e f g h p = record {
-  windows = g;
-  places =
-      let t : to ≡ length (listed l.windows) + length x =
-      omega (arith, f, listed_length l'.windows, ap length g, length-append (calendar_in l.windows) x, listed_length l.windows) in
-      p ∙ ap₂ (λ (i j : ℕ). laid.placed l ++ record { from = i; to = j } ∷ []) e t;
-  count = h;
-}
+    → calendar_in l'.windows ≡ calendar_in l.windows ++ x → length (listed l'.windows) ≡ length (listed l.windows) + m → behind l'.windows ≡ past m (behind l.windows)
+    → laid.placed l' ≡ laid.placed l ++ record { from = from; to = to } ∷ [] → behind l'.places ≡ past 1 (behind l.places) → Added x m l l'
+added l l' {x} {m} {from} {to} e f g h b p q =
+    let n : length (listed l'.windows) ≡ length (listed l.windows) + length x =
+    omega (arith, listed_length l'.windows, ap length g, length-append (calendar_in l.windows) x, listed_length l.windows) in
+    record {
+      windows = g;
+      places = p ∙ ap₂ (λ (i j : ℕ). laid.placed l ++ record { from = i; to = j } ∷ []) e (f ∙ n);
+      count = h;
+      behind_windows = b ∙ ap (λ i. past i (behind l.windows)) (omega (arith, h, n));
+      behind_places = q;
+    }

@@ -12,6 +12,9 @@ use Rattle.loops.specs.Search.{any_below, count_below}
 use Rattle.loops.proofs.ListLaws.{any_collect, all_append}
 use Rattle.loops.proofs.RangeLaws.{collect_ext}
 use Rattle.loops.proofs.PlaceLaws.{any_same}
+use Rattle.lent_room.specs.Listed.{Room}
+use Rattle.calendar.specs.declared.Places.{Places}
+use Rattle.calendar.specs.declared.TimeWindow.{TimeWindow}
 use Rattle.calendar.specs.Clock.{clock}
 use Rattle.calendar.specs.Calendar.{Calendar, is_working_time, joint_working}
 use Rattle.rows.specs.Cells.{row_count, num, is}
@@ -73,7 +76,8 @@ unfolding calendar_at
 marks_taken rows k m = collect_ext _ _ (row_count rows) (λ r b. ap (λ y. given y (windows (sheet rows) 15 (num rows r 1))) (marked_is rows k m r b))
 
 -- what is promised of the calendars that are laid out
-pub whole : (rows : List ℤ) (k a : ℕ) {marks : List Bool} (l l' : LaidCalendars) → Marked rows k (row_count rows) marks → Resources rows marks (row_count rows) l
-    → Added (windows (sheet rows) 16 (num rows a 1)) (count_below (owned_by rows a 16) (row_count rows)) l l' → LaidOut (laid_calendars rows k a) l'
-whole rows k a l l' p r s =
-    subst (λ c. LaidOut (c ++ windows (sheet rows) 16 (num rows a 1) ∷ []) l') (marks_taken rows k p) (out_more _ r.out s)
+pub whole : (rows : List ℤ) (k a : ℕ) (w : Room TimeWindow) (p : Room Places) {marks : List Bool} (l l' : LaidCalendars) → Marked rows k (row_count rows) marks
+    → Resources rows marks (row_count rows) w p l → Added (windows (sheet rows) 16 (num rows a 1)) (count_below (owned_by rows a 16) (row_count rows)) l l'
+    → LaidOut (laid_calendars rows k a) w p l'
+whole rows k a w p l l' m r s =
+    subst (λ c. LaidOut (c ++ windows (sheet rows) 16 (num rows a 1) ∷ []) w p l') (marks_taken rows k m) (out_more _ w p r.out s)

@@ -2,7 +2,9 @@
 use Rattle.std.specs.Prelude.{ℕ, ◌+◌, ◌≡◌, List, [], ◌∷◌, ◌++◌, ℤ, length}
 use Rattle.loops.specs.Lists.{given, each}
 use Rattle.loops.specs.Range.{collect}
+use Rattle.lent_room.specs.Listed.{Room, behind, past}
 use Rattle.calendar.specs.declared.Places.{Places}
+use Rattle.calendar.specs.declared.TimeWindow.{TimeWindow}
 use Rattle.calendar.specs.Calendar.{Calendar}
 use Rattle.rows.specs.Cells.{row_count, num}
 use Rattle.model.specs.Sheet.{sheet}
@@ -23,10 +25,12 @@ abbrev pub places_from : ℕ → List (Calendar ℤ) → List Places
 places_from n [] = []
 places_from n (c ∷ l) = record { from = n; to = n + length c } ∷ places_from (n + length c) l
 
--- these calendars are laid out, and nothing else
-pub record LaidOut (cs : List (Calendar ℤ)) (l : LaidCalendars) : Type 0 where
+-- These calendars are laid out in the room that is lent for windows and for places, and nothing else: all that stands behind them is as it was.
+pub record LaidOut (cs : List (Calendar ℤ)) (w : Room TimeWindow) (p : Room Places) (l : LaidCalendars) : Type 0 where
   pub windows : calendar_in l.windows ≡ in_a_row cs
   pub places : placed l ≡ places_from 0 cs
+  pub behind_windows : behind l.windows ≡ past (length (in_a_row cs)) w
+  pub behind_places : behind l.places ≡ past (length cs) p
 
 -- the calendar of row r's resource, where a booking of booking k's piece is on it
 abbrev pub taken_at : List ℤ → ℕ → ℕ → List (Calendar ℤ)

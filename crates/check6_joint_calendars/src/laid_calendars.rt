@@ -21,6 +21,7 @@ pub struct LaidCalendars<'a> {
 
 impl<'a> LaidCalendars<'a> {
     ghost use Rattle.loops.specs.Search.{count_below};
+    ghost use Rattle.lent_room.specs.Listed.{room_of};
     ghost use Rattle.rows.specs.Cells.{row_count, num};
     ghost use Rattle.rows.specs.Kinds.{kind_number};
     ghost use Rattle.calendar.specs.Layout.{calendars_of};
@@ -33,12 +34,10 @@ impl<'a> LaidCalendars<'a> {
     ghost use Rattle.check6_joint_calendars.specs.inner.Laying.{Added};
 
     // Without calendars.
-    #[tactic(auto, unfolding(crate::specs::Laid::in_a_row, window_rows::specs::Listed::calendar_in, loops::specs::Lists::each))]
-    pub fn over(
-        windows: &'a mut [TimeWindow; 800],
-        places: &'a mut [Places; 800],
-    ) -> LaidCalendars<'a>
-        ensures { LaidOut [] result }
+    #[tactic(auto, unfolding(crate::specs::Laid::in_a_row, window_rows::specs::Listed::calendar_in, lent_room::specs::Listed::past, loops::specs::Lists::each))]
+    pub fn over(windows: &'a mut [TimeWindow], places: &'a mut [Places]) -> LaidCalendars<'a>
+        requires { (length windows.old ≡ 800) × (length places.old ≡ 800) }
+        ensures { LaidOut [] (room_of windows.entry) (room_of places.entry) result }
     {
         LaidCalendars {
             windows: WindowList::over(windows),

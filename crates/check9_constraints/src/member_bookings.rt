@@ -1,9 +1,9 @@
 // The bookings of a constraint's members on a resource.
 #![tactic(auto)]
 
-ghost use Rattle.std.specs.Prelude.{◌≡◌, []};
+ghost use Rattle.std.specs.Prelude.{◌≡◌, [], length};
 ghost use Rattle.loops.specs.Search.{first_place};
-ghost use Rattle.lent_room.specs.Listed.{listed};
+ghost use Rattle.lent_room.specs.Listed.{listed, behind, past};
 ghost use Rattle.rows.specs.Cells.{row_count};
 ghost use Rattle.check9_constraints.specs.inner.Bookings.{booked_on, bookings_of};
 
@@ -11,11 +11,12 @@ use lent_room::LentList;
 use rows::Kind;
 use sheet::{ByKind, KindIndex, Rows};
 
-// Each member's first booking on the resource, of the members that have one: their rows, in the members' order.
-#[tactic(auto, using(chains::proofs::PlaceLaws::places_few), unfolding(crate::specs::inner::Bookings::booking_of, crate::specs::inner::Bookings::bookings_of, loops::specs::Lists::each))]
+// Each member's first booking on the resource, of the members that have one: their rows, in the members' order. The rest of the lent room stays.
+#[tactic(auto, using(chains::proofs::PlaceLaws::places_few, lent_room::proofs::Pushing::past_first), unfolding(crate::specs::inner::Bookings::booking_of, crate::specs::inner::Bookings::bookings_of, loops::specs::Lists::each))]
 pub fn gather_bookings(rows: &ByKind, place: u64, resource: u64, list: &mut LentList<usize, 800>)
     requires { listed list.old ≡ [] }
-    ensures { listed list.new ≡ bookings_of rows.now place resource }
+    ensures gathered { listed list.new ≡ bookings_of rows.now place resource }
+    ensures behind { behind list.new ≡ past (length (bookings_of rows.now place resource)) (behind list.old) }
 {
     for k in rows.named(Kind::Member, place) {
         if let Some(b) = first_on(rows, rows.num(k, 2), resource) {

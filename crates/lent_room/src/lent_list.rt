@@ -1,5 +1,5 @@
-// Elements laid out one behind the other in room that is lent.
-#![tactic(auto, unfolding(crate::specs::Listed::listed))]
+// Elements laid out one behind the other in room that is lent. What stands behind them stays, so that the lender knows all that it finds there afterwards.
+#![tactic(auto, unfolding(crate::specs::Listed::listed, crate::specs::Listed::behind, crate::specs::Listed::past))]
 
 ghost use Rattle.std.specs.Prelude.{◌≡◌, ◌≤◌, ◌<◌, [], ◌∷◌, ◌++◌, length};
 
@@ -13,11 +13,13 @@ pub struct LentList<'a, T: Copy, const N: usize> {
 }
 
 impl<'a, T: Copy, const N: usize> LentList<'a, T, N> {
-    ghost use Rattle.lent_room.specs.Listed.{listed};
+    ghost use Rattle.lent_room.specs.Listed.{listed, behind, past, whole, room_of};
 
-    // Without elements.
-    pub fn over(room: &'a mut [T; N]) -> LentList<'a, T, N>
-        ensures { listed result ≡ [] }
+    // Without elements. The room comes as a slice, since an array that becomes one here would go by another name in the proofs.
+    pub fn over(room: &'a mut [T]) -> LentList<'a, T, N>
+        requires { length room.old ≡ N }
+        ensures list { listed result ≡ [] }
+        ensures behind { behind result ≡ room_of room.entry }
     {
         LentList { room, count: 0 }
     }
@@ -30,14 +32,16 @@ impl<'a, T: Copy, const N: usize> LentList<'a, T, N> {
     }
 
     pub fn clear(&mut self)
-        ensures { listed self.new ≡ [] }
+        ensures list { listed self.new ≡ [] }
+        ensures behind { behind self.new ≡ whole self.old }
     {
         self.count = 0;
     }
 
     pub fn push(&mut self, x: T)
         requires { length (listed self.old) < N }
-        ensures { listed self.new ≡ listed self.old ++ x ∷ [] }
+        ensures list { listed self.new ≡ listed self.old ++ x ∷ [] }
+        ensures behind { behind self.new ≡ past 1 (behind self.old) }
     {
         self.room[self.count] = x;
         self.count += 1;

@@ -6,9 +6,12 @@ use mathlib.Core.List.{List, [], ◌∷◌, ◌++◌, map, append-nil, append_as
 use Rattle.std.specs.Prelude.{None}
 use lib.Dec.{eqb}
 use lib.IntN.{ℤ}
+use lib.ListN.{length}
+use Rattle.std.proofs.lemmas.List.{length-map}
 use Rattle.loops.specs.Lists.{given, each}
 use Rattle.loops.specs.inner.Chain.{Silent}
 use Rattle.loops.proofs.ListLaws.{each_collect, map_append}
+use Rattle.lent_room.specs.Listed.{Room, past}
 use Rattle.chains.specs.Places.{places}
 use Rattle.chains.proofs.PlaceLaws.{each_places}
 use Rattle.rows.specs.Cells.{row_count, num, is}
@@ -27,6 +30,10 @@ use Rattle.load.specs.inner.Lent.{meant}
 
 pub booking_fits : (rows : List ℤ) (k : ℕ) → refusal_of rows ≡ None → is rows k 0 23 ≡ true → (num rows k 4 ≤ 4000000000000) × (num rows k 5 ≤ 4000000000000)
 booking_fits rows k a h = (at_most rows (accepted rows a) k 23 4 h, at_most rows (accepted rows a) k 23 5 h)
+
+-- so many are gathered
+pub gathered_behind : (bs : List Booking) (room : Room Booking) {all : List (load.Booking ℤ)} {r : Room Booking} → map meant bs ≡ all → r ≡ past (length bs) room → r ≡ past (length all) room
+gathered_behind bs room e h = h ∙ ap (λ n. past n room) (sym (length-map bs meant) ∙ ap length e)
 
 module _ (rows : List ℤ) (x : ℕ) where
   booking_silent : Silent (of_kind rows 23) (booking_on rows x)

@@ -1,8 +1,9 @@
 // The bookings of a resource, and what they take of it.
 #![tactic(auto)]
 
-ghost use Rattle.std.specs.Prelude.{◌≡◌, pos};
+ghost use Rattle.std.specs.Prelude.{◌≡◌, length, pos};
 ghost use Rattle.std.specs.Int.Signed.{lt_z};
+ghost use Rattle.lent_room.specs.Listed.{behind, past, whole};
 ghost use Rattle.model.specs.Sheet.{sheet};
 ghost use Rattle.load.specs.Load.{load_of, peak_of, bookings_on};
 ghost use Rattle.load.specs.inner.Lent.{lent};
@@ -16,10 +17,11 @@ use sheet::{KindIndex, Rows};
 // As many bookings as a sheet has rows have room.
 pub type Bookings<'a> = LentList<'a, Booking, 800>;
 
-// The bookings of the resource x, in place of those that are in the list.
+// The bookings of the resource x, in place of those that are in the list. The rest of the lent room stays.
 #[tactic(auto, unfolding(sheet::specs::Places::of_kind))]
 pub fn gather_bookings(rows: &Sheet, x: u64, bookings: &mut Bookings)
-    ensures { lent bookings.new ≡ bookings_on (sheet rows.now) x }
+    ensures gathered { lent bookings.new ≡ bookings_on (sheet rows.now) x }
+    ensures behind { behind bookings.new ≡ past (length (bookings_on (sheet rows.now) x)) (whole bookings.old) }
 {
     bookings.clear();
     for k in rows.of_kind(Kind::Booking) {

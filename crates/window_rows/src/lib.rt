@@ -5,6 +5,7 @@ ghost use Rattle.std.specs.Prelude.{◌≡◌, ◌+◌, ◌≤◌, ◌++◌, pos
 ghost use Rattle.calendar.specs.Clock.{clock};
 ghost use Rattle.calendar.specs.Calendar.{interval_fits};
 ghost use Rattle.loops.specs.Search.{count_below};
+ghost use Rattle.lent_room.specs.Listed.{behind, past};
 ghost use Rattle.rows.specs.Cells.{row_count, num};
 ghost use Rattle.rows.specs.Kinds.{kind_number};
 ghost use Rattle.owners.specs.inner.Owners.{owned_by};
@@ -33,12 +34,13 @@ fn window_of(rows: &ByOwner, k: usize) -> TimeWindow
     }
 }
 
-// Lays out the windows (of a resource or of an activity) of row o, behind those that are laid out.
-#[tactic(auto, using(crate::proofs::Laying::windows_are, crate::proofs::Laying::count_places), unfolding(crate::specs::Listed::calendar_in))]
+// Lays out the windows (of a resource or of an activity) of row o, behind those that are laid out. The rest of the lent room stays.
+#[tactic(auto, using(crate::proofs::Laying::windows_are, crate::proofs::Laying::count_places, lent_room::proofs::Pushing::past_none), unfolding(crate::specs::Listed::calendar_in))]
 pub fn gather_windows(rows: &ByOwner, o: usize, kind: Kind, list: &mut WindowList)
     requires { (o ≤ row_count rows.now) × Holder rows.now o (kind_number kind) × (length (listed list.old) + count_below (owned_by rows.now o (kind_number kind)) (row_count rows.now) ≤ 800) }
     ensures laid { calendar_in list.new ≡ calendar_in list.old ++ windows (sheet rows.now) (kind_number kind) (num rows.now o 1) }
     ensures count { length (listed list.new) ≡ length (listed list.old) + count_below (owned_by rows.now o (kind_number kind)) (row_count rows.now) }
+    ensures behind { behind list.new ≡ past (count_below (owned_by rows.now o (kind_number kind)) (row_count rows.now)) (behind list.old) }
 {
     for k in rows.owned_by(o, kind) {
         list.push(window_of(rows, k));

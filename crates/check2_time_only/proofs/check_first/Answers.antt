@@ -7,15 +7,15 @@ use Rattle.check2_time_only.proofs.Spans.{own_windows}
 use Rattle.check2_time_only.proofs.check_first.Goals as goal
 
 pub gather_windows-requires : goal.gather_windows-requires
-gather_windows-requires c = rw c.by_owner.ensures.rows (search (rules, place_low, own_windows, all_fit))
+gather_windows-requires c = rw c.by_owner.ensures (search (rules, place_low, own_windows, all_fit))
 
 pub is_short-short-requires : goal.is_short-short-requires
 is_short-short-requires c =
-    let e = rw c.by_owner.ensures.rows at (alone _ _ _ c.over-windows.ensures c.gather_windows.ensures.laid c.as_slice-windows.ensures.list) in
+    let e = rw c.by_owner.ensures.rows at (alone _ _ _ c.over-windows.ensures.list c.gather_windows.ensures.laid c.as_slice-windows.ensures.list) in
     search (rules, place_kind)
 
 pub is_outside-outside-requires : goal.is_outside-outside-requires
-is_outside-outside-requires c = rw c.by_owner.ensures.rows at (alone _ _ _ c.over-windows.ensures c.gather_windows.ensures.laid c.as_slice-windows.ensures.list)
+is_outside-outside-requires c = rw c.by_owner.ensures.rows at (alone _ _ _ c.over-windows.ensures.list c.gather_windows.ensures.laid c.as_slice-windows.ensures.list)
 
 pub returns : goal.returns
 returns c =

@@ -2,7 +2,7 @@ use native.Mathlib.Omega.{arith}
 use Rattle.chains.proofs.PlaceLaws.{left_below, left_here, left_first, left_next, left_start, front_start}
 use Rattle.sheet.proofs.Lookups.{place_low}
 use Rattle.check6_joint_calendars.proofs.Marking.{on_resources}
-use Rattle.check6_joint_calendars.proofs.Gathering.{gather_first, gather_next, gather_more, gather_none, holder, room_windows, room_calendars, last_windows, last_calendars, lent}
+use Rattle.check6_joint_calendars.proofs.Gathering.{gather_first, gather_next, gather_more, gather_none, holder, room_windows, room_calendars, last_windows, last_calendars, lent, out_over}
 use Rattle.check6_joint_calendars.proofs.Whole.{activity_holder, whole}
 use Rattle.check6_joint_calendars.proofs.lay_calendars.Goals as goal
 
@@ -18,7 +18,7 @@ add-requires c =
     let l = left_below _ _ e c.loop-r.invariant.0 in
     let h = rw e at c.loop-r.invariant.1 in
     let b = c.of_kind-r-items.ensures.known.1 in
-    rw c.by_owner.ensures.rows
+    rw c.by_owner.ensures
     (omega (arith, l), holder _ _ (on_resources _ _ c.mark_resources-marks.ensures) l c.if-marks-r.true, room_windows _ _ _ h b, room_calendars _ _ _ h b l)
 
 pub loop-r-preserved-then-marks-r : goal.loop-r-preserved-then-marks-r
@@ -40,11 +40,11 @@ pub add-requires-2 : goal.add-requires-2
 add-requires-2 c =
     let h = rw c.in-None.ensures.steps.0 at c.loop-r.invariant.1 in
     let b = c.of_kind-r-items.ensures.known.1 in
-    rw c.by_owner-2.ensures.rows
+    rw c.by_owner-2.ensures
     (place_low _ _ _ c.requires.2, activity_holder _ _ c.requires.2, last_windows _ _ _ h b c.args.a, last_calendars _ _ _ h b c.args.k c.requires.1 c.requires.0)
 
 pub returns : goal.returns
 returns c =
     let h = rw c.in-None.ensures.steps.0 at c.loop-r.invariant.1 in
-    let o = whole _ _ _ _ _ c.mark_resources-marks.ensures h (rw c.by_owner-2.ensures.rows at c.add-2.ensures) in
-    record { laid = o; calendars = lent _ _ o }
+    let o = out_over _ c.over-laid.ensures (whole _ _ _ _ _ _ _ c.mark_resources-marks.ensures h (rw c.by_owner-2.ensures.rows at c.add-2.ensures)) in
+    record { laid = o; calendars = lent _ _ _ _ o }

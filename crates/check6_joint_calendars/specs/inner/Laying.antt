@@ -3,6 +3,9 @@ use Rattle.std.specs.Prelude.{ℕ, ◌+◌, ◌≤◌, ◌≡◌, Bool, ◌&&◌
 use Rattle.loops.specs.Lists.{given}
 use Rattle.loops.specs.Range.{collect}
 use Rattle.loops.specs.Search.{count_below}
+use Rattle.lent_room.specs.Listed.{Room, behind, past}
+use Rattle.calendar.specs.declared.Places.{Places}
+use Rattle.calendar.specs.declared.TimeWindow.{TimeWindow}
 use Rattle.calendar.specs.Calendar.{Calendar}
 use Rattle.rows.specs.Cells.{row_count, num, is}
 use Rattle.sheet.specs.Places.{of_kind}
@@ -19,6 +22,8 @@ pub record Added (x : Calendar ℤ) (m : ℕ) (l l' : LaidCalendars) : Type 0 wh
   pub windows : calendar_in l'.windows ≡ calendar_in l.windows ++ x
   pub places : placed l' ≡ placed l ++ record { from = length (listed l.windows); to = length (listed l.windows) + length x } ∷ []
   pub count : length (listed l'.windows) ≡ length (listed l.windows) + m
+  pub behind_windows : behind l'.windows ≡ past (length x) (behind l.windows)
+  pub behind_places : behind l'.places ≡ past 1 (behind l.places)
 
 -- the calendar of row r's resource, where it is marked
 unfoldable pub calendar_at : List ℤ → List Bool → ℕ → List (Calendar ℤ)
@@ -28,8 +33,8 @@ calendar_at rows marks r = given (marked marks r) (windows (sheet rows) 15 (num 
 unfoldable pub window_above : List ℤ → ℕ → ℕ → Bool
 window_above rows i j = is rows j 0 15 && ltb (own_place rows j) i
 
--- the calendars of the marked resources among the first i rows are laid out, and no others; there is place for the windows of the rest
-pub record Resources (rows : List ℤ) (marks : List Bool) (i : ℕ) (l : LaidCalendars) : Type 0 where
-  pub out : LaidOut (collect (calendar_at rows marks) i) l
+-- the calendars of the marked resources among the first i rows are laid out in the lent room, and no others; there is place for the windows of the rest
+pub record Resources (rows : List ℤ) (marks : List Bool) (i : ℕ) (w : Room TimeWindow) (p : Room Places) (l : LaidCalendars) : Type 0 where
+  pub out : LaidOut (collect (calendar_at rows marks) i) w p l
   pub windows : length (listed l.windows) ≤ count_below (window_above rows i) (row_count rows)
   pub calendars : length (placed l) ≤ count_below (of_kind rows 11) i
