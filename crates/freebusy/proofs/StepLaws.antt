@@ -72,10 +72,10 @@ module _ (resource : ℤ) (k : Sink) (free : Bool) (w : Result Span Reason) wher
       go false = sym (lines_none 10 (closure_row resource) k)
 
   -- its numbers are read back from their bits
-  pub put_span : {v : Span} {k' : Sink} → w ≡ Ok v → IfOk w (λ v. (v.start ≤ 4000000000000) × (v.end ≤ 4000000000000)) → not free ≡ true → SFits w64 resource
-      → k' ≡ put_line 10 k (pos 15 ∷ to_z w64 (of_z w64 resource) ∷ pos 1 ∷ to_z w64 v.start ∷ to_z w64 v.end ∷ pos 0 ∷ pos 0 ∷ pos 0 ∷ pos 0 ∷ pos 0 ∷ [])
+  pub put_span : {v : Span} {k' : Sink} {kind : ℕ} → kind ≡ 15 → w ≡ Ok v → IfOk w (λ v. (v.start ≤ 4000000000000) × (v.end ≤ 4000000000000)) → not free ≡ true → SFits w64 resource
+      → k' ≡ put_line 10 k (to_z w64 kind ∷ to_z w64 (of_z w64 resource) ∷ pos 1 ∷ to_z w64 v.start ∷ to_z w64 v.end ∷ pos 0 ∷ pos 0 ∷ pos 0 ∷ pos 0 ∷ pos 0 ∷ [])
       → k' ≡ put_closures resource k (cond free [] (window_closures w))
-  put_span s h f r q = let early = rw s at h in rw (s, not-true free f) (closure_put resource k (rw (to_z-of_z r) at q) early.0 early.1)
+  put_span m s h f r q = let early = rw s at h in rw (s, not-true free f) (closure_put resource k (rw (m, to_z-of_z r) at q) early.0 early.1)
 
 -- ---- the parts of a value
 

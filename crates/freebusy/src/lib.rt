@@ -17,8 +17,11 @@ ghost use Rattle.freebusy.specs.inner.Reading.{put_closures, ReadOn, unread, spa
 use freebusy_lines::SentLines;
 use freebusy_periods::Span;
 use refusals::{Answer, Reason, Verdict};
-use rows::Class;
+use rows::{Class, Kind};
 use text_fields::Parts;
+
+// The column `closed` of a window that is.
+const CLOSED: i64 = 1;
 
 // What is lent: so many rows, for closures of a resource.
 #[derive(Clone, Copy)]
@@ -28,7 +31,8 @@ struct Lent {
     ghost in_range: { room < 2 ^ 60 },
 }
 
-// What the periods so far come to: how many rows they have, and the refusal of the first that is refused.
+// What the periods so far come to: how many rows they have, and the refusal of the first that is refused. No Answer: the count and the rows go on past a
+// refusal, so that what any periods come to (`ReadOn`) has one case, and no reading breaks off with rows half put of which it would have to speak.
 #[derive(Clone, Copy)]
 struct Reading {
     count: usize,
@@ -61,8 +65,9 @@ impl Lent {
     {
         match w {
             Ok(v) if !free => {
+                let kind = Kind::ResourceWindow.number() as i64;
                 let (start, end) = (v.start as i64, v.end as i64);
-                let line = [15, self.resource, 1, start, end, 0, 0, 0, 0, 0];
+                let line = [kind, self.resource, CLOSED, start, end, 0, 0, 0, 0, 0];
                 line_buffer::put(rows, n, &line)
             }
             _ => n,

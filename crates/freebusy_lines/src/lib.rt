@@ -110,7 +110,8 @@ pub fn unfold_into(s: &[u8], to: &mut [u8]) -> usize
 {
     let mut rest = s;
     let mut n: usize = 0;
-    // A turn takes one byte or the three of a fold, so that no `for` fits.
+    // A turn takes one byte or the three of a fold, so that no `for` fits; and n counts the bytes that it wrote, which are the answer, so that a `for` over the
+    // bytes that stay would count beside it all the same.
     while let [first, others @ ..] = rest {
         if is_fold(rest) {
             rest = &rest[3..];

@@ -11,6 +11,7 @@ use lib.Dec.{eqb, leb}
 use lib.ListN.{length, get_or, drop, take}
 use borrow.Author.Rules.{rules}
 use borrow.Author.Tests.{eq-eqb, ne_eqb, not-true, not-false, leb-true}
+use Rattle.loops.specs.Lists.{option}
 use Rattle.loops.proofs.BoolLaws.{and_right}
 use Rattle.loops.proofs.PlaceLaws.{or_none_lem}
 use Rattle.text_fields.specs.Spelling.{is_digit}
@@ -19,7 +20,7 @@ use Rattle.letters.specs.Letters.{capital, is_letter, LETTER_D, LETTER_H, LETTER
 use Rattle.letters.proofs.LetterLaws.{digit_kept}
 use Rattle.freebusy_lines.specs.Bytes.{PLUS, HYPHEN}
 use Rattle.freebusy_periods.specs.Duration.{Counted, counted_from, counted, then_maybe, amount, nothing_more, dur_second, dur_minute, dur_hour, dur_time, dur_date, dur_week, dur_unsigned, dur_value}
-use Rattle.freebusy_periods.specs.inner.Capped.{capped_count, counted_by, capped, letter_then, after_t, after_p}
+use Rattle.freebusy_periods.specs.inner.Capped.{capped_count, counted_by, capped, after_letter, after_t, after_p}
 use Rattle.freebusy_periods.specs.declared.Amount.{Amount}
 use Rattle.freebusy_periods.proofs.AmountLaws.{told_none, told_some, amount_none, amount_other, amount_here}
 
@@ -114,61 +115,62 @@ module _ (s : List ℕ) {r : Option Amount} (e : option_map counted_by r ≡ cap
 
 -- ---- a letter, and what follows it
 
-module _ (c : ℕ) (f : List ℕ → Option ℕ) (s : List ℕ) where
-  letter_none : length s ≡ 0 → None ≡ capped (letter_then c f s)
-  unfolding letter_then capped
+module _ (c : ℕ) (s : List ℕ) where
+  pub letter_none : length s ≡ 0 → after_letter c s ≡ None
+  unfolding after_letter
   letter_none h = go s h
     where
-      go : (s : List ℕ) → length s ≡ 0 → None ≡ capped (letter_then c f s)
+      go : (s : List ℕ) → length s ≡ 0 → after_letter c s ≡ None
       go [] h = refl
       go (x ∷ s) h = absurd (omega arith)
 
   module _ {r : Bool} (n : length s ≡ 0 → ⊥) (q : r ≡ is_letter c (get_or s 0 0)) where
-    letter_other : not r ≡ true → None ≡ capped (letter_then c f s)
-    unfolding letter_then capped
+    pub letter_other : not r ≡ true → after_letter c s ≡ None
+    unfolding after_letter
     letter_other h = go s (sym q ∙ not-true r h)
       where
-        go : (s : List ℕ) → is_letter c (get_or s 0 0) ≡ false → None ≡ capped (letter_then c f s)
+        go : (s : List ℕ) → is_letter c (get_or s 0 0) ≡ false → after_letter c s ≡ None
         go [] e = refl
         go (x ∷ s) e = rw e
 
-    letter_here : {o : Option ℕ} → not r ≡ false → o ≡ capped (f (take (length s - 1) (drop 1 s))) → o ≡ capped (letter_then c f s)
-    unfolding letter_then
-    letter_here h e = e ∙ ap (λ (l : List ℕ). capped (f l)) (rest_is 1 s) ∙ go s n (sym q ∙ not-false r h)
+    pub letter_here : not r ≡ false → after_letter c s ≡ Some (take (length s - 1) (drop 1 s))
+    unfolding after_letter
+    letter_here h = go s n (sym q ∙ not-false r h) ∙ ap (λ (l : List ℕ). Some l) (sym (rest_is 1 s))
       where
-        go : (s : List ℕ) → (length s ≡ 0 → ⊥) → is_letter c (get_or s 0 0) ≡ true → capped (f (drop 1 s)) ≡ capped (letter_then c f s)
+        go : (s : List ℕ) → (length s ≡ 0 → ⊥) → is_letter c (get_or s 0 0) ≡ true → after_letter c s ≡ Some (drop 1 s)
         go [] n e = absurd (n refl)
         go (x ∷ s) n e = rw e
 
-time_is : (s : List ℕ) → letter_then LETTER_T after_t s ≡ dur_time s
-unfolding letter_then after_t dur_time
+-- a production that is a letter and then what f reads
+then_by : (f : List ℕ → Option ℕ) (s : List ℕ) (b : Bool) → cond b (f s) None ≡ option (cond b (Some s) None) None f
+then_by f s true = refl
+then_by f s false = refl
+
+time_is : (s : List ℕ) → dur_time s ≡ option (after_letter LETTER_T s) None after_t
+unfolding after_letter after_t dur_time
 time_is [] = refl
-time_is (x ∷ s) = refl
+time_is (x ∷ s) = then_by after_t s (is_letter LETTER_T x)
 
-unsigned_is : (s : List ℕ) → letter_then LETTER_P after_p s ≡ dur_unsigned s
-unfolding letter_then after_p dur_unsigned
+unsigned_is : (s : List ℕ) → dur_unsigned s ≡ option (after_letter LETTER_P s) None after_p
+unfolding after_letter after_p dur_unsigned
 unsigned_is [] = refl
-unsigned_is (x ∷ s) = refl
+unsigned_is (x ∷ s) = then_by after_p s (is_letter LETTER_P x)
 
-module _ (s : List ℕ) where
-  pub no_time_lem : length s ≡ 0 → None ≡ capped (dur_time s)
-  no_time_lem h = letter_none LETTER_T after_t s h ∙ ap capped (time_is s)
+module _ (s : List ℕ) {o : Option ℕ} where
+  pub no_t : after_letter LETTER_T s ≡ None → o ≡ None → o ≡ capped (dur_time s)
+  unfolding capped
+  no_t e q = let z : dur_time s ≡ None = rw e at (time_is s) in q ∙ ap capped (sym z)
 
-  pub no_unsigned : length s ≡ 0 → None ≡ capped (dur_unsigned s)
-  no_unsigned h = letter_none LETTER_P after_p s h ∙ ap capped (unsigned_is s)
+  pub no_p : after_letter LETTER_P s ≡ None → o ≡ None → o ≡ capped (dur_unsigned s)
+  unfolding capped
+  no_p e q = let z : dur_unsigned s ≡ None = rw e at (unsigned_is s) in q ∙ ap capped (sym z)
 
-  module _ {r : Bool} (n : length s ≡ 0 → ⊥) where
-    pub not_t : r ≡ is_letter LETTER_T (get_or s 0 0) → not r ≡ true → None ≡ capped (dur_time s)
-    not_t q h = letter_other LETTER_T after_t s n q h ∙ ap capped (time_is s)
+  module _ {rest : List ℕ} where
+    pub after_t_is : after_letter LETTER_T s ≡ Some rest → o ≡ capped (after_t rest) → o ≡ capped (dur_time s)
+    after_t_is e q = let z : dur_time s ≡ after_t rest = rw e at (time_is s) in q ∙ ap capped (sym z)
 
-    pub with_t : {o : Option ℕ} → r ≡ is_letter LETTER_T (get_or s 0 0) → not r ≡ false → o ≡ capped (after_t (take (length s - 1) (drop 1 s))) → o ≡ capped (dur_time s)
-    with_t q h e = letter_here LETTER_T after_t s n q h e ∙ ap capped (time_is s)
-
-    pub not_p : r ≡ is_letter LETTER_P (get_or s 0 0) → not r ≡ true → None ≡ capped (dur_unsigned s)
-    not_p q h = letter_other LETTER_P after_p s n q h ∙ ap capped (unsigned_is s)
-
-    pub with_p : {o : Option ℕ} → r ≡ is_letter LETTER_P (get_or s 0 0) → not r ≡ false → o ≡ capped (after_p (take (length s - 1) (drop 1 s))) → o ≡ capped (dur_unsigned s)
-    with_p q h e = letter_here LETTER_P after_p s n q h e ∙ ap capped (unsigned_is s)
+    pub after_p_is : after_letter LETTER_P s ≡ Some rest → o ≡ capped (after_p rest) → o ≡ capped (dur_unsigned s)
+    after_p_is e q = let z : dur_unsigned s ≡ after_p rest = rw e at (unsigned_is s) in q ∙ ap capped (sym z)
 
 -- ---- dur-date / dur-time / dur-week
 
@@ -260,6 +262,6 @@ pub ruleset times = (rules, time_none, time_hour, time_minute, time_second, time
 
 pub ruleset dates = (rules, date_none, date_day, date_week, date_other)
 
-pub ruleset lettered = (rules, no_time_lem, not_t, with_t, no_unsigned, not_p, with_p)
+pub ruleset lettered = (rules, no_t, no_p, after_t_is, after_p_is)
 
 pub ruleset values = (rules, value_empty, value_signed, value_plain)

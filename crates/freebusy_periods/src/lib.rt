@@ -1,14 +1,14 @@
 // Durations and periods of an office calendar, and the windows that they stand for.
 #![tactic(auto)]
 
-ghost use Rattle.std.specs.Prelude.{◌≡◌, ◌+◌, ◌≤◌, ℕ, List, Option, IfSome, option_map};
+ghost use Rattle.std.specs.Prelude.{◌≡◌, ◌+◌, ◌≤◌, ℕ, true, false, List, Option, None, Some, IfSome, MatchOption, option_map};
 ghost use Rattle.freebusy_periods.specs.Duration.{counted, then_maybe, dur_second, dur_minute, dur_time, dur_unsigned, dur_value, is_back};
 ghost use Rattle.freebusy_periods.specs.Period.{period, moved, end_from, window_of};
-ghost use Rattle.freebusy_periods.specs.inner.Capped.{at_most, capped_count, counted_by, capped, after_t, after_p, ends_period};
+ghost use Rattle.freebusy_periods.specs.inner.Capped.{at_most, capped_count, counted_by, capped, after_letter, after_t, after_p, ends_period};
 
 use refusals::Reason;
 
-// A period's window.
+// A period's window. Not spans' Span, which lies above: the reader of calendars stands by itself, and a type of both would take a crate of its own.
 #[derive(Clone, Copy, PartialEq, Eq)]
 pub struct Span {
     pub start: u64,
@@ -109,17 +109,24 @@ fn after_t(s: &[u8]) -> Option<u64>
     }
 }
 
-// dur-time = "T" (dur-hour / dur-minute / dur-second)
-fn dur_time(s: &[u8]) -> Option<u64>
-    ensures { result ≡ capped (dur_time s.now) }
+// What follows a letter, which is given as a capital, where it comes first.
+fn after_letter(c: u8, s: &[u8]) -> Option<&[u8]>
+    ensures { MatchOption result (after_letter c s.now ≡ None) (λ rest. after_letter c s.now ≡ Some rest.now) }
 {
     let [first, rest @ ..] = s else {
         return None;
     };
-    if !letters::is_letter(b'T', *first) {
+    if !letters::is_letter(c, *first) {
         return None;
     }
-    after_t(rest)
+    Some(rest)
+}
+
+// dur-time = "T" (dur-hour / dur-minute / dur-second)
+fn dur_time(s: &[u8]) -> Option<u64>
+    ensures { result ≡ capped (dur_time s.now) }
+{
+    after_t(after_letter(b'T', s)?)
 }
 
 // dur-date / dur-time / dur-week, where dur-date = 1*DIGIT "D" [dur-time] and dur-week = 1*DIGIT "W"
@@ -140,13 +147,7 @@ fn after_p(s: &[u8]) -> Option<u64>
 fn dur_unsigned(s: &[u8]) -> Option<u64>
     ensures { result ≡ capped (dur_unsigned s.now) }
 {
-    let [first, rest @ ..] = s else {
-        return None;
-    };
-    if !letters::is_letter(b'P', *first) {
-        return None;
-    }
-    after_p(rest)
+    after_p(after_letter(b'P', s)?)
 }
 
 // dur-value = (["+"] / "-") "P" (dur-date / dur-time / dur-week)
@@ -175,20 +176,21 @@ pub fn is_period(s: &[u8]) -> bool
     dates::is_date_time(start) && n < s.len() && is_end(&s[n + 1..])
 }
 
-// So many seconds before an instant, or after it.
-fn move_by(a: u64, back: bool, n: u64) -> Option<u64>
+// So many seconds before an instant.
+fn earlier(a: u64, n: u64) -> Option<u64>
     requires { a ≤ 4000000000000 }
-    ensures { result ≡ moved a back n }
+    ensures { result ≡ moved a true n }
 {
-    let k = cut(n) * 1000;
-    if back {
-        return a.checked_sub(k);
-    }
-    if a + k <= LAST_INSTANT {
-        Some(a + k)
-    } else {
-        None
-    }
+    a.checked_sub(cut(n) * 1000)
+}
+
+// So many seconds after an instant.
+fn later(a: u64, n: u64) -> Option<u64>
+    requires { a ≤ 4000000000000 }
+    ensures { result ≡ moved a false n }
+{
+    let end = a + cut(n) * 1000;
+    if end <= LAST_INSTANT { Some(end) } else { None }
 }
 
 fn has_minus(s: &[u8]) -> bool
@@ -205,7 +207,12 @@ fn end_from(a: u64, e: &[u8]) -> Option<u64>
     if dates::is_date_time(e) {
         return dates::read_instant(e);
     }
-    move_by(a, has_minus(e), dur_value(e)?)
+    let n = dur_value(e)?;
+    if has_minus(e) {
+        earlier(a, n)
+    } else {
+        later(a, n)
+    }
 }
 
 // The window of a period, or the reason of its refusal.

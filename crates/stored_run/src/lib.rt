@@ -337,7 +337,7 @@ pub fn verdict_passes(judging: &[i64], verdict: Verdict) -> bool
 // ---- the reading of a list
 
 // Reads from a file until its end, an error or the end of the room, and gives how many bytes were read. Steps of any length, and no index
-// that counts them. `speed` has the same few lines: it shares no crate that reads with this one.
+// that counts them. Not program_io's reading: that is of standard input, and keeps why a read failed, of which nothing is told here.
 fn read_whole(from: &mut impl Read, room: &mut [u8]) -> usize
     ensures { result ≤ length room.new }
 {

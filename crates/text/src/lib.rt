@@ -16,6 +16,7 @@ fn read_lines(text: &[u8], rows: &mut [i64], lent: usize) -> Answer
     ensures value { result ≡ answer_from lent 0 (parts 10 text.now) }
     ensures rows_after { rows.new ≡ sets rows.old 0 (rows_read lent 0 (parts 10 text.now)) }
 {
+    // Counted beside the `for`, and not by `enumerate`: the count is the answer, and is wanted after the last line.
     let mut place: usize = 0;
     let mut parts = Parts::new(text, b'\n');
     let Some(mut line) = parts.next() else {

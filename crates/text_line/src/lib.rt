@@ -32,6 +32,7 @@ fn read_fields(line: &[u8], rows: &mut [i64], base: usize) -> Fields
     ensures rows_after { rows.new ≡ sets rows.old base (map value_of (fields_of line.now)) }
 {
     let mut good = true;
+    // Counted beside the `for`, and not by `enumerate`: the count is wanted after the last field.
     let mut count: usize = 0;
     for field in Parts::new(line, b',') {
         let number = text_fields::read_number(field);

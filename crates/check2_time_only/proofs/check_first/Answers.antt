@@ -7,7 +7,7 @@ use Rattle.check2_time_only.proofs.Spans.{own_windows}
 use Rattle.check2_time_only.proofs.check_first.Goals as goal
 
 pub gather_windows-requires : goal.gather_windows-requires
-gather_windows-requires c = rw c.by_owner.ensures (search (rules, place_low, own_windows, all_fit))
+gather_windows-requires c = rw c.by_owner.ensures.rows (search (rules, place_low, own_windows, all_fit))
 
 pub is_short-short-requires : goal.is_short-short-requires
 is_short-short-requires c =

@@ -27,10 +27,10 @@ capped (Some n) = Some (at_most n)
 unfoldable pub added : ℕ → Option ℕ → Option ℕ
 added n o = option o None (λ m. Some (n + m))
 
--- the letter c, and then what f reads
-unfoldable pub letter_then : ℕ → (List ℕ → Option ℕ) → List ℕ → Option ℕ
-letter_then c f [] = None
-letter_then c f (x ∷ xs) = cond (is_letter c x) (f xs) None
+-- what follows the letter c, where it comes first
+unfoldable pub after_letter : ℕ → List ℕ → Option (List ℕ)
+after_letter c [] = None
+after_letter c (x ∷ xs) = cond (is_letter c x) (Some xs) None
 
 -- dur-hour / dur-minute / dur-second
 unfoldable pub after_t : List ℕ → Option ℕ
