@@ -18,7 +18,7 @@ add-requires c =
     let l = left_below _ _ e c.loop-r.invariant.0 in
     let h = rw e at c.loop-r.invariant.1 in
     let b = c.of_kind-r-items.ensures.known.1 in
-    rw c.by_owner.ensures
+    rw c.by_owner.ensures.rows
     (omega (arith, l), holder _ _ (on_resources _ _ c.mark_resources-marks.ensures) l c.if-marks-r.true, room_windows _ _ _ h b, room_calendars _ _ _ h b l)
 
 pub loop-r-preserved-then-marks-r : goal.loop-r-preserved-then-marks-r
@@ -40,7 +40,7 @@ pub add-requires-2 : goal.add-requires-2
 add-requires-2 c =
     let h = rw c.in-None.ensures.steps.0 at c.loop-r.invariant.1 in
     let b = c.of_kind-r-items.ensures.known.1 in
-    rw c.by_owner-2.ensures
+    rw c.by_owner-2.ensures.rows
     (place_low _ _ _ c.requires.2, activity_holder _ _ c.requires.2, last_windows _ _ _ h b c.args.a, last_calendars _ _ _ h b c.args.k c.requires.1 c.requires.0)
 
 pub returns : goal.returns
