@@ -2,7 +2,7 @@
 // (tools/cases/README.md has the form). Here are the fields of a line, whether lines are formed, and where a case ends.
 #![tactic(auto)]
 
-ghost use Rattle.std.specs.Prelude.{◌≡◌, ◌+◌, ◌≤◌, ltb, length, take, drop};
+ghost use Rattle.std.specs.Prelude.{◌≡◌, ◌+◌, ◌-◌, ◌≤◌, ltb, length, take, drop};
 ghost use Rattle.loops.specs.Lists.{all_of};
 ghost use Rattle.text_fields.specs.Parts.{parts};
 ghost use Rattle.text_line.specs.Line.{fields_of, value_of, spelled};
