@@ -5,9 +5,11 @@ ghost use Rattle.std.specs.Prelude.{◌≡◌, length};
 ghost use Rattle.acceptance.specs.inner.Accepting.{Accepting};
 
 use model::Sheet;
+use pieces::MarkedRows;
 use refusals::Verdict;
 
 // The verdict, and the index of the rows, as `validation::index` leaves it.
+#[tactic(auto, using(model::proofs::Accepting::accepted))]
 pub fn accept(
     rows: &[i64],
     kinds: &mut [u16; 3680],
@@ -21,6 +23,6 @@ pub fn accept(
     let sheet = Sheet::new(rows, kinds, links, owned);
     let owners = sheet.owners();
     let held = pieces::held_of(&sheet.by_kind(), &owners);
-    let need = derived_times::needs_of(&owners, &held);
+    let need = derived_times::needs_of(&MarkedRows::new(owners, &held));
     derived_times::refused(rows, &need)
 }
