@@ -5,9 +5,11 @@ ghost use Rattle.owners.specs.inner.Filled.{Sized};
 ghost use Rattle.acceptance.specs.inner.Accepting.{Accepting};
 
 use model::{Sheet, SheetIndex};
+use pieces::MarkedRows;
 use refusals::Verdict;
 
 // The verdict, and the index of the rows, as `validation::index` leaves it.
+#[tactic(auto, using(model::proofs::Accepting::accepted))]
 pub fn accept(rows: &[i64], index: &mut SheetIndex) -> Verdict
     requires { Sized index.old }
     ensures { Accepting rows.now index.old result index.new }
@@ -16,6 +18,6 @@ pub fn accept(rows: &[i64], index: &mut SheetIndex) -> Verdict
     let sheet = Sheet::new(rows, index);
     let owners = sheet.owners();
     let held = pieces::held_of(&sheet.by_kind(), &owners);
-    let need = derived_times::needs_of(&owners, &held);
+    let need = derived_times::needs_of(&MarkedRows::new(owners, &held));
     derived_times::refused(rows, &need)
 }

@@ -67,9 +67,6 @@ module _ (rows : List ℤ) where
 
   -- ---- a booking of an activity
 
-  found : (a k : ℕ) → Booked rows a k → find_activity (sheet rows) (num rows k 1) ≡ Some (activity_of rows a)
-  found a k b = find_activity_lem rows (num rows k 1) ∙ ap (λ x. option x None (λ j. Some (activity_of rows j))) b.place
-
   cond_yes : {A : Type 0} {b : Bool} (x y : A) → b ≡ true → cond b x y ≡ x
   cond_yes x y e = rw e
 
@@ -110,9 +107,9 @@ module _ (rows : List ℤ) where
     judged_is h g = cond_no _ _ h ∙ cond_no _ _ g
 
     -- as the code tells them
-    pub judged_told : Booked rows a k → (need : List ℕ) → Needs rows need → misplaced (sheet rows) (activity_of rows a) (assignment_of rows k) ≡ false
+    pub judged_told : misplaced (sheet rows) (activity_of rows a) (assignment_of rows k) ≡ false
         → is_held (sheet rows) (assignment_of rows k) ≡ false
-        → {id used setup : ℕ} {over short early late : Bool} {x y z : Violation} (t₀ : Told) {t₁ t₂ t₃ t₄ : Told}
+        → {id used : ℕ} {over short early late : Bool} {x y z : Violation} (t₀ : Told) {t₁ t₂ t₃ t₄ : Told}
         → id ≡ num rows k 1
         → x ≡ unknown_activity 1 id
         → y ≡ duration_too_short 1 id
@@ -120,23 +117,21 @@ module _ (rows : List ℤ) where
         → used ≡ uses (sheet rows) (activity_of rows a) (assignment_of rows k) (assignments_below (sheet rows) k)
         → over ≡ lt_z (units (sheet rows) (num rows a 1)) (pos (used + 1))
         → t₁ ≡ tell t₀ (given over x)
-        → setup ≡ num rows k 6
-        → short ≡ ltb (num rows k 5) (num rows k 4 + (setup + get_or need k 0))
+        → short ≡ ltb (num rows k 5) (num rows k 4 + needed_ms (sheet rows) (activity_of rows a) (assignment_of rows k) (runs_on (sheet rows) (assignment_of rows k)))
         → t₂ ≡ tell t₁ (given short y)
         → early ≡ ltb (num rows k 4) (num rows a 8)
         → t₃ ≡ tell t₂ (given early z)
         → late ≡ option (place_of rows 1 (num rows a 2)) false (λ t. ltb (num rows k 4) (num rows t 3))
         → t₄ ≡ tell t₃ (given late z)
         → t₄ ≡ tell t₀ known
-    judged_told b need nd h g {id} {used} {setup} {over} {short} {early} {late} {x} {y} {z} t₀ {t₁} {t₂} {t₃} i xe ye ze u o q₁ r w q₂ e q₃ l q₄ =
+    judged_told h g {id} {used} {over} {short} {early} {late} {x} {y} {z} t₀ {t₁} {t₂} {t₃} i xe ye ze u o q₁ w q₂ e q₃ l q₄ =
         joined (given over x ++ given short y ++ given early z) (given late z) t₀ t₃ (joined (given over x ++ given short y) (given early z) t₀ t₂ (joined (given over x) (given short y) t₀ t₁ q₁ q₂) q₃) q₄
         ∙ ap (tell t₀)
         (ap₂ ◌++◌
         (ap₂ ◌++◌
         (ap₂ ◌++◌
         (ap₂ given (o ∙ ap (λ n. lt_z (units (sheet rows) (num rows a 1)) (pos n)) (add-one used ∙ ap suc u)) (xe ∙ ap (unknown_activity 1) i))
-        (ap₂ given (w ∙ ap (λ n. ltb (num rows k 5) (num rows k 4 + n)) (ap (λ n. n + get_or need k 0) r ∙ sym (nd.at k (assignment_of rows k) (activity_of rows a) b.within (assignment_row rows k b.kind) (found a k b)))
-        ∙ sym (shorter (num rows k 4) (num rows k 5) (needed_ms (sheet rows) (activity_of rows a) (assignment_of rows k) (runs_on (sheet rows) (assignment_of rows k))))) (ye ∙ ap (duration_too_short 1) i)))
+        (ap₂ given (w ∙ sym (shorter (num rows k 4) (num rows k 5) (needed_ms (sheet rows) (activity_of rows a) (assignment_of rows k) (runs_on (sheet rows) (assignment_of rows k))))) (ye ∙ ap (duration_too_short 1) i)))
         (ap₂ given e (ze ∙ ap (early_start 1) i) ∙ sym (early_is k a 8)))
         (ap₂ given l (ze ∙ ap (early_start 1) i) ∙ sym (early_task a k))
         ∙ sym (judged_is h g))
@@ -192,8 +187,8 @@ module _ (rows : List ℤ) where
 -- ---- numbers that are added
 
 module _ (rows : List ℤ) (k : ℕ) where
-  pub need_small : (need : List ℕ) → Needs rows need → k < row_count rows → get_or need k 0 < 9007199254740992
-  need_small need nd l = nd.small k l
-
   pub start_small : Accepted rows → is rows k 0 23 ≡ true → num rows k 4 ≤ 4000000000000
   start_small acc h = at_most rows acc k 23 4 h
+
+  pub setup_small : Accepted rows → is rows k 0 23 ≡ true → num rows k 6 ≤ 4000000000000
+  setup_small acc h = at_most rows acc k 23 6 h

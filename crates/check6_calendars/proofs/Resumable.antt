@@ -10,10 +10,8 @@ use native.Mathlib.Decide.{ℕ_discrete}
 use lib.Dec.{eqb, ltb}
 use lib.IntN.{ℤ, pos}
 use lib.ListN.{get_or, set, replicate}
-use mir.Val.{bool_byte}
 use Rattle.loops.specs.Lists.{option}
 use Rattle.loops.specs.inner.Chain.{First}
-use Rattle.loops.proofs.StoreLaws.{filled_start}
 use Rattle.loops.proofs.Walks.{over}
 use Rattle.calendar.specs.Clock.{clock}
 use Rattle.calendar.specs.Calendar.{Calendar, joint_working}
@@ -30,11 +28,12 @@ use Rattle.model.proofs.Finds.{find_activity_lem}
 use Rattle.definition.specs.Pieces.{runs_on}
 use Rattle.definition.specs.CheckCalendars.{piece_calendars}
 use Rattle.derived_times.specs.inner.Needs.{Needs}
+use Rattle.derived_times.proofs.Refusing.{rest_needed}
 use Rattle.check6_joint_calendars.specs.Laid.{laid_calendars}
 use Rattle.check6_joint_calendars.proofs.Whole.{joint_laid}
 use Rattle.check6_joint_calendars.proofs.Joint.{available_same}
-use Rattle.pieces.proofs.Marks.{mark_is, Marking, marking_turn}
-use Rattle.check6_calendars.specs.inner.Lacking.{uncovered_at, lacks_time, Lacking}
+use Rattle.pieces.proofs.Marks.{Marking, marking_start, marking_turn}
+use Rattle.check6_calendars.specs.inner.Lacking.{lacks_time}
 
 -- ---- whether working time covers work
 
@@ -58,24 +57,18 @@ laid_covered rows k a {cs = cs} c ok l h p q m u = same_covered cs _ (λ t. join
 -- ---- the finding
 
 module _ (rows : List ℤ) (k : ℕ) where
-  activity_found : (a : ℕ) → Some a ≡ place_of rows 2 (num rows k 1) → find_activity (sheet rows) (num rows k 1) ≡ Some (activity_of rows a)
-  activity_found a q = find_activity_lem rows (num rows k 1) ∙ ap (λ x. option x None (λ j. Some (activity_of rows j))) (sym q)
-
   pub needed_is : (need : List ℕ) → Needs rows need → (a : ℕ) → k < row_count rows → is rows k 0 23 ≡ true → Some a ≡ place_of rows 2 (num rows k 1)
       → needed_ms (sheet rows) (activity_of rows a) (assignment_of rows k) (runs_on (sheet rows) (assignment_of rows k)) ≡ num rows k 6 + get_or need k 0
-  needed_is need nd a l h q = nd.at k (assignment_of rows k) (activity_of rows a) l (assignment_row rows k h) (activity_found a q)
-
-  pub lacking_is : (t : List ℕ) → Lacking rows t → (a : ℕ) → k < row_count rows → lacks_time rows k ≡ uncovered_at rows a k → eqb (get_or t k 0) 1 ≡ uncovered_at rows a k
-  lacking_is t lk a l h = mark_is (lacks_time rows k) (lk.at k l) ∙ h
+  needed_is need nd a l h q = sym (rest_needed rows nd k l a h (sym q))
 
 -- ---- the marks
 
 -- a row that is not marked
-marking_miss : (f : ℕ → Bool) {k : ℕ} {t : List ℕ} → f k ≡ false → Marking f k t → Marking f (k + 1) t
+marking_miss : (f : ℕ → Bool) {k : ℕ} {t : List Bool} → f k ≡ false → Marking f k t → Marking f (k + 1) t
 marking_miss f {k} {t} e h = record { size = h.size; at = λ j b. go j b (ℕ_discrete j k); rest = λ j b. h.rest j (omega arith) }
   where
-    go : (j : ℕ) → j < k + 1 → Dec (j ≡ k) → get_or t j 0 ≡ cond (f j) 1 0
-    go j b (yes z) = rw z (h.rest k (omega arith) ∙ sym (ap (λ y. cond y 1 0) e))
+    go : (j : ℕ) → j < k + 1 → Dec (j ≡ k) → get_or t j false ≡ f j
+    go j b (yes z) = rw z (h.rest k (omega arith) ∙ sym e)
     go j b (no z) = h.at j (omega arith)
 
 module _ (rows : List ℤ) where
@@ -83,13 +76,13 @@ module _ (rows : List ℤ) where
   unfolding of_kind lacks_time
   booking_alone k e = rw e
 
-  -- other rows keep their 0
-  passed : (t : List ℕ) {i n j : ℕ} → First (of_kind rows 23) i n j → Marking (lacks_time rows) i t → Marking (lacks_time rows) j t
+  -- other rows are not marked
+  passed : (t : List Bool) {i n j : ℕ} → First (of_kind rows 23) i n j → Marking (lacks_time rows) i t → Marking (lacks_time rows) j t
   passed t f = over (λ j. Marking (lacks_time rows) j t) (of_kind rows 23) _ _ _ (λ k e. marking_miss _ (booking_alone k e)) f
 
-  pub lacking_first : {n j : ℕ} → First (of_kind rows 23) 0 n j → Marking (lacks_time rows) j (replicate 800 0)
-  lacking_first f = passed _ f (filled_start _)
+  pub lacking_first : {n j : ℕ} → First (of_kind rows 23) 0 n j → Marking (lacks_time rows) j (replicate 800 false)
+  lacking_first f = passed _ f (marking_start _)
 
-  pub lacking_next : (t : List ℕ) {b : Bool} {v k j : ℕ} → First (of_kind rows 23) (suc k) (row_count rows) j → k < row_count rows → row_count rows ≤ 800
-      → v ≡ bool_byte b → b ≡ lacks_time rows k → Marking (lacks_time rows) k t → Marking (lacks_time rows) j (set t k v)
-  lacking_next t f l s q e h = passed _ f (rw add-one at (marking_turn rows (lacks_time rows) refl s t l q e h))
+  pub lacking_next : (t : List Bool) {b : Bool} {k j : ℕ} → First (of_kind rows 23) (suc k) (row_count rows) j → k < row_count rows → row_count rows ≤ 800
+      → b ≡ lacks_time rows k → Marking (lacks_time rows) k t → Marking (lacks_time rows) j (set t k b)
+  lacking_next t f l s e h = passed _ f (rw add-one at (marking_turn rows (lacks_time rows) refl s t l e h))

@@ -2,7 +2,7 @@
 // resumable work starts in the joint working time of its piece, and that time within its span covers it.
 #![tactic(auto)]
 
-ghost use Rattle.std.specs.Prelude.{◌≡◌, ◌+◌, ◌<◌, ◌≤◌, true, not, ◌||◌, ltb, pos, get_or, Some};
+ghost use Rattle.std.specs.Prelude.{◌≡◌, ◌<◌, ◌≤◌, true, not, ◌||◌, ltb, pos, Some};
 ghost use Rattle.loops.specs.Lists.{given, each};
 ghost use Rattle.rows.specs.Cells.{row_count, num, is};
 ghost use Rattle.rows.specs.Kinds.{kind_number};
@@ -21,8 +21,11 @@ ghost use Rattle.window_rows.specs.inner.Laid.{Holder};
 ghost use Rattle.derived_times.specs.inner.Needs.{Needs};
 ghost use Rattle.check6_calendars.specs.inner.Lacking.{uncovered_at, lacks_time, Lacking};
 
+pub mod lacking_sheet;
+
 use calendar::{Calendars, Places, TimeWindow};
 use findings::{Findings, Violation, ViolationKind};
+pub use lacking_sheet::LackingSheet;
 use model::Sheet;
 use owners::LinkIndex;
 use rows::Kind;
@@ -73,14 +76,6 @@ fn check_plain(rows: &Sheet, a: usize, o: usize, k: usize, found: &mut Findings)
 
 // ---- resumable bookings
 
-// What booking k needs: its own setup, and the derived rest of its work.
-fn needed_ms(rows: &Sheet, need: &[u64; 800], k: usize) -> u64
-    requires { Needs rows.now need.now × (k < row_count rows.now) }
-    ensures { result ≡ num rows.now k 6 + get_or need.now k 0 }
-{
-    rows.num(k, 6) + need[k]
-}
-
 // Whether so much work does not fit the joint working time of the calendars in [start, end), or starts outside it.
 fn is_uncovered(calendars: Calendars, start: u64, end: u64, needed: u64) -> bool
     ensures { result ≡ (not (joint_working clock (calendars_of calendars.entry.windows.now calendars.entry.places.now) (pos start)) || ltb (joint_available_ms clock (calendars_of calendars.entry.windows.now calendars.entry.places.now) (pos start) (pos end)) needed) }
@@ -88,25 +83,24 @@ fn is_uncovered(calendars: Calendars, start: u64, end: u64, needed: u64) -> bool
     !calendars.joint_working(start) || calendars.joint_available_ms(start, end) < needed
 }
 
-// Whether booking k, of the activity of row a, is not covered by the working time of its piece.
+// Whether so much work of booking k, of the activity of row a, is not covered by the working time of its piece.
 #[tactic(auto, using(crate::proofs::Resumable::laid_covered))]
 fn lacks_time(
     rows: &Sheet,
-    need: &[u64; 800],
     a: usize,
     k: usize,
+    needed: u64,
     windows: &mut [TimeWindow; 800],
     places: &mut [Places; 800],
 ) -> bool
-    requires { Needs rows.now need.now × (k < row_count rows.now) × (is rows.now k 0 23 ≡ true) × (place_of rows.now 2 (num rows.now k 1) ≡ Some a) }
-    ensures { result ≡ (not (joint_working clock (piece_calendars clock (sheet rows.now) (assignment_of rows.now k) (activity_of rows.now a)) (pos (num rows.now k 4))) || ltb (joint_available_ms clock (piece_calendars clock (sheet rows.now) (assignment_of rows.now k) (activity_of rows.now a)) (pos (num rows.now k 4)) (pos (num rows.now k 5))) (num rows.now k 6 + get_or need.now k 0)) }
+    requires { (k < row_count rows.now) × (is rows.now k 0 23 ≡ true) × (place_of rows.now 2 (num rows.now k 1) ≡ Some a) }
+    ensures { result ≡ (not (joint_working clock (piece_calendars clock (sheet rows.now) (assignment_of rows.now k) (activity_of rows.now a)) (pos (num rows.now k 4))) || ltb (joint_available_ms clock (piece_calendars clock (sheet rows.now) (assignment_of rows.now k) (activity_of rows.now a)) (pos (num rows.now k 4)) (pos (num rows.now k 5))) needed) }
 {
     let laid = check6_joint_calendars::lay_calendars(rows, a, k, windows, places);
-    let needed = needed_ms(rows, need, k);
     is_uncovered(laid.as_calendars(), rows.num(k, 4), rows.num(k, 5), needed)
 }
 
-// Whether booking k is on a resource of the sheet, of a resumable activity, and lacks working time.
+// Whether booking k is on a resource of the sheet, of a resumable activity, and lacks working time for its own setup and the rest of its work.
 #[tactic(auto, using(crate::proofs::Resumable::needed_is, owners::proofs::Links::books), unfolding(crate::specs::inner::Lacking::lacks_time))]
 fn lacks_at(
     rows: &Sheet,
@@ -124,35 +118,35 @@ fn lacks_at(
     let Found::At(a) = rows.activity_of(k) else {
         return false;
     };
-    rows.has(a, 7, 1) && lacks_time(rows, need, a, k, windows, places)
+    rows.has(a, 7, 1) && lacks_time(rows, a, k, rows.num(k, 6) + need[k], windows, places)
 }
 
 // Which bookings of resumable activities lack working time. Found once for a sheet, since it is the dearest question of all checks. Its calendars
 // need room that the calls after it do not: apart, they share the stack that the header states. It is filled once, for it takes longer than most questions.
 #[inline(never)]
 #[tactic(auto, using(chains::proofs::PlaceLaws::left_all), unfolding(sheet::specs::Places::of_kind))]
-pub fn lacking_of(rows: &Sheet, need: &[u64; 800]) -> [u8; 800]
+pub fn lacking_of(rows: &Sheet, need: &[u64; 800]) -> [bool; 800]
     requires { Needs rows.now need.now }
     ensures { Lacking rows.now result }
 {
+    // No heap: room for a window, and for a calendar, of each row.
     let mut windows = [window_rows::NO_WINDOW; 800];
     let mut places = [check6_joint_calendars::NO_PLACES; 800];
-    let mut lacking = [0u8; 800];
+    let mut lacking = [false; 800];
     for k in rows.of_kind(Kind::Booking) {
-        lacking[k] = u8::from(lacks_at(rows, need, k, &mut windows, &mut places));
+        lacking[k] = lacks_at(rows, need, k, &mut windows, &mut places);
     }
     lacking
 }
 
 // Booking k, that may pause, of the activity of row a.
-#[tactic(auto, using(crate::proofs::Resumable::lacking_is), unfolding(definition::specs::CheckCalendars::check_resumable))]
-fn check_resumable(rows: &Sheet, lacking: &[u8; 800], a: usize, k: usize, found: &mut Findings)
-    requires { Lacking rows.now lacking.now × (k < row_count rows.now) × (lacks_time rows.now k ≡ uncovered_at rows.now a k) }
+#[tactic(auto, unfolding(definition::specs::CheckCalendars::check_resumable))]
+fn check_resumable(rows: &LackingSheet, a: usize, k: usize, found: &mut Findings)
+    requires { (k < row_count rows.now) × (lacks_time rows.now k ≡ uncovered_at rows.now a k) }
     ensures { so_far found.new ≡ tell (so_far found.old) (check_resumable clock (sheet rows.now) (assignment_of rows.now k) (activity_of rows.now a)) }
 {
-    let lacks = lacking[k] == 1;
     found.report(
-        lacks,
+        rows.lacks_time(k),
         Violation::of(6, ViolationKind::ResourceUnavailable, rows.num(k, 3)),
     );
 }
@@ -161,28 +155,27 @@ fn check_resumable(rows: &Sheet, lacking: &[u8; 800], a: usize, k: usize, found:
 
 // Booking k, if its resource is in the sheet.
 #[tactic(auto, using(crate::proofs::Booking::booking_judged, owners::proofs::Links::books), unfolding(crate::proofs::Booking::judged, crate::specs::inner::Lacking::lacks_time))]
-fn check_booking(rows: &Sheet, lacking: &[u8; 800], k: usize, found: &mut Findings)
-    requires { Lacking rows.now lacking.now × (k < row_count rows.now) × (is rows.now k 0 23 ≡ true) }
+fn check_booking(rows: &LackingSheet, k: usize, found: &mut Findings)
+    requires { (k < row_count rows.now) × (is rows.now k 0 23 ≡ true) }
     ensures { so_far found.new ≡ tell (so_far found.old) (each (check_booking clock (sheet rows.now)) (assignment_at (sheet rows.now) k)) }
 {
     let Found::At(o) = rows.booked_resource(k) else {
         return;
     };
     let Found::At(a) = rows.activity_of(k) else {
-        return check_resource(rows, o, k, found);
+        return check_resource(rows.sheet(), o, k, found);
     };
     if rows.has(a, 7, 1) {
-        return check_resumable(rows, lacking, a, k, found);
+        return check_resumable(rows, a, k, found);
     }
-    check_plain(rows, a, o, k, found);
+    check_plain(rows.sheet(), a, o, k, found);
 }
 
 #[tactic(auto, using(chains::proofs::PlaceLaws::left_all, crate::proofs::Booking::calendars_told), unfolding(sheet::specs::Places::of_kind))]
-pub fn check_calendars(rows: &Sheet, lacking: &[u8; 800], found: &mut Findings)
-    requires { Lacking rows.now lacking.now }
+pub fn check_calendars(rows: &LackingSheet, found: &mut Findings)
     ensures { so_far found.new ≡ tell (so_far found.old) (check_calendars clock (sheet rows.now)) }
 {
     for k in rows.of_kind(Kind::Booking) {
-        check_booking(rows, lacking, k, found);
+        check_booking(rows, k, found);
     }
 }

@@ -3,63 +3,60 @@
 
 ghost use Rattle.std.specs.Prelude.{◌/◌, ◌≡◌, length, None};
 ghost use Rattle.findings.specs.inner.Sink.{sink, emit};
-ghost use Rattle.pieces.specs.inner.Held.{Held};
-ghost use Rattle.derived_times.specs.inner.Needs.{Needs};
 ghost use Rattle.check6_calendars.specs.inner.Lacking.{Lacking};
 ghost use Rattle.definition.specs.CheckSchedule.{findings};
 ghost use Rattle.acceptance.specs.Refusals.{sheet_refusal};
 ghost use Rattle.feasibility.specs.Call.{check_answer, findings_after};
 
+use check6_calendars::LackingSheet;
+use derived_times::TimedSheet;
 use findings::Findings;
 use line_buffer::Handed;
 use model::{Sheet, SheetIndex};
+use pieces::{HeldMarks, MarkedRows};
 use refusals::{Answer, Reason};
 use sheet::Rows;
 
 // The nine checks, into a lent buffer: how many findings there are.
-fn check_all(
-    rows: &Sheet,
-    held: &[u8; 800],
-    need: &[u64; 800],
-    lacking: &[u8; 800],
-    out: &mut [i64],
-) -> usize
-    requires { Held rows.now held.now × Needs rows.now need.now × Lacking rows.now lacking.now }
+fn check_all(rows: &TimedSheet, lacking: &[bool; 800], out: &mut [i64]) -> usize
+    requires { Lacking rows.now lacking.now }
     ensures { sink out.new result ≡ emit (sink out.old 0) (findings rows.now) }
 {
+    let sheet = rows.sheet();
     let mut found = Findings::new(out);
-    check1_assignments::check_assignments(rows, held, need, &mut found);
-    check2_time_only::check_time_only(rows, &mut found);
-    check3_parts::check_parts(rows, &mut found);
-    check4_requirements::check_requirements(rows, held, &mut found);
-    check5_capacity::check_capacity(rows, &mut found);
-    check6_calendars::check_calendars(rows, lacking, &mut found);
-    check7_precedence::check_precedence(rows, &mut found);
-    check8_deadlines::check_deadlines(&rows.by_kind(), &mut found);
-    check9_constraints::check_constraints(&rows.by_kind(), &mut found);
+    check1_assignments::check_assignments(rows, &mut found);
+    check2_time_only::check_time_only(sheet, &mut found);
+    check3_parts::check_parts(sheet, &mut found);
+    check4_requirements::check_requirements(sheet, rows.held(), &mut found);
+    check5_capacity::check_capacity(sheet, &mut found);
+    check6_calendars::check_calendars(&LackingSheet::new(sheet, lacking), &mut found);
+    check7_precedence::check_precedence(sheet, &mut found);
+    check8_deadlines::check_deadlines(&sheet.by_kind(), &mut found);
+    check9_constraints::check_constraints(&sheet.by_kind(), &mut found);
     found.len()
 }
 
 // The findings of an accepted sheet, where the buffer holds them. The checks run once, into a buffer of their own, so that nothing is written before
 // the count is known; findings that it doesn't hold are written by running the checks again.
-fn write_findings(rows: &Sheet, held: &[u8; 800], need: &[u64; 800], out: &mut [i64]) -> Answer
-    requires { Held rows.now held.now × Needs rows.now need.now × (sheet_refusal rows.now ≡ None) }
+fn write_findings(rows: &TimedSheet, out: &mut [i64]) -> Answer
+    requires { sheet_refusal rows.now ≡ None }
     ensures value { result ≡ check_answer rows.now (length out.old / 4) }
     ensures out_after { out.new ≡ findings_after rows.now out.old }
 {
-    let lacking = check6_calendars::lacking_of(rows, need);
+    let lacking = check6_calendars::lacking_of(rows.sheet(), rows.need());
     // No heap: room for 1,024 findings.
     let mut first = [0i64; 4096];
-    let count = check_all(rows, held, need, &lacking, &mut first);
+    let count = check_all(rows, &lacking, &mut first);
     let handed = line_buffer::hand_over(out, 4, count, &first);
     match handed {
         Handed::Over => Ok(count),
         Handed::Full => Err(Reason::Full.at(0)),
-        Handed::Longer => Ok(check_all(rows, held, need, &lacking, out)),
+        Handed::Longer => Ok(check_all(rows, &lacking, out)),
     }
 }
 
 // Refusal 6, then the findings.
+#[tactic(auto, using(model::proofs::Accepting::accepted, acceptance::proofs::Order::by_none))]
 fn check_times(rows: &Sheet, out: &mut [i64]) -> Answer
     ensures value { result ≡ check_answer rows.now (length out.old / 4) }
     ensures out_after { out.new ≡ findings_after rows.now out.old }
@@ -67,9 +64,9 @@ fn check_times(rows: &Sheet, out: &mut [i64]) -> Answer
     let slice = rows.as_slice();
     let owners = rows.owners();
     let held = pieces::held_of(&rows.by_kind(), &owners);
-    let need = derived_times::needs_of(&owners, &held);
+    let need = derived_times::needs_of(&MarkedRows::new(owners, &held));
     derived_times::refused(slice, &need)?;
-    write_findings(rows, &held, &need, out)
+    write_findings(&TimedSheet::new(rows, &held, &need), out)
 }
 
 // Checks a sheet: any rows, any buffer.

@@ -1,9 +1,8 @@
 -- Who is held, as a search over rows. Assumes nothing.
 use Prim.Native.Nat.{ℕ, ◌<◌, ◌≤◌}
 use mathlib.Core.Path.{◌≡◌, refl, sym, ap, ap₂, ◌∙◌}
-use mathlib.Core.Bool.{Bool, beq, true, false, not, ◌&&◌, cond, true≢false, or-false, and-false}
+use mathlib.Core.Bool.{Bool, beq, true, false, not, ◌&&◌, true≢false, or-false, and-false}
 use mathlib.Core.List.{List}
-use native.Mathlib.Omega.{arith}
 use lib.Dec.{eqb}
 use lib.IntN.{ℤ, pos}
 use lib.ListN.{replicate}

@@ -27,7 +27,7 @@ pub trait HeldMarks: Rows {
 // The rows by owner and their owners, with who is held; seen as the rows.
 #[derive(Drop)]
 pub struct MarkedRows<'a> {
-    owners: &'a Owners<'a>,
+    owners: Owners<'a>,
     held: &'a [bool; 800],
 }
 
@@ -37,24 +37,24 @@ impl<'a> Model for MarkedRows<'a> {
 
     ghost Value = { List ℤ };
 
-    ghost view = { λ s. s.owners.now };
+    ghost view = { λ s. s.owners };
 
-    ghost invariant = { λ s. Held s.owners.now s.held.now };
+    ghost invariant = { λ s. Held s.owners s.held.now };
 }
 
 impl<'a> MarkedRows<'a> {
-    pub fn new(owners: &'a Owners<'a>, held: &'a [bool; 800]) -> MarkedRows<'a>
-        requires { Held owners.now held.now }
-        ensures { result ≡ owners.now }
+    pub fn new(owners: Owners<'a>, held: &'a [bool; 800]) -> MarkedRows<'a>
+        requires { Held owners held.now }
+        ensures { result ≡ owners.entry }
     {
         MarkedRows { owners, held }
     }
 
     // The rows without the marks.
-    pub fn owners(&self) -> &'a Owners<'a>
+    pub fn owners(&self) -> &Owners<'a>
         ensures { result.now ≡ self.now }
     {
-        self.owners
+        &self.owners
     }
 }
 

@@ -5,12 +5,12 @@
 ghost use Rattle.std.specs.Prelude.{◌≡◌, ◌<◌};
 ghost use Rattle.rows.specs.Cells.{row_count};
 ghost use Rattle.sheet.specs.inner.Accepted.{Accepted};
-ghost use Rattle.pieces.specs.inner.Held.{Held};
 
 use derived_times::Bookings;
 use model::{Sheet, SheetIndex};
 use overlap::Overlap;
-use owners::{LinkIndex, Owners};
+use owners::LinkIndex;
+use pieces::MarkedRows;
 use refusals::Verdict;
 use resource_timing::{ActivityDuration, Derived, Piece, ResourceTiming, Timed};
 use rounding::TooLarge;
@@ -53,7 +53,7 @@ fn numbers_of(k: usize, d: Derived) -> [i64; 4] {
 
 // The derived duration of row k, where it is a booking of a known activity.
 #[tactic(auto, using(owners::proofs::Links::books))]
-fn derived_at(rows: &Owners, bookings: &Bookings<'_>, k: usize) -> Option<Derived>
+fn derived_at(rows: &MarkedRows, bookings: &Bookings<'_>, k: usize) -> Option<Derived>
     requires { Accepted rows.now × (bookings.now.rows.now ≡ rows.now) × (k < row_count rows.now) }
 {
     if !rows.is_of_kind(k, Kind::Booking) {
@@ -66,10 +66,10 @@ fn derived_at(rows: &Owners, bookings: &Bookings<'_>, k: usize) -> Option<Derive
 }
 
 // Whether the bookings of known activities have these numbers, in the order of their rows.
-fn derived_are(rows: &Owners, held: &[u8; 800], expected: &[i64]) -> bool
-    requires { Accepted rows.now × Held rows.now held.now }
+fn derived_are(rows: &MarkedRows, expected: &[i64]) -> bool
+    requires { Accepted rows.now }
 {
-    let bookings = Bookings::new(rows, held);
+    let bookings = Bookings::new(rows);
     let mut rest = expected;
     for k in 0..rows.row_count() {
         if let Some(d) = derived_at(rows, &bookings, k) {
@@ -90,6 +90,7 @@ fn is_verdict(v: Verdict, number: u64, place: u64) -> bool {
 }
 
 // A line `DNUMBER,PLACE`: whether the derived times of the rows, and refusal 6, come out so.
+#[tactic(auto, using(model::proofs::Accepting::accepted))]
 fn sheet_case(rows: &[i64], expected: &[i64], number: u64, place: u64) -> bool {
     let mut index = SheetIndex::new();
     let Ok(()) = validation::index(rows, &mut index) else {
@@ -98,9 +99,9 @@ fn sheet_case(rows: &[i64], expected: &[i64], number: u64, place: u64) -> bool {
     let sheet = Sheet::new(rows, &index);
     let owners = sheet.owners();
     let held = pieces::held_of(&sheet.by_kind(), &owners);
-    let need = derived_times::needs_of(&owners, &held);
-    is_verdict(derived_times::refused(rows, &need), number, place)
-        && derived_are(&owners, &held, expected)
+    let marked = MarkedRows::new(owners, &held);
+    let need = derived_times::needs_of(&marked);
+    is_verdict(derived_times::refused(rows, &need), number, place) && derived_are(&marked, expected)
 }
 
 // ---- a process at a product of speeds, a share of a fixed time

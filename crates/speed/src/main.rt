@@ -7,12 +7,12 @@
 // before, every time; part 100 does only that, and its time is to be taken off.
 #![tactic(auto)]
 
-ghost use Rattle.pieces.specs.inner.Held.{Held};
-ghost use Rattle.derived_times.specs.inner.Needs.{Needs};
-
 use calendar::{Calendars, Places, TimeWindow, WindowKind, WorkEnd};
+use check6_calendars::LackingSheet;
+use derived_times::TimedSheet;
 use findings::Findings;
 use model::{Sheet, SheetIndex};
+use pieces::{HeldMarks, MarkedRows};
 use refusals::Verdict;
 use sheet::Rows;
 use std::io;
@@ -62,22 +62,21 @@ impl From<u64> for Part {
 }
 
 // Check 6 with what it asks for: which bookings lack working time.
-fn check_calendars(rows: &Sheet, need: &[u64; 800], found: &mut Findings)
-    requires { Needs rows.now need.now }
-{
-    let lacking = check6_calendars::lacking_of(rows, need);
-    check6_calendars::check_calendars(rows, &lacking, found);
+fn check_calendars(rows: &TimedSheet, found: &mut Findings) {
+    let lacking = check6_calendars::lacking_of(rows.sheet(), rows.need());
+    check6_calendars::check_calendars(&LackingSheet::new(rows.sheet(), &lacking), found);
 }
 
 fn one_if_fine(v: Verdict) -> usize {
     usize::from(v.is_ok())
 }
 
+#[tactic(auto, using(model::proofs::Accepting::accepted))]
 fn derive_times(rows: &Sheet) -> usize {
     let slice = rows.as_slice();
     let owners = rows.owners();
     let held = pieces::held_of(&rows.by_kind(), &owners);
-    let need = derived_times::needs_of(&owners, &held);
+    let need = derived_times::needs_of(&MarkedRows::new(owners, &held));
     one_if_fine(derived_times::refused(slice, &need))
 }
 
@@ -121,21 +120,22 @@ fn end_work() -> usize {
 }
 
 // What a part gives; the findings of a check go to a buffer that holds 1,024 of them.
-fn once(rows: &Sheet, held: &[u8; 800], need: &[u64; 800], part: Part, out: &mut [i64]) -> usize
-    requires { Held rows.now held.now × Needs rows.now need.now }
-{
+fn once(rows: &TimedSheet, part: Part, out: &mut [i64]) -> usize {
+    let sheet = rows.sheet();
     let mut found = Findings::new(out);
     match part {
-        Part::Assignments => check1_assignments::check_assignments(rows, held, need, &mut found),
-        Part::TimeOnly => check2_time_only::check_time_only(rows, &mut found),
-        Part::Parts => check3_parts::check_parts(rows, &mut found),
-        Part::Requirements => check4_requirements::check_requirements(rows, held, &mut found),
-        Part::Capacity => check5_capacity::check_capacity(rows, &mut found),
-        Part::Calendars => check_calendars(rows, need, &mut found),
-        Part::Precedence => check7_precedence::check_precedence(rows, &mut found),
-        Part::Deadlines => check8_deadlines::check_deadlines(&rows.by_kind(), &mut found),
-        Part::Constraints => check9_constraints::check_constraints(&rows.by_kind(), &mut found),
-        Part::DerivedTimes => return derive_times(rows),
+        Part::Assignments => check1_assignments::check_assignments(rows, &mut found),
+        Part::TimeOnly => check2_time_only::check_time_only(sheet, &mut found),
+        Part::Parts => check3_parts::check_parts(sheet, &mut found),
+        Part::Requirements => {
+            check4_requirements::check_requirements(sheet, rows.held(), &mut found)
+        }
+        Part::Capacity => check5_capacity::check_capacity(sheet, &mut found),
+        Part::Calendars => check_calendars(rows, &mut found),
+        Part::Precedence => check7_precedence::check_precedence(sheet, &mut found),
+        Part::Deadlines => check8_deadlines::check_deadlines(&sheet.by_kind(), &mut found),
+        Part::Constraints => check9_constraints::check_constraints(&sheet.by_kind(), &mut found),
+        Part::DerivedTimes => return derive_times(sheet),
         Part::Validation => return one_if_fine(validation::validate(rows.as_slice())),
         Part::WorkEnd => return end_work(),
         Part::Nothing => {}
@@ -144,18 +144,20 @@ fn once(rows: &Sheet, held: &[u8; 800], need: &[u64; 800], part: Part, out: &mut
 }
 
 // So many times, 0 where a refusal refuses the sheet.
+#[tactic(auto, using(model::proofs::Accepting::accepted))]
 fn timed(rows: &Sheet, part: Part, count: u64) -> usize {
     let slice = rows.as_slice();
     let owners = rows.owners();
     let held = pieces::held_of(&rows.by_kind(), &owners);
-    let need = derived_times::needs_of(&owners, &held);
+    let need = derived_times::needs_of(&MarkedRows::new(owners, &held));
     let Ok(()) = derived_times::refused(slice, &need) else {
         return 0;
     };
+    let sheet = TimedSheet::new(rows, &held, &need);
     let mut out = [0i64; 4096];
     let mut n = 0;
     for _ in 0..count {
-        n = once(rows, &held, &need, part, &mut out);
+        n = once(&sheet, part, &mut out);
     }
     n
 }

@@ -13,4 +13,4 @@ loop-k-preserved c =
     let e = c.in-Some.ensures.steps in
     let h = c.loop-k.invariant.0 in
     let m = rw e at c.loop-k.invariant.1 in
-    (left_next _ _ e h, lacking_next _ _ (left_first _ _ e h) (left_below _ _ e h) c.requires.short c.from.ensures c.lacks_at.ensures m)
+    (left_next _ _ e h, lacking_next _ _ (left_first _ _ e h) (left_below _ _ e h) c.requires.short c.lacks_at.ensures m)

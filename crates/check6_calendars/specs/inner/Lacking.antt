@@ -1,15 +1,16 @@
 -- Which bookings of resumable activities lack working time, by row. Assumes nothing.
-use Rattle.std.specs.Prelude.{ℕ, ◌<◌, ◌≤◌, ◌≡◌, Bool, false, not, cond, ◌&&◌, ◌||◌, List, ltb, ℤ, pos, get_or}
+use Rattle.std.specs.Prelude.{ℕ, Bool, false, not, ◌&&◌, ◌||◌, List, ltb, ℤ, pos}
 use Rattle.loops.specs.Lists.{option}
 use Rattle.calendar.specs.Clock.{clock}
 use Rattle.calendar.specs.Calendar.{joint_working}
 use Rattle.calendar.specs.Amount.{joint_available_ms}
-use Rattle.rows.specs.Cells.{row_count, num, is}
+use Rattle.rows.specs.Cells.{num, is}
 use Rattle.sheet.specs.Places.{activity_place, resource_place}
 use Rattle.model.specs.Sheet.{sheet}
 use Rattle.model.specs.Activity.{needed_ms}
 use Rattle.model.specs.inner.Records.{activity_of, assignment_of}
 use Rattle.definition.specs.Pieces.{runs_on}
+use Rattle.pieces.specs.inner.Marks.{Marks}
 use Rattle.definition.specs.CheckCalendars.{piece_calendars}
 
 -- booking k, of the activity of row a, starts outside the joint working time of its piece, or has too little of it: the test of `check_resumable`
@@ -26,8 +27,6 @@ lacks_time rows k =
     && option (resource_place rows (num rows k 3)) false λ o.
     option (activity_place rows (num rows k 1)) false λ a. is rows a 7 1 && uncovered_at rows a k
 
--- 1 at each row of which that is so, 0 at the others and past the last row
-pub record Lacking (rows : List ℤ) (t : List ℕ) : Type 0 where
-  pub short : row_count rows ≤ 800
-  pub at : (k : ℕ) → k < row_count rows → get_or t k 0 ≡ cond (lacks_time rows k) 1 0
-  pub past : (k : ℕ) → row_count rows ≤ k → get_or t k 0 ≡ 0
+-- marks, true at each row of which that is so, false at the others and past the last row
+abbrev pub Lacking : List ℤ → List Bool → Type 0
+Lacking rows t = Marks rows (lacks_time rows) t

@@ -6,7 +6,6 @@ use Rattle.refusals.specs.Refusals.{verdict_of}
 use Rattle.refusals.specs.declared.Refusal.{Refusal}
 use Rattle.sheet.specs.Refusals.{refusal_of}
 use Rattle.model.specs.inner.Indexed.{Indexed}
-use Rattle.model.proofs.Accepting.{accepted}
 use Rattle.owners.specs.declared.sheet_index.SheetIndex.{SheetIndex}
 use Rattle.validation.specs.inner.Answer.{Indexing}
 use Rattle.validation.proofs.Order.{tables_of}
@@ -22,15 +21,3 @@ module _ {rows : List ℤ} {before after : SheetIndex} {v : Result Unit Refusal}
 
 pub new-sheet-requires : goal.new-sheet-requires
 new-sheet-requires c = indexed c.index.ensures c.in-Ok.is
-
-pub held_of-held-requires : goal.held_of-held-requires
-held_of-held-requires c =
-    (rw (c.by_kind.ensures.rows, c.new-sheet.ensures) (accepted _ (fine c.index.ensures c.in-Ok.is)), c.owners-owners.ensures.rows ∙ sym c.by_kind.ensures.rows)
-
-pub needs_of-need-requires : goal.needs_of-need-requires
-needs_of-need-requires c =
-    (rw (c.owners-owners.ensures.rows, c.new-sheet.ensures) (accepted _ (fine c.index.ensures c.in-Ok.is)), rw (c.owners-owners.ensures.rows, ← c.by_kind.ensures.rows) c.held_of-held.ensures)
-
-pub derived_are-requires : goal.derived_are-requires
-derived_are-requires c =
-    (rw (c.owners-owners.ensures.rows, c.new-sheet.ensures) (accepted _ (fine c.index.ensures c.in-Ok.is)), rw (c.owners-owners.ensures.rows, ← c.by_kind.ensures.rows) c.held_of-held.ensures)

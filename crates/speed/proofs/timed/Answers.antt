@@ -1,22 +1,13 @@
 -- `speed::timed` runs a check only of a sheet that no refusal refuses. Assumes nothing.
-use mathlib.Core.Path.{◌≡◌, sym, ◌∙◌}
+use mathlib.Core.Path.{◌≡◌}
 use Rattle.refusals.specs.Refusals.{verdict_of}
-use Rattle.model.proofs.Accepting.{accepted}
 use Rattle.derived_times.specs.Times.{time_refusal}
-use Rattle.derived_times.specs.inner.Needs.{Times}
 use Rattle.acceptance.proofs.Order.{needed_of}
 use borrow.Author.Rules.{rules}
 use Rattle.speed.proofs.timed.Goals as goal
 
-pub held_of-held-requires : goal.held_of-held-requires
-held_of-held-requires c = (rw c.by_kind.ensures.rows (accepted _ c.as_slice-slice.ensures.known.0), c.owners-owners.ensures.rows ∙ sym c.by_kind.ensures.rows)
-
-pub needs_of-need-requires : goal.needs_of-need-requires
-needs_of-need-requires c =
-    (rw c.owners-owners.ensures.rows (accepted _ c.as_slice-slice.ensures.known.0), rw (c.owners-owners.ensures.rows, ← c.by_kind.ensures.rows) c.held_of-held.ensures)
-
-pub once-n-requires : goal.once-n-requires
-once-n-requires c =
+pub new-sheet-requires : goal.new-sheet-requires
+new-sheet-requires c =
     let v : verdict_of c.refused.result ≡ time_refusal c.args.rows.now = rw (← c.as_slice-slice.ensures.rows) c.refused.ensures in
-    let t : Times c.args.rows.now c.needs_of-need.result = rw (← c.owners-owners.ensures.rows) c.needs_of-need.ensures in
-    (rw (← c.by_kind.ensures.rows) c.held_of-held.ensures, needed_of _ c.needs_of-need.result t v (search rules))
+    let t = rw (c.new.ensures, c.owners-owners.ensures.rows) at c.needs_of-need.ensures in
+    (rw c.by_kind.ensures.rows at c.held_of-held.ensures, needed_of _ c.needs_of-need.result t v (search rules))
