@@ -1,5 +1,6 @@
 -- The table of kinds and columns. Assumes nothing.
-use Rattle.std.proofs.Common.{◌≡◌, ℕ, zero, suc, ◌-◌, ◌≤◌, true, List, [], ◌∷◌, length, get_or, refl, arith}
+use Rattle.std.proofs.Common.{◌≡◌, ℕ, zero, suc, ◌-◌, ◌<◌, ◌≤◌, true, List, [], ◌∷◌, ◌++◌, length, get_or, refl, sym, ◌∙◌, arith}
+use native.Mathlib.Decide.{dec_lt}
 use borrow.Author.Tests.{leb-true}
 use lib.Dec.{leb}
 use lib.ListN.{get_or-eq_default}
@@ -31,3 +32,18 @@ unfolding width
 class_wide kind zero h = absurd (omega arith)
 class_wide kind (suc c) h =
     let w : length (get_or columns kind []) ≤ c = omega (arith, width_most kind) in get_or-eq_default (get_or columns kind []) Blank w
+
+-- a blank column behind the others changes none
+pub closed : (l : List Class) (i : ℕ) → get_or (l ++ Blank ∷ []) i Blank ≡ get_or l i Blank
+closed [] zero = refl
+closed [] (suc i) = refl
+closed (x ∷ l) zero = refl
+closed (x ∷ l) (suc i) = closed l i
+
+-- all columns from the end on are the same
+pub clamped : (l : List Class) (i m : ℕ) → m ≤ i → (m < i → length l ≤ m) → get_or l m Blank ≡ get_or l i Blank
+clamped l i m a b = go (dec_lt m i)
+  where
+    go : Dec (m < i) → get_or l m Blank ≡ get_or l i Blank
+    go (yes h) = let s = b h in get_or-eq_default l Blank s ∙ sym (get_or-eq_default l Blank (omega arith))
+    go (no h) = let e : m ≡ i = omega arith in rw e

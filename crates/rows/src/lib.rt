@@ -2,17 +2,18 @@
 // validation of rows and the text reader read.
 #![tactic(auto)]
 
-ghost use Rattle.std.specs.Prelude.{◌≡◌, suc, ◌<◌, [], eqb, get_or, Some, None, MatchResult};
+ghost use Rattle.std.specs.Prelude.{◌≡◌, suc, ◌<◌, [], ◌∷◌, ◌++◌, eqb, get_or, Some, None, MatchResult};
 ghost use Rattle.loops.specs.Numbers.{to_nat};
 ghost use Rattle.rows.specs.Kinds.{kind_of, kind_number};
+ghost use Rattle.rows.specs.declared.Class.{Class};
 ghost use Rattle.rows.specs.Table.{columns, class_of, width};
 ghost use Rattle.rows.specs.Ranges.{range, is_none, in_class};
 ghost use Rattle.rows.specs.Cells.{row_count, cell, num, is};
 
 use Class::{
-    ActivityId, ConstraintPlace, Count, Duration, Flag, Id, Instant, Number, OptionalDuration,
-    OptionalInstant, OptionalNumber, RequirementPlace, ResourceId, ShareBits, SignedTime,
-    SpeedBits, TaskId,
+    ActivityId, Blank, ConstraintPlace, Count, Duration, Flag, Id, Instant, Number,
+    OptionalDuration, OptionalInstant, OptionalNumber, RequirementPlace, ResourceId, ShareBits,
+    SignedTime, SpeedBits, TaskId,
 };
 
 // ---- kinds
@@ -126,10 +127,10 @@ pub enum Class {
     ConstraintPlace,
 }
 
-// The columns of each kind, from column 1 on. Kind 0 is none.
+// The columns of each kind, from column 1 on, and a blank one, which stands for all behind them. Kind 0 is none.
 static CLASSES: [&[Class]; 25] = [
-    &[],
-    &[Id, OptionalInstant, OptionalInstant],
+    &[Blank],
+    &[Id, OptionalInstant, OptionalInstant, Blank],
     &[
         Id,
         TaskId,
@@ -139,27 +140,28 @@ static CLASSES: [&[Class]; 25] = [
         Duration,
         Flag,
         OptionalInstant,
+        Blank,
     ],
-    &[ActivityId, ShareBits, SignedTime],
-    &[ActivityId, Number, Duration, Duration],
-    &[ActivityId, Id, Number, Count],
-    &[ActivityId, RequirementPlace, Id],
-    &[ActivityId, RequirementPlace, Id],
-    &[ActivityId, Id],
-    &[ActivityId, Id, SpeedBits],
-    &[ActivityId, Id, Duration, Duration, Duration],
-    &[Id, Id, Number],
-    &[ResourceId, Id],
-    &[ResourceId, Id],
-    &[ResourceId, Id, Duration],
-    &[ResourceId, Flag, Instant, Instant],
-    &[ActivityId, Flag, Instant, Instant],
-    &[Id, Id, SignedTime],
-    &[Id, Number],
-    &[Id, Instant, Instant],
-    &[Id],
-    &[],
-    &[ConstraintPlace, Id],
+    &[ActivityId, ShareBits, SignedTime, Blank],
+    &[ActivityId, Number, Duration, Duration, Blank],
+    &[ActivityId, Id, Number, Count, Blank],
+    &[ActivityId, RequirementPlace, Id, Blank],
+    &[ActivityId, RequirementPlace, Id, Blank],
+    &[ActivityId, Id, Blank],
+    &[ActivityId, Id, SpeedBits, Blank],
+    &[ActivityId, Id, Duration, Duration, Duration, Blank],
+    &[Id, Id, Number, Blank],
+    &[ResourceId, Id, Blank],
+    &[ResourceId, Id, Blank],
+    &[ResourceId, Id, Duration, Blank],
+    &[ResourceId, Flag, Instant, Instant, Blank],
+    &[ActivityId, Flag, Instant, Instant, Blank],
+    &[Id, Id, SignedTime, Blank],
+    &[Id, Number, Blank],
+    &[Id, Instant, Instant, Blank],
+    &[Id, Blank],
+    &[Blank],
+    &[ConstraintPlace, Id, Blank],
     &[
         Id,
         Id,
@@ -169,31 +171,32 @@ static CLASSES: [&[Class]; 25] = [
         Duration,
         OptionalNumber,
         OptionalDuration,
+        Blank,
     ],
-    &[Id, Id, Instant, Instant],
+    &[Id, Id, Instant, Instant, Blank],
 ];
 
-// The columns of a kind, from column 1 on.
+// The columns of a kind, from column 1 on, and a blank one.
 fn columns_of(kind: u64) -> &'static [Class]
-    ensures { result.now ≡ get_or columns kind [] }
+    ensures { result.now ≡ get_or columns kind [] ++ Class.Blank ∷ [] }
 {
     if kind < 25 {
         CLASSES[kind as usize]
     } else {
-        &[]
+        &[Blank]
     }
 }
 
-// The class of column c in a row of a kind.
-#[tactic(auto, using(crate::proofs::Tables::class_later))]
+// The class of column c in a row of a kind. Each column past the last is read as the blank one: a test of where the columns end goes the other way from row to
+// row, a sixteenth of the validation of a week.
 pub fn class_of(kind: u64, c: usize) -> Class
     ensures { result ≡ class_of kind c }
 {
     if c == 0 {
         return Class::RowKind;
     }
-    let column = columns_of(kind).get(c - 1);
-    column.copied().unwrap_or(Class::Blank)
+    let columns = columns_of(kind);
+    columns[(c - 1).min(columns.len() - 1)]
 }
 
 // Whether a row of a kind has n numbers, the kind's own among them.
@@ -201,7 +204,7 @@ pub fn class_of(kind: u64, c: usize) -> Class
 pub fn has_width(kind: u64, n: usize) -> bool
     ensures { result ≡ eqb n (suc (width kind)) }
 {
-    n == columns_of(kind).len() + 1
+    n == columns_of(kind).len()
 }
 
 // Whether a number stands for none.
