@@ -1,2 +1,3 @@
 pub mod PlaceLaws
+pub mod TableWalk
 pub mod WalkLaws

@@ -5,6 +5,9 @@ ghost use Rattle.std.specs.Prelude.{◌≡◌, ◌≤◌};
 ghost use Rattle.std.specs.Iterator.{YieldsFirst, item_count};
 ghost use Rattle.chains.specs.Places.{places};
 
+mod chain_table;
+
+pub use chain_table::ChainTable;
 use std::marker::Model;
 
 // The places below an end that pass a test, each of which leads to the next.

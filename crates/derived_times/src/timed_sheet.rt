@@ -9,10 +9,11 @@ ghost use Rattle.definition.specs.Pieces.{runs_on};
 ghost use Rattle.pieces.specs.inner.Held.{Held};
 ghost use Rattle.derived_times.specs.inner.Needs.{Needs};
 
+use chains::ChainTable;
 use model::Sheet;
 use owners::{LinkIndex, OwnerIndex};
 use pieces::HeldMarks;
-use sheet::{KindIndex, Rows};
+use sheet::{KindIndex, KindTable, Rows};
 use std::marker::Model;
 
 // A sheet that refusals 1 to 6 let pass, with who is held and what each booking needs; seen as the rows.
@@ -84,7 +85,7 @@ impl<'a> Rows for TimedSheet<'a> {
 }
 
 impl<'a> KindIndex for TimedSheet<'a> {
-    fn kinds(&self) -> &[u16; 3680] {
+    fn kinds(&self) -> &KindTable {
         self.sheet.kinds()
     }
 }
@@ -96,7 +97,7 @@ impl<'a> LinkIndex for TimedSheet<'a> {
 }
 
 impl<'a> OwnerIndex for TimedSheet<'a> {
-    fn owned(&self) -> &[u16; 8810] {
+    fn owned(&self) -> &ChainTable<8810> {
         self.sheet.owned()
     }
 }

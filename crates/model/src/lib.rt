@@ -5,9 +5,10 @@ ghost use Rattle.std.specs.Prelude.{None, ◌≡◌};
 ghost use Rattle.sheet.specs.Refusals.{refusal_of};
 ghost use Rattle.model.specs.inner.Indexed.{Indexed};
 
+use chains::ChainTable;
 pub use owners::SheetIndex;
 use owners::{ByOwner, LinkIndex, OwnerIndex, Owners};
-use sheet::{ByKind, KindIndex, Rows};
+use sheet::{ByKind, KindIndex, KindTable, Rows};
 use std::marker::Model;
 
 // A sheet that refusals 1 to 5 let pass, with the tables that index its rows; seen as the rows. There is no heap: the tables are arrays of 16-bit places for
@@ -77,7 +78,7 @@ impl<'a> Rows for Sheet<'a> {
 }
 
 impl<'a> KindIndex for Sheet<'a> {
-    fn kinds(&self) -> &[u16; 3680] {
+    fn kinds(&self) -> &KindTable {
         self.index.kinds()
     }
 }
@@ -89,7 +90,7 @@ impl<'a> LinkIndex for Sheet<'a> {
 }
 
 impl<'a> OwnerIndex for Sheet<'a> {
-    fn owned(&self) -> &[u16; 8810] {
+    fn owned(&self) -> &ChainTable<8810> {
         self.index.owned()
     }
 }

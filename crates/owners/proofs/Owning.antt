@@ -1,21 +1,20 @@
--- Laws of the chains by owner and kind: two kinds may share a chain, and the reader passes over the rows of the other kind. Assumes nothing.
+-- Laws of the chains by owner and kind: two kinds may share a chain, and a search passes over the rows of the other kind. Assumes nothing.
 use Prim.Native.Nat.{ℕ, suc, ◌+◌, ◌-◌, ◌*◌, ◌%◌, ◌<◌, ◌≤◌}
 use mathlib.Core.Path.{◌≡◌, refl, sym, ap, ◌∙◌}
 use mathlib.Core.Bool.{Bool, true, false, true≢false}
 use mathlib.Core.List.{List}
 use native.Mathlib.Omega.{arith}
-use native.Mathlib.Decide.{dec_lt}
 use lib.Dec.{eqb}
 use lib.IntN.{ℤ}
-use lib.ListN.{get_or, set, replicate}
+use lib.ListN.{get_or, set}
 use borrow.Author.Tests.{eqb-true, eq-eqb}
-use mir.Syntax.{w64}
-use mir.Val.{Fits}
 use Rattle.loops.specs.inner.Chain.{same, First, Links, Stands, Blind}
 use Rattle.loops.proofs.BoolLaws.{and_left, and_right}
-use Rattle.loops.proofs.ChainLaws.{links_start, links_again, links_next, fits}
+use Rattle.loops.proofs.ChainLaws.{links_again, links_next}
 use Rattle.loops.proofs.TableLaws.{seeking_from}
 use Rattle.loops.proofs.Walks.{stands}
+use Rattle.chains.specs.inner.Along.{Along, Rising, Means, Sought}
+use Rattle.chains.proofs.TableWalk.{links_along, links_rising, sought_all}
 use Rattle.rows.specs.Cells.{row_count, num, is}
 use Rattle.sheet.proofs.Lookups.{is_num}
 use Rattle.owners.specs.inner.Owners.{own_place, owned_by, owned_key, Owned}
@@ -23,11 +22,7 @@ use Rattle.owners.proofs.Tables.{owned_below}
 
 -- ---- the fill
 
--- the table that was cleared
 module _ (rows : List ℤ) {n : ℕ} (e : n ≡ row_count rows) (u : row_count rows ≤ 800) where
-  pub owned_start : {t : List ℕ} (N : ℕ) → N ≡ 8810 → t ≡ replicate N n → Links (owned_key rows) 8010 n n t
-  owned_start N a q = rw (q, a) (links_start (owned_key rows) 8010 n (omega arith) (omega arith))
-
   -- row i - 1 before the other rows of its key
   pub owned_again : {i k : ℕ} {t t' : List ℕ} → 0 < i → i ≤ n → k ≡ owned_key rows (i - 1) → Links (owned_key rows) 8010 i n t
       → t' ≡ set (set t (i - 1) (get_or t (800 + k) 0)) (800 + k) (i - 1) → Links (owned_key rows) 8010 (i - 1) n t'
@@ -54,7 +49,7 @@ module _ (rows : List ℤ) (o x : ℕ) where
       go k e true q = absurd (true≢false (sym (owned_keyed k q) ∙ e))
       go k e false q = q
 
-  -- a row that has the key and the kind is one of the owner's
+  -- a row that has the key is one of the owner's where it is of the kind
   keyed_owned : (k : ℕ) → same (owned_key rows) key k ≡ true → is rows k 0 x ≡ true → owned_by rows o x k ≡ true
   unfolding owned_by same owned_key
   keyed_owned k e f =
@@ -63,85 +58,41 @@ module _ (rows : List ℤ) (o x : ℕ) where
       let m : num rows k 0 % 10 ≡ x % 10 = ap (λ y. y % 10) a in
       rw (f, eq-eqb (own_place rows k) o (omega arith))
 
-  unowned_kind : (k : ℕ) → is rows k 0 x ≡ false → owned_by rows o x k ≡ false
+  pub keyed_kind : (k : ℕ) → same (owned_key rows) key k ≡ true → is rows k 0 x ≡ owned_by rows o x k
   unfolding owned_by
-  unowned_kind k f = rw f
-
-  -- what the loop that passes over the other kind knows: from j to i there is none
-  pub record Skipping (j i : ℕ) : Type 0 where
-    pub at : Stands (same (owned_key rows) key) (row_count rows) i
-    pub low : j ≤ i
-    pub none : (k : ℕ) → j ≤ k → k < i → owned_by rows o x k ≡ false
-
-  pub skip_start : (j : ℕ) → Stands (same (owned_key rows) key) (row_count rows) j → Skipping j j
-  skip_start j s = record { at = s; low = omega arith; none = λ k a b. absurd (omega arith) }
-
-  pub skip_hit : (j i N : ℕ) {r : Bool} → Skipping j i → i < N → N ≡ row_count rows → r ≡ is rows i 0 x → r ≡ true → First (owned_by rows o x) j (row_count rows) i
-  skip_hit j i N h l z e f = record {
-    low = h.low;
-    high = h.at.high;
-    none = h.none;
-    here = λ m. keyed_owned i (h.at.here m) (sym e ∙ f);
-  }
-
-  passed : (j i s : ℕ) → Skipping j i → First (same (owned_key rows) key) (suc i) (row_count rows) s → is rows i 0 x ≡ false → Skipping j s
-  passed j i s h f e = record {
-    at = record { high = f.high; here = f.here };
-    low = omega (arith, h.low, f.low);
-    none = λ k a b. go k a b (dec_lt k i) (dec_lt i k);
-  }
+  keyed_kind k e = go (is rows k 0 x) refl
     where
-      go : (k : ℕ) → j ≤ k → k < s → Dec (k < i) → Dec (i < k) → owned_by rows o x k ≡ false
-      go k a b (yes l) d = h.none k a l
-      go k a b (no l) (yes m) = owned_blind.still k (f.none k m b)
-      go k a b (no l) (no m) = let w : k ≡ i = omega arith in rw w (unowned_kind i e)
+      go : (b : Bool) → is rows k 0 x ≡ b → b ≡ owned_by rows o x k
+      go true f = sym (keyed_owned k e f)
+      go false f = rw f
 
-  -- the next place of the chain, as it is read
-  module _ {t : List ℕ} {j i n : ℕ} (w : Owned rows t) (h : Skipping j i) (l : i < n) (e : n ≡ row_count rows) where
-    after : First (same (owned_key rows) key) (suc i) (row_count rows) (get_or t i 0)
-    after = links_next _ _ _ _ _ _ w.links (h.at.here (omega arith)) (omega arith)
+  module _ (t : List ℕ) (h : Owned rows t) where
+    pub owned_rising : (n : ℕ) → n ≤ row_count rows → Rising n t
+    owned_rising n l = links_rising h.links n l
 
-    pub skip_fits : Fits w64 (get_or t i 0)
-    skip_fits = fits _ _ _ _ after w.short
+    pub owned_sought : {may : ℕ → Bool → Type 0} {j n r : ℕ} → ((i : ℕ) (b : Bool) → may i b → b ≡ is rows i 0 x) → n ≡ row_count rows → Stands (same (owned_key rows) key) (row_count rows) j
+        → ((p q : ℕ → Bool) (N : ℕ) → Along p N t → Stands p N j → n ≤ N → Blind p q → Means p q may → Sought q j n N r) → First (owned_by rows o x) j (row_count rows) r
+    owned_sought m e s f =
+        sought_all e (f _ _ _ (links_along h.links key) s (omega arith) owned_blind (record { says = λ i b z w. m i b w ∙ keyed_kind i z }))
 
-    pub skip_less : n - get_or t i 0 < n - i
-    skip_less = omega (arith, after.low)
+    -- the first row of the chain, and the first of the kind
+    module _ (l : o ≤ row_count rows) {j : ℕ} (e : j ≡ get_or t (800 + key) 0) where
+      head : First (same (owned_key rows) key) 0 (row_count rows) j
+      head = rw e (h.links.head key (omega (arith, h.short)))
 
-    pub skip_next : {r : Bool} → r ≡ is rows i 0 x → r ≡ false → Skipping j (get_or t i 0)
-    skip_next f q = passed j i (get_or t i 0) h after (sym f ∙ q)
+      pub head_stands : Stands (same (owned_key rows) key) (row_count rows) j
+      head_stands = stands _ _ _ head
 
-  pub skip_end : (j i N : ℕ) → Skipping j i → N ≤ i → N ≡ row_count rows → First (owned_by rows o x) j (row_count rows) i
-  skip_end j i N h l z = record {
-    low = h.low;
-    high = h.at.high;
-    none = h.none;
-    here = λ m. absurd (omega arith);
-  }
+      pub head_join : {r : ℕ} → First (owned_by rows o x) j (row_count rows) r → First (owned_by rows o x) 0 (row_count rows) r
+      head_join f = seeking_from _ _ _ _ _ _ owned_blind head f
 
-  -- the first row of the chain, and the first of the kind
-  module _ {t : List ℕ} (h : Owned rows t) (l : o ≤ row_count rows) where
-    head : First (same (owned_key rows) key) 0 (row_count rows) (get_or t (800 + key) 0)
-    head = h.links.head key (omega (arith, h.short))
+    -- the next row of the chain, and the next of the kind
+    module _ {i j : ℕ} (s : Stands (owned_by rows o x) (row_count rows) i) (l : i < row_count rows) (e : j ≡ get_or t i 0) where
+      next : First (same (owned_key rows) key) (suc i) (row_count rows) j
+      next = rw e (links_next _ _ _ _ _ _ h.links (owned_keyed i (s.here l)) l)
 
-    pub head_fits : Fits w64 (get_or t (800 + key) 0)
-    head_fits = fits _ _ _ _ head h.short
+      pub next_stands : Stands (same (owned_key rows) key) (row_count rows) j
+      next_stands = stands _ _ _ next
 
-    pub head_stands : Stands (same (owned_key rows) key) (row_count rows) (get_or t (800 + key) 0)
-    head_stands = stands _ _ _ head
-
-    pub head_join : {r : ℕ} → First (owned_by rows o x) (get_or t (800 + key) 0) (row_count rows) r → First (owned_by rows o x) 0 (row_count rows) r
-    head_join f = seeking_from _ _ _ _ _ _ owned_blind head f
-
-  -- the next row of the chain, and the next of the kind
-  module _ {t : List ℕ} {i : ℕ} (h : Owned rows t) (s : Stands (owned_by rows o x) (row_count rows) i) (l : i < row_count rows) where
-    next : First (same (owned_key rows) key) (suc i) (row_count rows) (get_or t i 0)
-    next = links_next _ _ _ _ _ _ h.links (owned_keyed i (s.here l)) l
-
-    pub next_fits : Fits w64 (get_or t i 0)
-    next_fits = fits _ _ _ _ next h.short
-
-    pub next_stands : Stands (same (owned_key rows) key) (row_count rows) (get_or t i 0)
-    next_stands = stands _ _ _ next
-
-    pub next_join : {r : ℕ} → First (owned_by rows o x) (get_or t i 0) (row_count rows) r → First (owned_by rows o x) (suc i) (row_count rows) r
-    next_join f = seeking_from _ _ _ _ _ _ owned_blind next f
+      pub next_join : {r : ℕ} → First (owned_by rows o x) j (row_count rows) r → First (owned_by rows o x) (suc i) (row_count rows) r
+      next_join f = seeking_from _ _ _ _ _ _ owned_blind next f

@@ -2,7 +2,7 @@
 ghost use Rattle.std.specs.Prelude.{◌≡◌, ◌≤◌};
 ghost use Rattle.owners.specs.inner.Owners.{Linked, Owned};
 
-use chains::{Chain, Walk};
+use chains::{Chain, ChainTable, Walk};
 use rows::Kind;
 use sheet::{Found, Rows};
 use std::marker::Model;
@@ -64,7 +64,7 @@ pub trait OwnerIndex: Rows {
     ghost use Rattle.rows.specs.Cells.{row_count};
     ghost use Rattle.owners.specs.inner.Owners.{owned_by, Owned};
 
-    fn owned(&self) -> &[u16; 8810]
+    fn owned(&self) -> &ChainTable<8810>
         ensures { Owned (Self.rows self.now) result.now };
 
     // The rows of a kind that belong to row o.
@@ -170,7 +170,7 @@ impl<'a> LinkIndex for OwnerLinks<'a> {
 #[derive(Drop)]
 pub struct ByOwner<'a> {
     rows: &'a [i64],
-    table: &'a [u16; 8810],
+    table: &'a ChainTable<8810>,
 }
 
 impl<'a> Model for ByOwner<'a> {
@@ -185,7 +185,7 @@ impl<'a> Model for ByOwner<'a> {
 }
 
 impl<'a> ByOwner<'a> {
-    pub fn new(rows: &'a [i64], table: &'a [u16; 8810]) -> ByOwner<'a>
+    pub fn new(rows: &'a [i64], table: &'a ChainTable<8810>) -> ByOwner<'a>
         requires { Owned rows.now table.now }
         ensures { result ≡ rows.now }
     {
@@ -207,7 +207,7 @@ impl<'a> Rows for ByOwner<'a> {
 }
 
 impl<'a> OwnerIndex for ByOwner<'a> {
-    fn owned(&self) -> &[u16; 8810] {
+    fn owned(&self) -> &ChainTable<8810> {
         self.table
     }
 }
@@ -217,7 +217,7 @@ impl<'a> OwnerIndex for ByOwner<'a> {
 pub struct Owners<'a> {
     rows: &'a [i64],
     links: &'a [u16; 1600],
-    owned: &'a [u16; 8810],
+    owned: &'a ChainTable<8810>,
 }
 
 impl<'a> Model for Owners<'a> {
@@ -232,7 +232,7 @@ impl<'a> Model for Owners<'a> {
 }
 
 impl<'a> Owners<'a> {
-    pub fn new(rows: &'a [i64], links: &'a [u16; 1600], owned: &'a [u16; 8810]) -> Owners<'a>
+    pub fn new(rows: &'a [i64], links: &'a [u16; 1600], owned: &'a ChainTable<8810>) -> Owners<'a>
         requires { Linked rows.now links.now × Owned rows.now owned.now }
         ensures { result ≡ rows.now }
     {
@@ -267,7 +267,7 @@ impl<'a> LinkIndex for Owners<'a> {
 }
 
 impl<'a> OwnerIndex for Owners<'a> {
-    fn owned(&self) -> &[u16; 8810] {
+    fn owned(&self) -> &ChainTable<8810> {
         self.owned
     }
 }
@@ -305,21 +305,10 @@ impl<'a> Chain for OwnedChain<'a> {
     }
 
     fn first_place(&self) -> usize {
-        crate::first_owned(
-            self.rows.rows,
-            self.rows.table,
-            self.owner,
-            self.kind.number() as usize,
-        )
+        crate::first_owned(self.rows.rows, self.rows.table, self.owner, self.kind)
     }
 
     fn next_place(&self, i: usize) -> usize {
-        crate::next_owned(
-            self.rows.rows,
-            self.rows.table,
-            self.owner,
-            self.kind.number() as usize,
-            i,
-        )
+        crate::next_owned(self.rows.rows, self.rows.table, self.owner, self.kind, i)
     }
 }

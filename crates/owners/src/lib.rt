@@ -5,14 +5,18 @@
 ghost use Rattle.std.specs.Prelude.{Some, ◌≡◌, suc, ◌+◌, ◌*◌, ◌%◌, ◌<◌, ◌≤◌, true, cond, length, get_or, set, replicate};
 ghost use Rattle.loops.specs.Search.{first_place, any_below};
 ghost use Rattle.loops.specs.inner.Chain.{First, Stands, same};
-ghost use Rattle.rows.specs.Cells.{row_count, num};
-ghost use Rattle.sheet.specs.Places.{requirement_place, is_constraint, constraint_place};
+ghost use Rattle.rows.specs.Cells.{row_count, num, is};
+ghost use Rattle.rows.specs.Kinds.{kind_number};
+ghost use Rattle.sheet.specs.Places.{task_place, activity_place, resource_place, requirement_place, is_constraint, constraint_place};
+ghost use Rattle.sheet.specs.inner.Found.{found_of};
+ghost use Rattle.sheet.specs.inner.Index.{or_end, Kinds};
 ghost use Rattle.owners.specs.inner.Owners.{owner_kind, owner_place, own_place, res_place, owned_by, owned_key, Numbered, Linked, Owned};
 
 pub mod by_owner;
 mod sheet_index;
 
 pub use by_owner::{ByOwner, LinkIndex, OwnerIndex, OwnerLinks, Owners};
+use chains::ChainTable;
 use rows::Kind;
 use sheet::{ByKind, KindIndex, Rows};
 pub use sheet_index::SheetIndex;
@@ -183,18 +187,6 @@ fn resource_of(rows: &[i64], links: &[u16; 1600], k: usize) -> usize
 
 // ---- the rows that belong to a row
 
-// Private functions on the table take a kind by its number, since that is what the table is indexed by.
-
-// Row i before the other rows of its key.
-fn link_owned(t: &mut [u16; 8810], k: usize, i: usize)
-    requires { (i < 800) × (k < 8010) }
-    ensures { t.new ≡ set (set t.old i (get_or t.old (800 + k) 0)) (800 + k) i }
-{
-    let head = t[800 + k];
-    t[i] = head;
-    t[800 + k] = i as u16;
-}
-
 // The rows as a slice tell that they are 800 at most, here and below.
 fn owned_key(rows: &OwnerLinks, k: usize) -> usize
     requires { k < row_count rows.now }
@@ -206,48 +198,41 @@ fn owned_key(rows: &OwnerLinks, k: usize) -> usize
 }
 
 // Fills the table of the rows by owner and kind.
-pub fn owned_into(rows: &OwnerLinks, t: &mut [u16; 8810])
-    requires { length t.old ≡ 8810 }
+pub fn owned_into(rows: &OwnerLinks, t: &mut ChainTable<8810>)
     ensures { Owned rows.now t.new }
 {
     let n = rows::row_count(rows.as_slice());
-    t.fill(n as u16);
+    t.clear(n);
     for i in (0..n).rev() {
-        link_owned(t, owned_key(rows, i), i);
+        t.link(owned_key(rows, i), i);
     }
 }
 
-// The first row of kind x from row j on, along the chain of owner o. Two kinds may share a chain. A loop by hand: it goes along the
-// table, while the walks go along what it finds.
-fn skip_to(rows: &[i64], owned: &[u16; 8810], o: usize, x: usize, j: usize) -> usize
-    requires { Owned rows.now owned.now × Stands (same (owned_key rows.now) (o * 10 + x % 10)) (row_count rows.now) j }
-    ensures { First (owned_by rows.now o x) j (row_count rows.now) result }
+// The first row of a kind from row j on, along the chain of owner o. Two kinds may share a chain.
+fn owned_from(rows: &[i64], owned: &ChainTable<8810>, o: usize, kind: Kind, j: usize) -> usize
+    requires { Owned rows.now owned.now × Stands (same (owned_key rows.now) (o * 10 + kind_number kind % 10)) (row_count rows.now) j }
+    ensures { First (owned_by rows.now o (kind_number kind)) j (row_count rows.now) result }
 {
-    let n = rows::row_count(rows);
-    let mut i = j;
-    while i < n {
-        if rows::is_at(rows, i, 0, x as u64) {
-            return i;
-        }
-        i = owned[i] as usize;
-    }
-    i
+    owned.find_from(
+        j,
+        rows::row_count(rows),
+        |i| rows::is_of_kind(rows, i, kind),
+    )
 }
 
-// The first row of kind x that belongs to row o.
-fn first_owned(rows: &[i64], owned: &[u16; 8810], o: usize, x: usize) -> usize
+// The first row of a kind that belongs to row o.
+fn first_owned(rows: &[i64], owned: &ChainTable<8810>, o: usize, kind: Kind) -> usize
     requires { Owned rows.now owned.now × (o ≤ row_count rows.now) }
-    ensures { First (owned_by rows.now o x) 0 (row_count rows.now) result }
+    ensures { First (owned_by rows.now o (kind_number kind)) 0 (row_count rows.now) result }
 {
-    let j = owned[800 + (o * 10 + x % 10)] as usize;
-    skip_to(rows, owned, o, x, j)
+    let digit = kind.number() as usize % 10;
+    owned_from(rows, owned, o, kind, owned.first(o * 10 + digit))
 }
 
-// The next row of kind x that belongs to row o, after row i.
-fn next_owned(rows: &[i64], owned: &[u16; 8810], o: usize, x: usize, i: usize) -> usize
-    requires { Owned rows.now owned.now × Stands (owned_by rows.now o x) (row_count rows.now) i × (i < row_count rows.now) }
-    ensures { First (owned_by rows.now o x) (suc i) (row_count rows.now) result }
+// The next row of a kind that belongs to row o, after row i.
+fn next_owned(rows: &[i64], owned: &ChainTable<8810>, o: usize, kind: Kind, i: usize) -> usize
+    requires { Owned rows.now owned.now × Stands (owned_by rows.now o (kind_number kind)) (row_count rows.now) i × (i < row_count rows.now) }
+    ensures { First (owned_by rows.now o (kind_number kind)) (suc i) (row_count rows.now) result }
 {
-    let j = owned[i] as usize;
-    skip_to(rows, owned, o, x, j)
+    owned_from(rows, owned, o, kind, owned.next(i))
 }

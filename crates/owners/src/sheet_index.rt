@@ -4,26 +4,28 @@ ghost use Rattle.sheet.specs.inner.Index.{Shaped};
 ghost use Rattle.owners.specs.inner.Filled.{Sized, Filled};
 
 use crate::{ByOwner, OwnerLinks, Owners};
-use sheet::ByKind;
+use chains::ChainTable;
+use sheet::{ByKind, KindTable};
 
 #[derive(Drop)]
 pub struct SheetIndex {
-    kinds: [u16; 3680],
+    kinds: KindTable,
     links: [u16; 1600],
-    owned: [u16; 8810],
+    owned: ChainTable<8810>,
 }
 
 impl SheetIndex {
     // Of no sheet yet.
     pub fn new() -> SheetIndex
-        ensures kinds { result.kinds ≡ replicate 3680 0 }
+        ensures kinds { result.kinds.kinds ≡ replicate 832 0 }
+        ensures names { result.kinds.names ≡ replicate 2848 0 }
         ensures links { result.links ≡ replicate 1600 0 }
         ensures owned { result.owned ≡ replicate 8810 0 }
     {
         SheetIndex {
-            kinds: [0u16; 3680],
+            kinds: KindTable::new(),
             links: [0u16; 1600],
-            owned: [0u16; 8810],
+            owned: ChainTable::new(),
         }
     }
 
@@ -67,7 +69,7 @@ impl SheetIndex {
         Owners::new(rows, &self.links, &self.owned)
     }
 
-    pub fn kinds(&self) -> &[u16; 3680]
+    pub fn kinds(&self) -> &KindTable
         ensures { result.now ≡ self.now.kinds }
     {
         &self.kinds
@@ -79,7 +81,7 @@ impl SheetIndex {
         &self.links
     }
 
-    pub fn owned(&self) -> &[u16; 8810]
+    pub fn owned(&self) -> &ChainTable<8810>
         ensures { result.now ≡ self.now.owned }
     {
         &self.owned

@@ -2,6 +2,7 @@
 ghost use Rattle.std.specs.Prelude.{◌≡◌};
 ghost use Rattle.pieces.specs.inner.Held.{Held};
 
+use chains::ChainTable;
 use owners::{LinkIndex, OwnerIndex, Owners};
 use sheet::Rows;
 use std::marker::Model;
@@ -78,7 +79,7 @@ impl<'a> LinkIndex for MarkedRows<'a> {
 }
 
 impl<'a> OwnerIndex for MarkedRows<'a> {
-    fn owned(&self) -> &[u16; 8810] {
+    fn owned(&self) -> &ChainTable<8810> {
         self.owners.owned()
     }
 }

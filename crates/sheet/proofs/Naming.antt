@@ -1,119 +1,104 @@
--- Laws of the table of kinds and names: its fill, and the chains by kind and column 1, which other pairs may share. Assumes nothing.
+-- Laws of the tables of kinds and names: their fill, and the chains by kind and column 1, which other pairs may share. Assumes nothing.
 use Prim.Native.Nat.{ℕ, suc, ◌+◌, ◌-◌, ◌<◌, ◌≤◌}
 use mathlib.Core.Path.{◌≡◌, refl, sym, ◌∙◌}
 use mathlib.Core.Bool.{Bool, true, false, true≢false}
 use mathlib.Core.List.{List}
 use native.Mathlib.Omega.{arith}
-use native.Mathlib.Numerals.{add-one}
 use lib.IntN.{ℤ}
-use lib.ListN.{length, get_or, set, replicate, length-replicate}
-use mir.Syntax.{w64}
-use mir.Val.{Fits}
+use lib.ListN.{get_or, set, replicate}
+use lib.Dec.{ltb}
 use borrow.Author.Tests.{eq-eqb}
 use Rattle.loops.specs.Search.{any_below}
-use Rattle.loops.specs.inner.Chain.{same, First, Stands, Blind, Links, part}
+use Rattle.loops.specs.inner.Chain.{same, First, Stands, Blind, Links}
 use Rattle.loops.proofs.BoolLaws.{and_left, and_right}
-use Rattle.loops.proofs.ChainLaws.{fits}
-use Rattle.loops.proofs.SearchLaws.{any_zero, any_miss}
-use Rattle.loops.proofs.Walks.{over}
-use Rattle.loops.proofs.TableLaws.{part_start, part_again, part_head, part_next, part_else_below, part_else_above, stores_size}
+use Rattle.loops.proofs.ChainLaws.{links_start, links_again, links_next}
+use Rattle.loops.proofs.TableLaws.{seeking_from}
+use Rattle.loops.proofs.Walks.{stands}
+use Rattle.chains.specs.inner.Along.{Along, Rising, Means, Sought}
+use Rattle.chains.proofs.TableWalk.{links_along, links_rising, sought_all, sought_below}
 use Rattle.rows.specs.Cells.{row_count, num, is}
 use Rattle.sheet.specs.Places.{of_kind, named}
+use Rattle.sheet.specs.declared.KindTable.{KindTable}
 use Rattle.sheet.specs.inner.Groups.{named_pair}
 use Rattle.sheet.specs.inner.Index.{kind_key, name_hash, name_key, Shaped, Kinds}
 use Rattle.sheet.proofs.Lookups.{is_num}
 
-pub hash_below : {k : ℕ} (x id : ℕ) → k ≡ name_hash x id → k < 2048
+hash_small : (x id : ℕ) → name_hash x id < 2048
 unfolding name_hash
-hash_below x id e = omega arith
+hash_small x id = omega arith
+
+pub hash_below : {k : ℕ} (x id : ℕ) → k ≡ name_hash x id → 800 + k < 2848
+hash_below x id e = omega (arith, hash_small x id)
 
 -- ---- the fill
 
 -- the chains of the rows from i on
-pub record Filled (rows : List ℤ) (n i : ℕ) (t : List ℕ) : Type 0 where
+pub record Filled (rows : List ℤ) (n i : ℕ) (kinds names : List ℕ) : Type 0 where
   pub low : i ≤ n
-  pub size : length t ≡ 3680
-  pub links : Links (kind_key rows) 32 i n (part 0 832 t)
-  pub names : Links (name_key rows) 2048 i n (part 832 2848 t)
+  pub links : Links (kind_key rows) 32 i n kinds
+  pub named : Links (name_key rows) 2048 i n names
 
 module _ (rows : List ℤ) (n : ℕ) (e : n ≡ row_count rows) (s : Shaped rows) where
-  -- a table that was cleared
-  pub filled_start : {t : List ℕ} (N : ℕ) → N ≡ 3680 → t ≡ replicate N n → Filled rows n n t
-  filled_start N a q = rw (q, a) (record {
+  -- tables that were cleared
+  pub filled_start : {a b : List ℕ} → a ≡ replicate 832 n → b ≡ replicate 2848 n → Filled rows n n a b
+  filled_start f g = rw (f, g) (record {
     low = omega arith;
-    size = length-replicate {A = ℕ} 3680 n;
-    links = part_start (kind_key rows) 0 32 n 3680 (omega arith);
-    names = part_start (name_key rows) 832 2048 n 3680 (omega arith);
+    links = links_start (kind_key rows) 32 n (omega (arith, s.short)) (omega arith);
+    named = links_start (name_key rows) 2048 n (omega (arith, s.short)) (omega arith);
   })
 
+  pub fill_short : n ≤ 800
+  fill_short = omega (arith, s.short)
+
   -- where row i - 1 and its kind stand
-  pub fill_place : {i : ℕ} {t : List ℕ} → 0 < i → Filled rows n i t → i - 1 < 800
+  pub fill_place : {i : ℕ} {a b : List ℕ} → 0 < i → Filled rows n i a b → i - 1 < 800
   fill_place z h = omega (arith, h.low, s.short)
 
-  pub fill_kind : {i x : ℕ} {t : List ℕ} → 0 < i → Filled rows n i t → x ≡ num rows (i - 1) 0 → x < 32
-  fill_kind {i} z h a = rw a (s.kinds (i - 1) (omega (arith, h.low)))
+  pub fill_kind : {i x : ℕ} {a b : List ℕ} → 0 < i → Filled rows n i a b → x ≡ num rows (i - 1) 0 → x < 32
+  fill_kind {i} z h f = rw f (s.kinds (i - 1) (omega (arith, h.low)))
 
   -- row i - 1 is linked to the rows of its kind, then to those of its name
-  pub filled_again : {i x id k : ℕ} {t t' t'' : List ℕ} → 0 < i → Filled rows n i t → x ≡ num rows (i - 1) 0 → id ≡ num rows (i - 1) 1 → k ≡ name_hash x id
-      → t' ≡ set (set t (i - 1) (get_or t (800 + x) 0)) (800 + x) (i - 1)
-      → t'' ≡ set (set t' (832 + (i - 1)) (get_or t' (832 + (800 + k)) 0)) (832 + (800 + k)) (i - 1)
-      → Filled rows n (i - 1) t''
+  pub filled_again : {i x id k : ℕ} {a a' b b' : List ℕ} → 0 < i → Filled rows n i a b → x ≡ num rows (i - 1) 0 → id ≡ num rows (i - 1) 1 → k ≡ name_hash x id
+      → a' ≡ set (set a (i - 1) (get_or a (800 + x) 0)) (800 + x) (i - 1) → b' ≡ set (set b (i - 1) (get_or b (800 + k) 0)) (800 + k) (i - 1)
+      → Filled rows n (i - 1) a' b'
   unfolding kind_key name_key
-  filled_again {i} {x} {id} {k} {t} {t'} {t''} z h a d v q r =
-      let c : k ≡ name_hash (num rows (i - 1) 0) (num rows (i - 1) 1) = rw (a, d) at v in
+  filled_again {i} {x} {id} {k} {a} {a'} {b} {b'} z h f d v q r =
+      let c : k ≡ name_hash (num rows (i - 1) 0) (num rows (i - 1) 1) = rw (f, d) at v in
       let u : n ≤ 800 = omega (arith, s.short) in
-      let b : num rows (i - 1) 0 < 32 = s.kinds (i - 1) (omega (arith, h.low)) in
       record {
         low = omega (arith, h.low);
-        size = stores_size 0 0 t' t'' (832 + (i - 1)) (get_or t' (832 + (800 + k)) 0) (832 + (800 + k)) (i - 1) r
-            ∙ stores_size 0 0 t t' (i - 1) (get_or t (800 + x) 0) (800 + x) (i - 1) q ∙ h.size;
-        links = rw (part_else_above 0 832 t' t'' (832 + (i - 1)) (get_or t' (832 + (800 + k)) 0) (832 + (800 + k)) (i - 1) r (omega arith) (omega arith))
-            (part_again (kind_key rows) 0 32 n i x (i - 1) (800 + x) t t' (omega arith) (omega arith) z h.low u a b h.links q);
-        names = part_again (name_key rows) 832 2048 n i k (832 + (i - 1)) (832 + (800 + k)) t' t'' refl refl z h.low u c (hash_below _ _ refl)
-            (rw (part_else_below 832 2848 t t' (i - 1) (get_or t (800 + x) 0) (800 + x) (i - 1) q (omega (arith, h.low)) (omega arith)) h.names) r;
+        links = links_again (kind_key rows) 32 n i x a a' z h.low u f (s.kinds (i - 1) (omega (arith, h.low))) h.links q;
+        named = links_again (name_key rows) 2048 n i k b b' z h.low u c (hash_small (num rows (i - 1) 0) (num rows (i - 1) 1)) h.named r;
       }
 
-  pub filled_done : {i : ℕ} {t : List ℕ} → i ≤ 0 → Filled rows n i t → Kinds rows t
+  pub filled_done : {i : ℕ} {t : KindTable} → i ≤ 0 → Filled rows n i t.kinds t.names → Kinds rows t
   filled_done {i} {t} z h =
       let w : i ≡ 0 = omega arith in
       record {
-        size = omega (arith, h.size);
         short = s.short;
         links = rw (w, e) at h.links;
-        names = rw (w, e) at h.names;
+        names = rw (w, e) at h.named;
       }
 
 -- ---- what is read
 
-module _ (rows : List ℤ) (t : List ℕ) (h : Kinds rows t) where
-  pub kind_head : (k : ℕ) → k < 32 → First (of_kind rows k) 0 (row_count rows) (get_or t (800 + k) 0)
+module _ (rows : List ℤ) (t : KindTable) (h : Kinds rows t) where
+  pub kind_head : (k : ℕ) → k < 32 → First (of_kind rows k) 0 (row_count rows) (get_or t.kinds (800 + k) 0)
   unfolding of_kind same kind_key is
-  kind_head k l = part_head (kind_key rows) 0 32 (row_count rows) t k (800 + k) (omega arith) h.links l
+  kind_head k l = h.links.head k l
 
-  pub kind_head_fits : (k : ℕ) → k < 32 → Fits w64 (get_or t (800 + k) 0)
-  kind_head_fits k l = fits _ _ _ _ (kind_head k l) h.short
-
-  pub kind_next : (k i : ℕ) → Stands (of_kind rows k) (row_count rows) i → i < row_count rows → First (of_kind rows k) (suc i) (row_count rows) (get_or t i 0)
+  pub kind_next : (k i : ℕ) → Stands (of_kind rows k) (row_count rows) i → i < row_count rows → First (of_kind rows k) (suc i) (row_count rows) (get_or t.kinds i 0)
   unfolding of_kind same kind_key is
-  kind_next k i s l = part_next (kind_key rows) 0 32 (row_count rows) t k i i (omega arith) h.short h.links (s.here l) l
+  kind_next k i s l = links_next (kind_key rows) 32 (row_count rows) t.kinds k i h.links (s.here l) l
 
-  pub kind_next_fits : (k i : ℕ) → Stands (of_kind rows k) (row_count rows) i → i < row_count rows → Fits w64 (get_or t i 0)
-  kind_next_fits k i s l = fits _ _ _ _ (kind_next k i s l) h.short
+  pub name_head : {r : ℕ} (x id : ℕ) → r ≡ name_hash x id → First (same (name_key rows) (name_hash x id)) 0 (row_count rows) (get_or t.names (800 + r) 0)
+  name_head x id e = rw e (h.names.head (name_hash x id) (hash_small x id))
 
-  pub name_head : {r : ℕ} (x id : ℕ) → r ≡ name_hash x id → First (same (name_key rows) (name_hash x id)) 0 (row_count rows) (get_or t (832 + (800 + r)) 0)
-  name_head x id e = rw e (part_head (name_key rows) 832 2048 (row_count rows) t (name_hash x id) (832 + (800 + name_hash x id)) refl h.names (hash_below x id refl))
+  pub name_next : (k i : ℕ) → Stands (same (name_key rows) k) (row_count rows) i → i < row_count rows → First (same (name_key rows) k) (suc i) (row_count rows) (get_or t.names i 0)
+  name_next k i s l = links_next (name_key rows) 2048 (row_count rows) t.names k i h.names (s.here l) l
 
-  pub name_head_fits : {r : ℕ} (x id : ℕ) → r ≡ name_hash x id → Fits w64 (get_or t (832 + (800 + r)) 0)
-  name_head_fits x id e = fits _ _ _ _ (name_head x id e) h.short
-
-  name_next : (k i : ℕ) → same (name_key rows) k i ≡ true → i < row_count rows → First (same (name_key rows) k) (suc i) (row_count rows) (get_or t (832 + i) 0)
-  name_next k i e l = part_next (name_key rows) 832 2048 (row_count rows) t k i (832 + i) refl h.short h.names e l
-
-  pub name_after : (k i : ℕ) → Stands (same (name_key rows) k) (row_count rows) i → i < row_count rows → First (same (name_key rows) k) (suc i) (row_count rows) (get_or t (832 + i) 0)
-  name_after k i s l = name_next k i (s.here l) l
-
-  pub name_after_fits : (k i : ℕ) → Stands (same (name_key rows) k) (row_count rows) i → i < row_count rows → Fits w64 (get_or t (832 + i) 0)
-  name_after_fits k i s l = fits _ _ _ _ (name_after k i s l) h.short
+  pub names_rising : (e : ℕ) → e ≤ row_count rows → Rising e t.names
+  names_rising e l = links_rising h.names e l
 
 -- ---- the pairs that share a chain
 
@@ -139,11 +124,18 @@ module _ (rows : List ℤ) (x id : ℕ) where
   unfolding named_pair
   pair_blind other = record { still = λ k e. rw (name_blind.still k e) }
 
--- ---- a search along a chain by hand: nothing before its place passes the test
+-- ---- a search along the chain of a name
 
-module _ (q : ℕ → Bool) where
-  pub any_first : {p : ℕ → Bool} {n i : ℕ} → First p 0 n i → Blind p q → any_below q i ≡ false
-  any_first s h = over (λ k. any_below q k ≡ false) _ 0 _ _ (λ k z r. any_miss q k r (h.still k z)) s (any_zero q)
+module _ (rows : List ℤ) (t : KindTable) (h : Kinds rows t) (x id : ℕ) where
+  pub named_sought : {may : ℕ → Bool → Type 0} {j n r : ℕ} → ((i : ℕ) (b : Bool) → may i b → b ≡ named rows x id i) → n ≡ row_count rows
+      → Stands (same (name_key rows) (name_hash x id)) (row_count rows) j
+      → ((p q : ℕ → Bool) (N : ℕ) → Along p N t.names → Stands p N j → n ≤ N → Blind p q → Means p q may → Sought q j n N r) → First (named rows x id) j (row_count rows) r
+  named_sought m e s f =
+      sought_all e (f _ _ _ (links_along h.names (name_hash x id)) s (omega arith) (name_blind rows x id) (record { says = λ i b z w. m i b w }))
 
-  pub any_next : {p : ℕ → Bool} {n j i : ℕ} → First p (suc i) n j → Blind p q → any_below q i ≡ false → q i ≡ false → any_below q j ≡ false
-  any_next {p} {n} {j} {i} s h r t = over (λ k. any_below q k ≡ false) _ (suc i) _ _ (λ k z r. any_miss q k r (h.still k z)) s (rw add-one at (any_miss q i r t))
+  pub pair_sought : {may : ℕ → Bool → Type 0} (other k : ℕ) {j r : ℕ} → ((i : ℕ) (b : Bool) → may i b → b ≡ named_pair rows x id other i) → k ≤ row_count rows
+      → First (same (name_key rows) (name_hash x id)) 0 (row_count rows) j
+      → ((p q : ℕ → Bool) (N : ℕ) → Along p N t.names → Stands p N j → k ≤ N → Blind p q → Means p q may → Sought q j k N r) → ltb r k ≡ any_below (named_pair rows x id other) k
+  pair_sought other k m l g f =
+      sought_below k (pair_blind rows x id other) g
+      (f _ _ _ (links_along h.names (name_hash x id)) (stands _ _ _ g) l (pair_blind rows x id other) (record { says = λ i b y w. m i b w }))

@@ -3,7 +3,7 @@ ghost use Rattle.std.specs.Prelude.{◌≡◌, ◌<◌, ◌≤◌};
 ghost use Rattle.rows.specs.Cells.{row_count};
 ghost use Rattle.sheet.specs.inner.Index.{Kinds};
 
-use crate::Found;
+use crate::{Found, KindTable};
 use chains::{Chain, Walk};
 use rows::Kind;
 use std::marker::Model;
@@ -75,7 +75,7 @@ pub trait Rows {
     }
 }
 
-// Rows whose table of kinds and names is filled.
+// Rows whose tables of kinds and names are filled.
 pub trait KindIndex: Rows {
     ghost use Rattle.std.specs.Prelude.{◌≡◌, ◌≤◌};
     ghost use Rattle.chains.specs.Places.{places};
@@ -87,7 +87,7 @@ pub trait KindIndex: Rows {
     ghost use Rattle.sheet.specs.inner.Groups.{named_pair};
     ghost use Rattle.sheet.specs.inner.Index.{Kinds};
 
-    fn kinds(&self) -> &[u16; 3680]
+    fn kinds(&self) -> &KindTable
         ensures { Kinds (Self.rows self.now) result.now };
 
     // The rows of a kind.
@@ -134,7 +134,7 @@ pub trait KindIndex: Rows {
         requires { k ≤ row_count (Self.rows self.now) }
         ensures { result ≡ any_below (named (Self.rows self.now) (kind_number kind) id) k }
     {
-        crate::first_named(self.as_slice(), self.kinds(), kind.number() as usize, id) < k
+        crate::first_named(self.as_slice(), self.kinds(), kind, id) < k
     }
 
     // Whether one of those has that number in column 2.
@@ -142,14 +142,7 @@ pub trait KindIndex: Rows {
         requires { k ≤ row_count (Self.rows self.now) }
         ensures { result ≡ any_below (named_pair (Self.rows self.now) (kind_number kind) id other) k }
     {
-        crate::has_earlier_pair(
-            self.as_slice(),
-            self.kinds(),
-            kind.number() as usize,
-            id,
-            other,
-            k,
-        )
+        crate::has_earlier_pair(self.as_slice(), self.kinds(), kind, id, other, k)
     }
 
     // The first row of a kind with that id.
@@ -184,11 +177,11 @@ pub trait KindIndex: Rows {
     }
 }
 
-// The rows of a sheet with the table of the rows by kind and by name; seen as the rows. There is no heap: the table is an array that is lent.
+// The rows of a sheet with the tables of the rows by kind and by name; seen as the rows. There is no heap: the tables are arrays that are lent.
 #[derive(Drop)]
 pub struct ByKind<'a> {
     rows: &'a [i64],
-    table: &'a [u16; 3680],
+    table: &'a KindTable,
 }
 
 impl<'a> Model for ByKind<'a> {
@@ -203,7 +196,7 @@ impl<'a> Model for ByKind<'a> {
 }
 
 impl<'a> ByKind<'a> {
-    pub fn new(rows: &'a [i64], table: &'a [u16; 3680]) -> ByKind<'a>
+    pub fn new(rows: &'a [i64], table: &'a KindTable) -> ByKind<'a>
         requires { Kinds rows.now table.now }
         ensures { result ≡ rows.now }
     {
@@ -225,7 +218,7 @@ impl<'a> Rows for ByKind<'a> {
 }
 
 impl<'a> KindIndex for ByKind<'a> {
-    fn kinds(&self) -> &[u16; 3680] {
+    fn kinds(&self) -> &KindTable {
         self.table
     }
 }
@@ -259,16 +252,11 @@ impl<'a> Chain for KindChain<'a> {
     }
 
     fn first_place(&self) -> usize {
-        crate::first_of(self.rows.rows, self.rows.table, self.kind.number() as usize)
+        self.rows.table.kinds.first(self.kind.number() as usize)
     }
 
     fn next_place(&self, i: usize) -> usize {
-        crate::next_of(
-            self.rows.rows,
-            self.rows.table,
-            self.kind.number() as usize,
-            i,
-        )
+        self.rows.table.kinds.next(i)
     }
 }
 
@@ -302,21 +290,10 @@ impl<'a> Chain for NamedChain<'a> {
     }
 
     fn first_place(&self) -> usize {
-        crate::first_named(
-            self.rows.rows,
-            self.rows.table,
-            self.kind.number() as usize,
-            self.id,
-        )
+        crate::first_named(self.rows.rows, self.rows.table, self.kind, self.id)
     }
 
     fn next_place(&self, i: usize) -> usize {
-        crate::next_named(
-            self.rows.rows,
-            self.rows.table,
-            self.kind.number() as usize,
-            self.id,
-            i,
-        )
+        crate::next_named(self.rows.rows, self.rows.table, self.kind, self.id, i)
     }
 }

@@ -2,11 +2,12 @@
 // each place. A lookup answers an enum; a table of places holds what was found as a number.
 #![tactic(auto)]
 
-ghost use Rattle.std.specs.Prelude.{◌≡◌, suc, ◌+◌, ◌<◌, ◌≤◌, length, get_or, set};
+ghost use Rattle.std.specs.Prelude.{◌≡◌, suc, ◌<◌, ◌≤◌, get_or, set, replicate};
 ghost use Rattle.loops.specs.Search.{any_below};
 ghost use Rattle.loops.specs.inner.Chain.{First, Stands, same};
 ghost use Rattle.rows.specs.Cells.{row_count};
-ghost use Rattle.sheet.specs.Places.{of_kind, named};
+ghost use Rattle.rows.specs.Kinds.{kind_number};
+ghost use Rattle.sheet.specs.Places.{of_kind, named, place_of, task_place, activity_place, resource_place};
 ghost use Rattle.sheet.specs.inner.Found.{found_of};
 ghost use Rattle.sheet.specs.inner.Groups.{named_pair};
 ghost use Rattle.sheet.specs.inner.Kept.{IsRow};
@@ -15,6 +16,8 @@ ghost use Rattle.sheet.specs.inner.Index.{name_hash, name_key, or_end, stored_pl
 pub mod by_kind;
 
 pub use by_kind::{ByKind, KindIndex, Rows};
+use chains::ChainTable;
+use rows::Kind;
 
 // What a lookup of an activity or a resource answers. No Option: the project's paper asks for an enum of its own (docs/DECISIONS.md, 26).
 #[derive(Clone, Copy)]
@@ -71,16 +74,24 @@ pub fn stored_place(rows: &[i64], i: usize) -> Option<usize>
 
 // ---- rows by kind
 
-// Private functions on the table take a kind by its number, since that is what the table is indexed by.
+// The tables of the rows by kind, and by kind and number in column 1: 32 chains, and 2,048.
+#[derive(Drop)]
+pub struct KindTable {
+    kinds: ChainTable<832>,
+    names: ChainTable<2848>,
+}
 
-// Row i before the other rows of its kind.
-fn link_kind(t: &mut [u16; 3680], k: usize, i: usize)
-    requires { (i < 800) × (k < 32) }
-    ensures { t.new ≡ set (set t.old i (get_or t.old (800 + k) 0)) (800 + k) i }
-{
-    let head = t[800 + k];
-    t[i] = head;
-    t[800 + k] = i as u16;
+impl KindTable {
+    // Of no sheet yet.
+    pub fn new() -> KindTable
+        ensures kinds { result.kinds ≡ replicate 832 0 }
+        ensures names { result.names ≡ replicate 2848 0 }
+    {
+        KindTable {
+            kinds: ChainTable::new(),
+            names: ChainTable::new(),
+        }
+    }
 }
 
 // The chain of a kind and a number in column 1; other pairs may share it. The remainder of a power of two is a mask.
@@ -91,137 +102,97 @@ fn name_key(x: usize, id: u64) -> usize
     ((id % 2048) as usize * 37 + x * 389) % 2048
 }
 
-// Row i before the other rows of its name's chain.
-fn link_name(t: &mut [u16; 3680], k: usize, i: usize)
-    requires { (i < 800) × (k < 2048) }
-    ensures { t.new ≡ set (set t.old (832 + i) (get_or t.old (832 + (800 + k)) 0)) (832 + (800 + k)) i }
-{
-    let head = t[832 + (800 + k)];
-    t[832 + i] = head;
-    t[832 + (800 + k)] = i as u16;
-}
-
-// Fills the table of the rows by kind, an array since there is no heap: the next row of row i's kind at place i, the first row of kind k at place 800 + k.
-// Behind them the rows by kind and name, in the same way: the next row of row i's chain at place 832 + i, the first row of chain k at place 1632 + k.
-pub fn kinds_into(rows: &[i64], t: &mut [u16; 3680])
-    requires { Shaped rows.now × (length t.old ≡ 3680) }
+// Fills the tables of the rows by kind.
+pub fn kinds_into(rows: &[i64], t: &mut KindTable)
+    requires { Shaped rows.now }
     ensures { Kinds rows.now t.new }
 {
     let n = rows::row_count(rows);
-    t.fill(n as u16);
+    t.kinds.clear(n);
+    t.names.clear(n);
     for i in (0..n).rev() {
-        let x = rows::num_at(rows, i, 0);
-        link_kind(t, x as usize, i);
-        link_name(t, name_key(x as usize, rows::num_at(rows, i, 1)), i);
+        let x = rows::num_at(rows, i, 0) as usize;
+        t.kinds.link(x, i);
+        t.names.link(name_key(x, rows::num_at(rows, i, 1)), i);
     }
-}
-
-// The first row of kind k.
-fn first_of(rows: &[i64], kinds: &[u16; 3680], k: usize) -> usize
-    requires { Kinds rows.now kinds.now × (k < 32) }
-    ensures { First (of_kind rows.now k) 0 (row_count rows.now) result }
-{
-    kinds[800 + k] as usize
-}
-
-// The next row of kind k after row i of that kind.
-fn next_of(rows: &[i64], kinds: &[u16; 3680], k: usize, i: usize) -> usize
-    requires { Kinds rows.now kinds.now × Stands (of_kind rows.now k) (row_count rows.now) i × (i < row_count rows.now) }
-    ensures { First (of_kind rows.now k) (suc i) (row_count rows.now) result }
-{
-    kinds[i] as usize
 }
 
 // ---- lookups
 
-fn is_named(rows: &[i64], x: usize, id: u64, i: usize) -> bool
-    ensures { result ≡ named rows.now x id i }
+fn is_named(rows: &[i64], kind: Kind, id: u64, i: usize) -> bool
+    ensures { result ≡ named rows.now (kind_number kind) id i }
 {
     if !rows::is_at(rows, i, 1, id) {
         return false;
     }
-    rows::is_at(rows, i, 0, x as u64)
+    rows::is_of_kind(rows, i, kind)
 }
 
 // The first row of the chain of a kind and a number in column 1.
-fn first_hashed(rows: &[i64], kinds: &[u16; 3680], x: usize, id: u64) -> usize
-    requires { Kinds rows.now kinds.now × (x < 32) }
-    ensures { First (same (name_key rows.now) (name_hash x id)) 0 (row_count rows.now) result }
+#[tactic(auto, using(crate::proofs::Naming::name_head), unfolding(crate::specs::inner::Index::name_hash))]
+fn first_hashed(rows: &[i64], table: &KindTable, kind: Kind, id: u64) -> usize
+    requires { Kinds rows.now table.now }
+    ensures { First (same (name_key rows.now) (name_hash (kind_number kind) id)) 0 (row_count rows.now) result }
 {
-    kinds[832 + (800 + name_key(x, id))] as usize
+    table.names.first(name_key(kind.number() as usize, id))
 }
 
-// The next row of that chain after row i of it.
-fn next_hashed(rows: &[i64], kinds: &[u16; 3680], x: usize, id: u64, i: usize) -> usize
-    requires { Kinds rows.now kinds.now × Stands (same (name_key rows.now) (name_hash x id)) (row_count rows.now) i × (i < row_count rows.now) }
-    ensures { First (same (name_key rows.now) (name_hash x id)) (suc i) (row_count rows.now) result }
+// The first row of a kind with that number in column 1 from row j on, along the chain of their name.
+fn named_from(rows: &[i64], table: &KindTable, kind: Kind, id: u64, j: usize) -> usize
+    requires { Kinds rows.now table.now × Stands (same (name_key rows.now) (name_hash (kind_number kind) id)) (row_count rows.now) j }
+    ensures { First (named rows.now (kind_number kind) id) j (row_count rows.now) result }
 {
-    kinds[832 + i] as usize
+    table
+        .names
+        .find_from(j, rows::row_count(rows), |i| is_named(rows, kind, id, i))
 }
 
-// The first row of kind x with that number in column 1 from row j on, along their chain. A loop by hand: it goes along the table, while the walks go along what it finds.
-fn skip_named(rows: &[i64], kinds: &[u16; 3680], x: usize, id: u64, j: usize) -> usize
-    requires { Kinds rows.now kinds.now × Stands (same (name_key rows.now) (name_hash x id)) (row_count rows.now) j }
-    ensures { First (named rows.now x id) j (row_count rows.now) result }
+// The first row of a kind with that number in column 1.
+#[tactic(auto, using(loops::proofs::Walks::stands))]
+fn first_named(rows: &[i64], table: &KindTable, kind: Kind, id: u64) -> usize
+    requires { Kinds rows.now table.now }
+    ensures { First (named rows.now (kind_number kind) id) 0 (row_count rows.now) result }
 {
-    let n = rows::row_count(rows);
-    let mut i = j;
-    while i < n {
-        if is_named(rows, x, id, i) {
-            return i;
-        }
-        i = next_hashed(rows, kinds, x, id, i);
-    }
-    i
-}
-
-// The first row of kind x with that number in column 1.
-fn first_named(rows: &[i64], kinds: &[u16; 3680], x: usize, id: u64) -> usize
-    requires { Kinds rows.now kinds.now × (x < 32) }
-    ensures { First (named rows.now x id) 0 (row_count rows.now) result }
-{
-    skip_named(rows, kinds, x, id, first_hashed(rows, kinds, x, id))
+    named_from(rows, table, kind, id, first_hashed(rows, table, kind, id))
 }
 
 // The next such row after row i, which is one.
-fn next_named(rows: &[i64], kinds: &[u16; 3680], x: usize, id: u64, i: usize) -> usize
-    requires { Kinds rows.now kinds.now × Stands (named rows.now x id) (row_count rows.now) i × (i < row_count rows.now) }
-    ensures { First (named rows.now x id) (suc i) (row_count rows.now) result }
+#[tactic(auto, using(loops::proofs::Walks::stands, crate::proofs::Naming::name_next, crate::proofs::Naming::name_stands))]
+fn next_named(rows: &[i64], table: &KindTable, kind: Kind, id: u64, i: usize) -> usize
+    requires { Kinds rows.now table.now × Stands (named rows.now (kind_number kind) id) (row_count rows.now) i × (i < row_count rows.now) }
+    ensures { First (named rows.now (kind_number kind) id) (suc i) (row_count rows.now) result }
 {
-    skip_named(rows, kinds, x, id, next_hashed(rows, kinds, x, id, i))
+    named_from(rows, table, kind, id, table.names.next(i))
 }
 
 // Column 2 first: of the rows of one name only that number tells them apart.
-fn is_pair(rows: &[i64], x: usize, id: u64, other: u64, i: usize) -> bool
-    ensures { result ≡ named_pair rows.now x id other i }
+fn is_pair(rows: &[i64], kind: Kind, id: u64, other: u64, i: usize) -> bool
+    ensures { result ≡ named_pair rows.now (kind_number kind) id other i }
 {
     if !rows::is_at(rows, i, 2, other) {
         return false;
     }
-    is_named(rows, x, id, i)
+    is_named(rows, kind, id, i)
 }
 
-// An earlier row than k is of kind x with that id and that number in column 2. A loop by hand, along all rows that share the chain: the walk of those of the kind
-// and id, which tests these first, took 1.2 of the reference's time over 800 speeds of one activity.
+// An earlier row than k is of a kind with that id and that number in column 2. Along all rows that share the chain: the walk of those of the kind and id, which
+// tests these first, took 1.2 of the reference's time over 800 speeds of one activity.
 fn has_earlier_pair(
     rows: &[i64],
-    kinds: &[u16; 3680],
-    x: usize,
+    table: &KindTable,
+    kind: Kind,
     id: u64,
     other: u64,
     k: usize,
 ) -> bool
-    requires { Kinds rows.now kinds.now × (x < 32) × (k ≤ row_count rows.now) }
-    ensures { result ≡ any_below (named_pair rows.now x id other) k }
+    requires { Kinds rows.now table.now × (k ≤ row_count rows.now) }
+    ensures { result ≡ any_below (named_pair rows.now (kind_number kind) id other) k }
 {
-    let mut i = first_hashed(rows, kinds, x, id);
-    while i < k {
-        if is_pair(rows, x, id, other, i) {
-            return true;
-        }
-        i = next_hashed(rows, kinds, x, id, i);
-    }
-    false
+    let first = first_hashed(rows, table, kind, id);
+    table
+        .names
+        .find_from(first, k, |i| is_pair(rows, kind, id, other, i))
+        < k
 }
 
 // ---- places that a caller keeps, one for each row
