@@ -5,7 +5,7 @@ ghost use Rattle.check6_calendars.specs.inner.Lacking.{lacks_time, Lacking};
 
 use model::Sheet;
 use owners::LinkIndex;
-use sheet::{KindIndex, Rows};
+use sheet::{KindIndex, KindTable, Rows};
 use std::marker::Model;
 
 // An accepted sheet, with which of its bookings lack working time; seen as the rows.
@@ -67,7 +67,7 @@ impl<'a> Rows for LackingSheet<'a> {
 }
 
 impl<'a> KindIndex for LackingSheet<'a> {
-    fn kinds(&self) -> &[u16; 3680] {
+    fn kinds(&self) -> &KindTable {
         self.sheet.kinds()
     }
 }

@@ -175,8 +175,8 @@ fn is_pair(rows: &[i64], kind: Kind, id: u64, other: u64, i: usize) -> bool
     is_named(rows, kind, id, i)
 }
 
-// An earlier row than k is of a kind with that id and that number in column 2. Along all rows that share the chain: the walk of those of the kind and id, which
-// tests these first, took 1.2 of the reference's time over 800 speeds of one activity.
+// An earlier row than k is of a kind with that id and that number in column 2. Along all rows that share the chain: to test kind and id first, as the walk of
+// the rows of a name does, took 1.21 of the time over 800 speeds of one activity (docs/SPEED.md).
 fn has_earlier_pair(
     rows: &[i64],
     table: &KindTable,
