@@ -11,7 +11,6 @@ use derived_times::Bookings;
 use model::Sheet;
 use overlap::Overlap;
 use owners::{LinkIndex, Owners};
-use refusals::Verdict;
 use resource_timing::{ActivityDuration, Derived, Piece, ResourceTiming, Timed};
 use rounding::TooLarge;
 use rows::Kind;
@@ -81,15 +80,8 @@ fn derived_are(rows: &Owners, held: &[u8; 800], expected: &[i64]) -> bool
     rest.is_empty()
 }
 
-fn is_verdict(v: Verdict, number: u64, place: u64) -> bool {
-    match v {
-        Ok(()) => number == 0,
-        Err(e) => number == e.reason.number() && place == e.place as u64,
-    }
-}
-
 // A line `DNUMBER,PLACE`: whether the derived times of the rows, and refusal 6, come out so.
-fn sheet_case(rows: &[i64], expected: &[i64], number: u64, place: u64) -> bool {
+fn sheet_case(rows: &[i64], expected: &[i64], judging: &[i64]) -> bool {
     let mut kinds = [0u16; 3680];
     let mut links = [0u16; 1600];
     let mut owned = [0u16; 8810];
@@ -100,7 +92,7 @@ fn sheet_case(rows: &[i64], expected: &[i64], number: u64, place: u64) -> bool {
     let owners = sheet.owners();
     let held = pieces::held_of(&sheet.by_kind(), &owners);
     let need = derived_times::needs_of(&owners, &held);
-    is_verdict(derived_times::refused(rows, &need), number, place)
+    stored_run::verdict_passes(judging, derived_times::refused(rows, &need))
         && derived_are(&owners, &held, expected)
 }
 
@@ -149,14 +141,7 @@ fn overlap_case(bits: u64, lag: i64, start: u64, end: u64, first: i64, last: i64
 
 fn passes(case: &Gathered) -> bool {
     match (case.letter, case.judging) {
-        (b'D', &[number, place]) => {
-            sheet_case(
-                case.numbers,
-                case.expected,
-                rows::nat(number),
-                rows::nat(place),
-            )
-        }
+        (b'D', judging) => sheet_case(case.numbers, case.expected, judging),
         (b'P', &[ms, time]) => product_case(case.numbers, natural(ms), time),
         (b'S', &[ms, work, whole, time]) => {
             is_time(
