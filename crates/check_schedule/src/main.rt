@@ -29,6 +29,7 @@ fn print_text(text: &[u8], out: &mut [u8]) -> usize
     text_program::print_text(text, out, print_sheet)
 }
 
+// What margins does as well, text_program does. Its main names other words and other room: a function of both would be handed each of them, and do no more.
 fn main(rt: HostRuntime) {
     let usage = b"usage: check_schedule < SHEET (it takes no argument)";
     if program_io::arguments(&rt, 0, usage).is_err() {

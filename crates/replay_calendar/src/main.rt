@@ -18,10 +18,6 @@ fn instant(z: i64) -> u64 {
     }
 }
 
-fn number_at(numbers: &[i64], i: usize) -> i64 {
-    numbers.get(i).copied().unwrap_or(0)
-}
-
 // The numbers, three by three, as windows, in arrays since programs have no heap.
 fn windows_of(numbers: &[i64]) -> [TimeWindow; 800] {
     let none = TimeWindow {
@@ -30,11 +26,11 @@ fn windows_of(numbers: &[i64]) -> [TimeWindow; 800] {
         end: 0,
     };
     let mut windows = [none; 800];
-    for (i, w) in windows.iter_mut().enumerate() {
+    for (w, &[kind, start, end]) in windows.iter_mut().zip(numbers.as_chunks::<3>().0) {
         *w = TimeWindow {
-            kind: WindowKind::from(instant(number_at(numbers, 3 * i))),
-            start: instant(number_at(numbers, 3 * i + 1)),
-            end: instant(number_at(numbers, 3 * i + 2)),
+            kind: WindowKind::from(instant(kind)),
+            start: instant(start),
+            end: instant(end),
         };
     }
     windows
@@ -43,10 +39,10 @@ fn windows_of(numbers: &[i64]) -> [TimeWindow; 800] {
 // The numbers of a line that judges, two by two, as the places of calendars.
 fn places_of(numbers: &[i64]) -> [Places; 8] {
     let mut places = [Places { from: 0, to: 0 }; 8];
-    for (i, p) in places.iter_mut().enumerate() {
+    for (p, &[from, to]) in places.iter_mut().zip(numbers.as_chunks::<2>().0) {
         *p = Places {
-            from: rows::nat(number_at(numbers, 2 * i)) as usize,
-            to: rows::nat(number_at(numbers, 2 * i + 1)) as usize,
+            from: rows::nat(from) as usize,
+            to: rows::nat(to) as usize,
         };
     }
     places

@@ -11,7 +11,6 @@ use model::{Sheet, SheetIndex};
 use overlap::Overlap;
 use owners::LinkIndex;
 use pieces::MarkedRows;
-use refusals::Verdict;
 use resource_timing::{ActivityDuration, Derived, Piece, ResourceTiming, Timed};
 use rounding::TooLarge;
 use rows::Kind;
@@ -82,16 +81,9 @@ fn derived_are(rows: &MarkedRows, expected: &[i64]) -> bool
     rest.is_empty()
 }
 
-fn is_verdict(v: Verdict, number: u64, place: u64) -> bool {
-    match v {
-        Ok(()) => number == 0,
-        Err(e) => number == e.reason.number() && place == e.place as u64,
-    }
-}
-
 // A line `DNUMBER,PLACE`: whether the derived times of the rows, and refusal 6, come out so.
 #[tactic(auto, using(model::proofs::Accepting::accepted))]
-fn sheet_case(rows: &[i64], expected: &[i64], number: u64, place: u64) -> bool {
+fn sheet_case(rows: &[i64], expected: &[i64], judging: &[i64]) -> bool {
     let mut index = SheetIndex::new();
     let Ok(()) = validation::index(rows, &mut index) else {
         return false;
@@ -101,7 +93,8 @@ fn sheet_case(rows: &[i64], expected: &[i64], number: u64, place: u64) -> bool {
     let held = pieces::held_of(&sheet.by_kind(), &owners);
     let marked = MarkedRows::new(owners, &held);
     let need = derived_times::needs_of(&marked);
-    is_verdict(derived_times::refused(rows, &need), number, place) && derived_are(&marked, expected)
+    stored_run::verdict_passes(judging, derived_times::refused(rows, &need))
+        && derived_are(&marked, expected)
 }
 
 // ---- a process at a product of speeds, a share of a fixed time
@@ -149,14 +142,7 @@ fn overlap_case(bits: u64, lag: i64, start: u64, end: u64, first: i64, last: i64
 
 fn passes(case: &Gathered) -> bool {
     match (case.letter, case.judging) {
-        (b'D', &[number, place]) => {
-            sheet_case(
-                case.numbers,
-                case.expected,
-                rows::nat(number),
-                rows::nat(place),
-            )
-        }
+        (b'D', judging) => sheet_case(case.numbers, case.expected, judging),
         (b'P', &[ms, time]) => product_case(case.numbers, natural(ms), time),
         (b'S', &[ms, work, whole, time]) => {
             is_time(
