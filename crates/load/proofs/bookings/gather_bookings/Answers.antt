@@ -11,9 +11,9 @@ loop-k-init c =
     let h = c.of_kind-k-items.ensures.places in
     (left_start _ _ e h, gathered_start _ _ e h c.clear.ensures, rw c.clear.ensures (omega (arith, left_few _ _ e h, c.of_kind-k-items.ensures.known.1)))
 
-pub loop-k-preserved-then-has : goal.loop-k-preserved-then-has
+pub loop-k-preserved-then-is_at : goal.loop-k-preserved-then-is_at
 unfolding of_kind
-loop-k-preserved-then-has c =
+loop-k-preserved-then-is_at c =
     let e = c.in-Some.ensures.steps in
     let w = c.loop-k.invariant in (
       left_next _ _ e w.0,
