@@ -24,8 +24,10 @@ pub fn gather_bookings(rows: &Sheet, x: u64, bookings: &mut Bookings)
     ensures behind { behind bookings.new ≡ past (length (bookings_on (sheet rows.now) x)) (whole bookings.old) }
 {
     bookings.clear();
+    // out here, so that how many rows there are is not asked again for each booking
+    let cells = rows.as_slice();
     for k in rows.of_kind(Kind::Booking) {
-        if rows.has(k, 3, x) {
+        if rows::is_at(cells, k, 3, x) {
             bookings.push(Booking::at(rows, k));
         }
     }

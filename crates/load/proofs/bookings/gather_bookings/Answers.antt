@@ -17,9 +17,9 @@ loop-k-init c =
       past_first _ l c.clear.ensures.behind,
     )
 
-pub loop-k-preserved-then-has : goal.loop-k-preserved-then-has
+pub loop-k-preserved-then-is_at : goal.loop-k-preserved-then-is_at
 unfolding of_kind
-loop-k-preserved-then-has c =
+loop-k-preserved-then-is_at c =
     let e = c.in-Some.ensures.steps in
     let w = c.loop-k.invariant in (
       left_next _ _ e w.0,
