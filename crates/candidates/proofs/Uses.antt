@@ -5,11 +5,11 @@ use mathlib.Core.Bool.{Bool, true, false, cond, not, ◌&&◌}
 use mathlib.Core.List.{List, [], ◌∷◌, ◌++◌}
 use Rattle.std.specs.Prelude.{Option, None, Some}
 use lib.IntN.{ℤ}
-use Rattle.loops.specs.Lists.{given, keep, head, option, any_of, among, is_empty}
+use Rattle.loops.specs.Lists.{given, keep, head, option, among, is_empty}
 use Rattle.loops.specs.Search.{some_if, first_place, any_below}
 use Rattle.loops.proofs.ListLaws.{keep_collect, head_collect}
 use Rattle.chains.specs.Places.{places}
-use Rattle.chains.proofs.PlaceLaws.{any_places, keep_places, head_places}
+use Rattle.chains.proofs.PlaceLaws.{keep_places, head_places}
 use Rattle.rows.specs.Cells.{row_count, num, is}
 use Rattle.sheet.specs.Places.{place_of}
 use Rattle.sheet.specs.Refusals.{refusal_of}
@@ -25,22 +25,18 @@ use Rattle.model.proofs.Requiring.{requirement_row, requirement_none, candidates
 -- ---- candidates
 
 module _ (rows : List ℤ) (q : ℕ) (l : q < row_count rows) (h : is rows q 0 5 ≡ true) where
-  pub listed_are : (id : ℕ) {w : List ℕ} → w ≡ places (owned_by rows q 6) (row_count rows)
-      → any_of (λ k. is rows k 3 id) w ≡ among id (candidates (sheet rows) (requirement_of rows q))
+  listed_are : (id : ℕ) → any_below (λ k. owned_by rows q 6 k && is rows k 3 id) (row_count rows) ≡ among id (candidates (sheet rows) (requirement_of rows q))
   unfolding is
-  listed_are id e =
-      ap (any_of (λ k. is rows k 3 id)) e
-      ∙ any_places (owned_by rows q 6) (λ k. is rows k 3 id) (row_count rows)
-      ∙ sym (ap (among id) (candidates_are rows q l h) ∙ among_given (owned_by rows q 6) (λ k. num rows k 3) id (row_count rows))
+  listed_are id = sym (ap (among id) (candidates_are rows q l h) ∙ among_given (owned_by rows q 6) (λ k. num rows k 3) id (row_count rows))
 
   none_listed : is_empty (candidates (sheet rows) (requirement_of rows q)) ≡ not (any_below (owned_by rows q 6) (row_count rows))
   none_listed = ap is_empty (candidates_are rows q l h) ∙ none_given (owned_by rows q 6) (λ k. num rows k 3) (row_count rows)
 
   -- it lists some
   pub by_list : (k : ℕ) → any_below (owned_by rows q 6) (row_count rows) ≡ true
-      → is_candidate (sheet rows) (requirement_of rows q) (resource_of rows k) ≡ among (num rows k 1) (candidates (sheet rows) (requirement_of rows q))
+      → is_candidate (sheet rows) (requirement_of rows q) (resource_of rows k) ≡ any_below (λ j. owned_by rows q 6 j && is rows j 3 (num rows k 1)) (row_count rows)
   unfolding is_candidate
-  by_list k e = let t : is_empty (candidates (sheet rows) (requirement_of rows q)) ≡ false = none_listed ∙ ap not e in rw t refl
+  by_list k e = let t : is_empty (candidates (sheet rows) (requirement_of rows q)) ≡ false = none_listed ∙ ap not e in rw t (sym (listed_are (num rows k 1)))
 
   -- it lists none
   pub by_type : (k : ℕ) → any_below (owned_by rows q 6) (row_count rows) ≡ false

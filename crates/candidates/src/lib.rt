@@ -1,26 +1,27 @@
 // Which resources a requirement takes, and what an activity uses of a resource: `is_candidate` and `usage_on` of models/activity.rs.
 #![tactic(auto)]
 
-ghost use Rattle.std.specs.Prelude.{◌≡◌, true, ◌<◌, ◌≤◌, None, Some};
-ghost use Rattle.loops.specs.Lists.{among};
+ghost use Rattle.std.specs.Prelude.{◌≡◌, true, ◌&&◌, ◌<◌, ◌≤◌, None, Some};
+ghost use Rattle.loops.specs.Search.{any_below};
+ghost use Rattle.rows.specs.Kinds.{kind_number};
 ghost use Rattle.rows.specs.Cells.{row_count, num, is};
 ghost use Rattle.sheet.specs.Places.{place_of};
 ghost use Rattle.sheet.specs.Refusals.{refusal_of};
 ghost use Rattle.model.specs.Sheet.{sheet};
-ghost use Rattle.model.specs.Activity.{candidates, is_candidate, usage_on};
+ghost use Rattle.owners.specs.inner.Owners.{owned_by};
+ghost use Rattle.model.specs.Activity.{is_candidate, usage_on};
 ghost use Rattle.model.specs.inner.Records.{activity_of, requirement_of, resource_of};
 
 use owners::{ByOwner, OwnerIndex};
 use rows::Kind;
 use sheet::Rows;
 
-// Whether the requirement of row q lists the resource as a candidate.
-fn is_listed(rows: &ByOwner, q: usize, id: u64) -> bool
-    requires { (q < row_count rows.now) × (is rows.now q 0 5 ≡ true) }
-    ensures { result ≡ among id (candidates (sheet rows.now) (requirement_of rows.now q)) }
+// Whether a row of a kind that belongs to row o has x in column c.
+pub fn lists(rows: &ByOwner, o: usize, kind: Kind, c: usize, x: u64) -> bool
+    requires { o ≤ row_count rows.now }
+    ensures { result ≡ any_below (λ k. owned_by rows.now o (kind_number kind) k && is rows.now k c x) (row_count rows.now) }
 {
-    rows.owned_by(q, Kind::Candidate)
-        .any(|i| rows.has(i, 3, id))
+    rows.owned_by(o, kind).any(|k| rows.has(k, c, x))
 }
 
 // Whether the resource of row k may fill the requirement of row q: one of its candidates or, where it lists none, one of its type.
@@ -30,7 +31,7 @@ pub fn is_candidate(rows: &ByOwner, q: usize, k: usize) -> bool
     ensures { result ≡ is_candidate (sheet rows.now) (requirement_of rows.now q) (resource_of rows.now k) }
 {
     if rows.has_owned(q, Kind::Candidate) {
-        return is_listed(rows, q, rows.num(k, 1));
+        return lists(rows, q, Kind::Candidate, 3, rows.num(k, 1));
     }
     rows.has(k, 2, rows.num(q, 2))
 }

@@ -45,7 +45,7 @@ fn has_skill(rows: &Owners, r: usize, skill: u64) -> bool
     requires { r ≤ row_count rows.now }
     ensures { result ≡ has_skill rows.now r skill }
 {
-    rows.owned_by(r, Kind::Skill).any(|k| rows.has(k, 2, skill))
+    candidates::lists(&rows.by_owner(), r, Kind::Skill, 2, skill)
 }
 
 // The skills that the requirement at row q asks for and the resource x, of row r, lacks.

@@ -8,17 +8,19 @@ ghost use Rattle.loops.specs.Lists.{any_of};
 ghost use Rattle.loops.specs.Search.{any_below};
 ghost use Rattle.chains.specs.Places.{places};
 ghost use Rattle.calendar.specs.Clock.{clock};
-ghost use Rattle.rows.specs.Cells.{row_count, num, is};
-ghost use Rattle.sheet.specs.inner.Accepted.{Accepted};
+ghost use Rattle.rows.specs.Cells.{row_count, num};
 ghost use Rattle.owners.specs.inner.Owners.{owned_by};
 ghost use Rattle.model.specs.Sheet.{sheet};
 ghost use Rattle.model.specs.Resource.{transport_between};
 ghost use Rattle.definition.specs.CheckPrecedence.{runs_on_all, pieces_of};
 ghost use Rattle.check7_early_piece.specs.inner.Reached.{starts_at, unreached_at};
 
+mod activity_pair;
+
+pub use activity_pair::ActivityPair;
 use owners::{OwnerIndex, Owners};
 use rows::Kind;
-use sheet::{ByKind, Rows};
+use sheet::Rows;
 
 // Whether row j is a booking of booking k's piece that starts before an instant.
 #[tactic(auto, unfolding(crate::specs::inner::Reached::starts_at))]
@@ -37,38 +39,33 @@ fn starts_before(rows: &Owners, o: usize, k: usize, bound: u64) -> bool
         .any(|j| starts_at(rows.as_slice(), k, j, bound))
 }
 
-// Whether booking k's piece starts before the work, done at `from` by the activity of row `before`, is moved to booking k's resource.
+// Whether booking k's piece starts before the work, done at `from` by the activity before, is moved to booking k's resource.
 #[tactic(auto, using(crate::proofs::Judged::unreached_told))]
-fn unreached_at(rows: &Owners, before: usize, after: usize, from: u64, k: usize) -> bool
-    requires { Accepted rows.now × (before < row_count rows.now) × (is rows.now before 0 2 ≡ true) × (after ≤ row_count rows.now) × (from ≤ 4000000000000) × (owned_by rows.now after 23 k ≡ true) }
-    ensures { result ≡ unreached_at rows.now (num rows.now before 1) from k }
+fn unreached_at(pair: &ActivityPair, from: u64, k: usize) -> bool
+    requires { (from ≤ 4000000000000) × (owned_by pair.now.rows pair.now.after 23 k ≡ true) }
+    ensures { result ≡ unreached_at pair.now.rows (num pair.now.rows pair.now.before 1) from k }
 {
-    let moved = check7_transport::moved_to(rows, before, rows.num(k, 3));
-    starts_before(rows, after, k, from + moved)
+    let moved = check7_transport::moved_to(&pair.rows, pair.before, pair.rows.num(k, 3));
+    starts_before(&pair.rows, pair.after, k, from + moved)
 }
 
-// Whether a piece of the activity of row `after`, which is booked, starts before the work reaches it.
-fn any_unreached(rows: &Owners, before: usize, after: usize, from: u64) -> bool
-    requires { Accepted rows.now × (before < row_count rows.now) × (is rows.now before 0 2 ≡ true) × (after ≤ row_count rows.now) × (from ≤ 4000000000000) }
-    ensures { result ≡ any_of (unreached_at rows.now (num rows.now before 1) from) (places (owned_by rows.now after 23) (row_count rows.now)) }
+// Whether a piece of the activity after, which is booked, starts before the work reaches it.
+fn any_unreached(pair: &ActivityPair, from: u64) -> bool
+    requires { from ≤ 4000000000000 }
+    ensures { result ≡ any_of (unreached_at pair.now.rows (num pair.now.rows pair.now.before 1) from) (places (owned_by pair.now.rows pair.now.after 23) (row_count pair.now.rows)) }
 {
-    rows.owned_by(after, Kind::Booking)
-        .any(|k| unreached_at(rows, before, after, from, k))
+    pair.rows
+        .owned_by(pair.after, Kind::Booking)
+        .any(|k| unreached_at(pair, from, k))
 }
 
-// Whether a piece of the activity of row `after` starts before the work, done at `from` by the activity of row `before`, reaches it.
-pub fn piece_is_early(
-    rows: &ByKind,
-    owners: &Owners,
-    before: usize,
-    after: usize,
-    from: u64,
-) -> bool
-    requires { (owners.now ≡ rows.now) × Accepted rows.now × (before < row_count rows.now) × (is rows.now before 0 2 ≡ true) × (after < row_count rows.now) × (is rows.now after 0 2 ≡ true) × (from ≤ 4000000000000) }
-    ensures { result ≡ any_of (λ p. clock.before p.start (clock.plus (pos from) (pos (transport_between (sheet rows.now) (runs_on_all clock (sheet rows.now) (num rows.now before 1)) p.to)))) (pieces_of clock (sheet rows.now) (num rows.now after 1)) }
+// Whether a piece of the activity after starts before the work, done at `from` by the activity before, reaches it.
+pub fn piece_is_early(pair: &ActivityPair, from: u64) -> bool
+    requires { from ≤ 4000000000000 }
+    ensures { result ≡ any_of (λ p. clock.before p.start (clock.plus (pos from) (pos (transport_between (sheet pair.now.rows) (runs_on_all clock (sheet pair.now.rows) (num pair.now.rows pair.now.before 1)) p.to)))) (pieces_of clock (sheet pair.now.rows) (num pair.now.rows pair.now.after 1)) }
 {
-    if owners.has_owned(after, Kind::Booking) {
-        return any_unreached(owners, before, after, from);
+    if pair.rows.has_owned(pair.after, Kind::Booking) {
+        return any_unreached(pair, from);
     }
-    spans::activity_span(rows, rows.num(after, 1)).is_some_and(|x| x.start < from)
+    spans::activity_span(&pair.kinds, pair.rows.num(pair.after, 1)).is_some_and(|x| x.start < from)
 }

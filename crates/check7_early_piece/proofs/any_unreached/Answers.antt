@@ -9,10 +9,10 @@ use Rattle.check7_early_piece.proofs.any_unreached.Goals as goal
 
 pub any-requires-clause-callable : goal.any-requires-clause-callable
 any-requires-clause-callable c =
-    walk_takes (owned_by c.args.rows.now c.args.after 23) (row_count c.args.rows.now) _ _ (λ x f' k. search rules) (λ x l h. search rules) c.owned_by.ensures.places
+    walk_takes (owned_by c.args.pair.now.rows c.args.pair.now.after 23) (row_count c.args.pair.now.rows) _ _ (λ x f' k. search rules) (λ x l h. search rules) c.owned_by.ensures.places
 
 pub returns : goal.returns
 returns c =
-    let q = unreached_at c.args.rows.now (num c.args.rows.now c.args.before 1) c.args.from in
+    let q = unreached_at c.args.pair.now.rows (num c.args.pair.now.rows c.args.pair.now.before 1) c.args.from in
     walk_any _ _ q (λ x r f' k. search rules) c.any.ensures.ran
     ∙ ap (any_of q) c.owned_by.ensures.places
