@@ -1,5 +1,5 @@
 -- The findings of a booking, put together from what the code asks. Assumes nothing.
-use Prim.Native.Nat.{ℕ, suc, ◌+◌, ◌<◌, ◌≤◌}
+use Prim.Native.Nat.{ℕ, suc, ◌+◌, ◌≤◌}
 use mathlib.Core.Path.{◌≡◌, refl, ap, ap₂, sym, ◌∙◌}
 use mathlib.Core.Bool.{Bool, true, false, cond, or-false}
 use mathlib.Core.List.{List, [], ◌++◌, append-nil, foldl}
@@ -8,7 +8,6 @@ use native.Mathlib.Omega.{arith}
 use native.Mathlib.Numerals.{add-one}
 use lib.Dec.{ltb}
 use lib.IntN.{ℤ, pos, negsuc, ◌-ℤ◌}
-use lib.ListN.{get_or}
 use lib.Signed.{lt_z}
 use borrow.Author.Tests.{le-ltb}
 use Rattle.loops.specs.Lists.{given, each, option, is_some, any_of}
@@ -35,8 +34,6 @@ use Rattle.model.proofs.Finds.{find_task_lem, find_activity_lem}
 use Rattle.definition.specs.Pieces.{is_held, runs_on}
 use Rattle.definition.specs.CheckAssignments.{misplaced, units, uses, early_assignment, check_known, check_assignment, check_assignment_at, check_assignments}
 use Rattle.pieces.specs.inner.Held.{held_at}
-use Rattle.derived_times.specs.inner.Needs.{Needs}
-use Rattle.check1_assignments.specs.inner.Bookings.{Booked}
 
 joined : (a b : List Violation) (t t₁ : Told) {t₂ : Told} → t₁ ≡ tell t a → t₂ ≡ tell t₁ b → t₂ ≡ tell t (a ++ b)
 joined a b t t₁ e f = f ∙ ap (λ x. tell x b) e ∙ tell_append t a b

@@ -1,16 +1,15 @@
 -- The findings of a booking that may pause. Assumes nothing.
 use Prim.Native.Nat.{ℕ, suc, ◌+◌, ◌<◌, ◌≤◌}
 use mathlib.Core.Path.{◌≡◌, refl, ap, ap₂, sym, ◌∙◌}
-use mathlib.Core.Bool.{Bool, true, false, not, cond, ◌||◌}
+use mathlib.Core.Bool.{Bool, true, false, not, ◌||◌}
 use mathlib.Core.List.{List}
 use Rattle.std.specs.Prelude.{None, Some}
 use native.Mathlib.Omega.{arith}
 use native.Mathlib.Numerals.{add-one}
 use native.Mathlib.Decide.{ℕ_discrete}
-use lib.Dec.{eqb, ltb}
+use lib.Dec.{ltb}
 use lib.IntN.{ℤ, pos}
 use lib.ListN.{get_or, set, replicate}
-use Rattle.loops.specs.Lists.{option}
 use Rattle.loops.specs.inner.Chain.{First}
 use Rattle.loops.proofs.Walks.{over}
 use Rattle.calendar.specs.Clock.{clock}
@@ -20,11 +19,9 @@ use Rattle.rows.specs.Cells.{row_count, num, is}
 use Rattle.sheet.specs.Places.{of_kind, place_of}
 use Rattle.sheet.specs.Refusals.{refusal_of}
 use Rattle.model.specs.Sheet.{sheet}
-use Rattle.model.specs.Activity.{find_activity, needed_ms}
+use Rattle.model.specs.Activity.{needed_ms}
 use Rattle.model.specs.inner.Records.{activity_of, assignment_of}
 use Rattle.model.proofs.Accepting.{accepted}
-use Rattle.model.proofs.RowLaws.{assignment_row}
-use Rattle.model.proofs.Finds.{find_activity_lem}
 use Rattle.definition.specs.Pieces.{runs_on}
 use Rattle.definition.specs.CheckCalendars.{piece_calendars}
 use Rattle.derived_times.specs.inner.Needs.{Needs}

@@ -32,8 +32,8 @@ use rows::Kind;
 use sheet::{Found, Rows};
 pub use timed_sheet::TimedSheet;
 
-// 2^53, which no time reaches that is not refused, stands for one that is: with an Option at each row the table of a call would take 6,400 bytes
-// more than the stack that the header states.
+// 2^53, which no time reaches that is not refused, stands for one that is. With an Option at each row, all who read the table after refusal 6 would
+// take apart a case that cannot be there any more.
 const REFUSED: u64 = 9007199254740992;
 
 // ---- timings
