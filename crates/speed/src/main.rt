@@ -19,36 +19,9 @@ use std::io;
 use std::io::Read;
 use text_fields::Parts;
 
-// Room for two lines and many texts: programs have no heap. The promises give the lengths, which is all that lending an array as a slice asks.
-fn no_text() -> [u8; 400000]
-    ensures { 400000 ≡ length result }
-{
-    [0; 400000]
-}
-
-fn no_rows() -> [i64; 8000]
-    ensures { 8000 ≡ length result }
-{
-    [0; 8000]
-}
-
-fn no_findings() -> [i64; 4096]
-    ensures { 4096 ≡ length result }
-{
-    [0; 4096]
-}
-
 // The number that a line spells, 0 where it spells none.
 fn number_of(s: &[u8]) -> u64 {
     rows::nat(text_fields::read_number(s).unwrap_or(0))
-}
-
-// What follows the first n bytes and the line feed after them.
-fn after(s: &[u8], n: usize) -> &[u8] {
-    if n < s.len() {
-        return &s[n + 1..];
-    }
-    &s[..0]
 }
 
 // What is timed.
@@ -182,7 +155,7 @@ fn timed(rows: &Sheet, part: Part, count: u64) -> usize {
         return 0;
     };
     let sheet = TimedSheet::new(rows, &held, &need);
-    let mut out = no_findings();
+    let mut out = [0i64; 4096];
     let mut n = 0;
     for _ in 0..count {
         n = once(&sheet, part, &mut out);
@@ -200,7 +173,7 @@ fn found_of(rows: &[i64], part: Part, count: u64) -> usize {
 
 // 0 where the text is refused.
 fn found_in(text: &[u8], part: Part, count: u64) -> usize {
-    let mut rows = no_rows();
+    let mut rows = [0i64; 8000];
     match text::read_text(text, &mut rows) {
         Ok(n) if n <= 800 => found_of(&rows[..10 * n], part, count),
         _ => 0,
@@ -227,7 +200,8 @@ fn found_by(texts: &[u8], number: u64, count: u64) -> usize {
     found
 }
 
-// Reads until the input ends, a read fails or the room is full, and gives how many bytes were read. Steps of any length, and no index that counts them.
+// Reads until the input ends, a read fails or the room is full, and gives how many bytes were read. Steps of any length, and no index that counts them. Not
+// program_io's reading: that tells why a read failed, and says at a terminal what is awaited, and this program does neither.
 fn read_whole(from: &mut impl Read, room: &mut [u8]) -> usize
     ensures { result ≤ length room.new }
 {
@@ -243,12 +217,14 @@ fn read_whole(from: &mut impl Read, room: &mut [u8]) -> usize
 }
 
 fn main(rt: HostRuntime) -> io::Result<()> {
-    let mut input = no_text();
+    // Room for two lines and many texts: programs have no heap.
+    let mut input = [0u8; 400000];
     let n = read_whole(&mut rt.stdin(), &mut input);
     let read = &input[..n];
     let part = text_fields::first_part(read, b'\n');
-    let rest = after(read, part.len());
+    let rest = read.get(part.len() + 1..).unwrap_or(&[]);
     let count = text_fields::first_part(rest, b'\n');
-    let found = found_by(after(rest, count.len()), number_of(part), number_of(count));
+    let texts = rest.get(count.len() + 1..).unwrap_or(&[]);
+    let found = found_by(texts, number_of(part), number_of(count));
     println!(rt; "{found}")
 }
