@@ -1,5 +1,5 @@
 -- Signed quantities summed as natural numbers, and what is more than their sum. Assumes nothing.
-use Prim.Native.Nat.{ℕ, suc, ◌+◌, ◌-◌, ◌*◌, ◌<◌, ◌≤◌}
+use Prim.Native.Nat.{ℕ, suc, ◌+◌, ◌*◌, ◌<◌, ◌≤◌}
 use mathlib.Core.Path.{◌≡◌, refl, ap, sym, ◌∙◌}
 use mathlib.Core.Bool.{Bool, true, false, cond, ◌&&◌, and-true}
 use mathlib.Core.List.{List, map, foldl}
@@ -7,7 +7,7 @@ use Rattle.std.specs.Prelude.{Some}
 use native.Mathlib.Omega.{arith}
 use native.Mathlib.Decide.{dec_lt}
 use lib.Dec.{eqb, ltb}
-use lib.IntN.{ℤ, pos, negsuc, sub_ℕ, nat_abs, ◌+ℤ◌}
+use lib.IntN.{ℤ, pos, negsuc, nat_abs, ◌+ℤ◌}
 use lib.Signed.{lt_z}
 use mir.Syntax.{w64}
 use mir.Val.{SFits}
@@ -18,7 +18,7 @@ use Rattle.loops.specs.inner.Chain.{only_at}
 use Rattle.chains.specs.Places.{places}
 use Rattle.chains.proofs.PlaceLaws.{foldl_only}
 use Rattle.loops.proofs.BoolLaws.{and_left}
-use Rattle.loops.proofs.IntegerLaws.{mag_abs}
+use Rattle.loops.proofs.IntegerLaws.{mag_abs, left_size}
 use Rattle.loops.proofs.ListLaws.{map_collect, foldl_collect}
 use Rattle.loops.proofs.RangeLaws.{fold_ext}
 use Rattle.rows.specs.Cells.{row_count, cell, num, is}
@@ -38,17 +38,10 @@ use Rattle.check1_assignments.specs.inner.Bookings.{quantities}
 
 -- ---- how large a sum is
 
-sub_size : (a b : ℕ) → nat_abs (sub_ℕ a (suc b)) ≤ a + suc b
-sub_size a b = go (ltb a (suc b))
-  where
-    go : (t : Bool) → nat_abs (cond t (negsuc (suc b - suc a)) (pos (a - suc b))) ≤ a + suc b
-    go true = omega arith
-    go false = omega arith
-
 sum_size : (x y : ℤ) → nat_abs (x +ℤ y) ≤ nat_abs x + nat_abs y
 sum_size (pos a) (pos b) = omega arith
-sum_size (pos a) (negsuc b) = sub_size a b
-sum_size (negsuc a) (pos b) = let h : nat_abs (negsuc a +ℤ pos b) ≤ b + suc a = sub_size b a in omega arith
+sum_size (pos a) (negsuc b) = left_size (pos a) (suc b)
+sum_size (negsuc a) (pos b) = let h : nat_abs (negsuc a +ℤ pos b) ≤ b + suc a = left_size (pos b) (suc a) in omega arith
 sum_size (negsuc a) (negsuc b) = omega arith
 
 number_size : (x : ℤ) → in_class Number x ≡ true → nat_abs x ≤ 1000000

@@ -8,6 +8,7 @@ ghost use Rattle.rows.specs.Cells.{row_count, num, is};
 ghost use Rattle.sheet.specs.Places.{resource_place};
 ghost use Rattle.check4_claims.specs.inner.Claims.{has_skill, candidate_of, lacking_of, claim_of, filled, claims_of, unclaimed_of, claimable, takes, requirement_rows, runs_on_in};
 
+use check4_pieces::Piece;
 use findings::{Findings, Violation, ViolationKind};
 use owners::{LinkIndex, OwnerIndex, Owners};
 use pieces::{HeldMarks, MarkedRows};
@@ -102,37 +103,30 @@ fn claim_at(
 
 // What the requirement at row q claims of the bookings that are marked, and whether it is filled.
 #[tactic(auto, using(model::proofs::OwnedLaws::owned_kind), unfolding(crate::proofs::Claiming::marks_from, crate::proofs::Claiming::told_from))]
-fn fill(
-    rows: &Owners,
-    free: &mut [bool; 800],
-    o: usize,
-    activity: u64,
-    q: usize,
-    found: &mut Findings,
-)
-    requires { (o ≤ row_count rows.now) × (q < row_count rows.now) × (is rows.now q 0 5 ≡ true) × (activity < 9223372036854775808) × (length free.old ≡ 800) }
-    ensures wrote { so_far found.new ≡ tell (so_far found.old) (filled rows.now activity q (unclaimed_of rows.now o free.old)) }
-    ensures left { unclaimed_of rows.now o free.new ≡ (claim_of rows.now q (unclaimed_of rows.now o free.old)).unclaimed }
+fn fill(rows: &Owners, free: &mut [bool; 800], piece: Piece, q: usize, found: &mut Findings)
+    requires { (piece.row ≤ row_count rows.now) × (q < row_count rows.now) × (is rows.now q 0 5 ≡ true) × (length free.old ≡ 800) }
+    ensures wrote { so_far found.new ≡ tell (so_far found.old) (filled rows.now piece.activity q (unclaimed_of rows.now piece.row free.old)) }
+    ensures left { unclaimed_of rows.now piece.row free.new ≡ (claim_of rows.now q (unclaimed_of rows.now piece.row free.old)).unclaimed }
     ensures size { length free.new ≡ 800 }
 {
     let mut units: u64 = 0;
-    for k in rows.owned_by(o, Kind::Booking) {
+    for k in rows.owned_by(piece.row, Kind::Booking) {
         units = claim_at(rows, free, q, units, k, found);
     }
     found.report(
         units < rows.num(q, 3),
-        Violation::of(4, ViolationKind::RequirementUnfilled, activity),
+        Violation::of(4, ViolationKind::RequirementUnfilled, piece.activity),
     );
 }
 
 // The requirements in order, each of what those before it left.
 #[tactic(auto, using(chains::proofs::PlaceLaws::left_all, model::proofs::OwnedLaws::owned_kind, crate::proofs::Claiming::asked, findings::proofs::SinkLaws::emit_none), unfolding(crate::specs::inner::Claims::claims_of))]
-pub fn fill_all(rows: &MarkedRows, o: usize, p: u64, activity: u64, found: &mut Findings)
-    requires { (o ≤ row_count rows.now) × (activity < 9223372036854775808) }
-    ensures { so_far found.new ≡ tell (so_far found.old) (claims_of rows.now activity (requirement_rows rows.now o) (runs_on_in rows.now o p)) }
+pub fn fill_all(rows: &MarkedRows, piece: Piece, found: &mut Findings)
+    requires { piece.row ≤ row_count rows.now }
+    ensures { so_far found.new ≡ tell (so_far found.old) (claims_of rows.now piece.activity (requirement_rows rows.now piece.row) (runs_on_in rows.now piece.row piece.key)) }
 {
-    let mut free = free_in(rows, o, p);
-    for q in rows.owned_by(o, Kind::Requirement) {
-        fill(rows.owners(), &mut free, o, activity, q, found);
+    let mut free = free_in(rows, piece.row, piece.key);
+    for q in rows.owned_by(piece.row, Kind::Requirement) {
+        fill(rows.owners(), &mut free, piece, q, found);
     }
 }

@@ -31,6 +31,8 @@ fn check_resource(rows: &Sheet, x: u64, bookings: &mut Bookings, found: &mut Fin
     found.report(over, Violation::of(5, ViolationKind::CapacityExceeded, x));
 }
 
+// margin_lines walks the same resources to put lines: one function for both would take a closure that writes, and its contract would have to say
+// of each such closure what it writes where.
 #[tactic(auto, using(chains::proofs::PlaceLaws::left_all, crate::proofs::Reported::told_first, crate::proofs::Reported::capacity_told))]
 pub fn check_capacity(rows: &Sheet, found: &mut Findings)
     ensures { so_far found.new ≡ tell (so_far found.old) (check_capacity clock (sheet rows.now)) }

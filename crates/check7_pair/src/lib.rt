@@ -76,6 +76,7 @@ fn report_end(pair: &ActivityPair, earliest: i64, found: &mut Findings)
 }
 
 // The activity after against the one before, which runs for the span `previous`, where row k is the overlap.
+// A span has no bounds by its type: `activity_span` answers for rows of any instants.
 #[tactic(auto, using(crate::proofs::Overlapping::lag_most))]
 fn check_overlapping(pair: &ActivityPair, previous: Span, k: usize, found: &mut Findings)
     requires { (previous.start ≤ 4000000000000) × (previous.end ≤ 4000000000000) × (is pair.now.rows k 0 3 ≡ true) }

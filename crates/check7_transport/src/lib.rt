@@ -45,7 +45,8 @@ pub fn moved_to(rows: &Owners, o: usize, b: u64) -> u64
     t
 }
 
-// The longest move from a resource that the activity of row o is booked on to one that the activity of row p is booked on.
+// The longest move from a resource that the activity of row o is booked on to one that the activity of row p is booked on. One function for this
+// loop and the one above would take a closure and need a clause on all that it answers, for a line less.
 #[tactic(auto, using(crate::proofs::Longest::to_is))]
 pub fn moved_between(rows: &Owners, o: usize, p: usize) -> u64
     requires { Accepted rows.now × (o < row_count rows.now) × (is rows.now o 0 2 ≡ true) × (p < row_count rows.now) × (is rows.now p 0 2 ≡ true) }

@@ -160,7 +160,7 @@ fn place_after(rows: &ByKind, k: usize, place: u64) -> u64
     requires { place < 9223372036854775808 }
     ensures { result ≡ place + length (constraint_at (sheet rows.now) k) }
 {
-    // The kinds of constraints follow one another.
+    // The kinds of constraints follow one another: two comparisons tell all five, which a match would have to list.
     let kind = rows.num(k, 0);
     if kind < Kind::Precedence.number() || Kind::Synchronize.number() < kind {
         return place;

@@ -9,7 +9,7 @@ use Rattle.check4_claims.proofs.fill_all.Given as goal
 
 abbrev pub invariant-loop-q : goal.invariant-loop-q
 invariant-loop-q l =
-    Left (owned_by l.rows l.o 5) (row_count l.rows) l.q-iterator
+    Left (owned_by l.rows l.piece.row 5) (row_count l.rows) l.q-iterator
     × (length l.free ≡ 800)
-    × (tell (so_far l.found) (claims_of l.rows l.activity l.q-iterator (unclaimed_of l.rows l.o l.free))
-    ≡ tell (so_far l.initial.found) (claims_of l.rows l.activity (requirement_rows l.rows l.o) (runs_on_in l.rows l.o l.p)))
+    × (tell (so_far l.found) (claims_of l.rows l.piece.activity l.q-iterator (unclaimed_of l.rows l.piece.row l.free))
+    ≡ tell (so_far l.initial.found) (claims_of l.rows l.piece.activity (requirement_rows l.rows l.piece.row) (runs_on_in l.rows l.piece.row l.piece.key)))
