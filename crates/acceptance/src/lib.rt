@@ -1,7 +1,6 @@
 // Whether a sheet is accepted: refusals 1 to 6. A call begins so that needs no derived time beside them; the check keeps the times, and takes the steps itself.
 #![tactic(auto)]
 
-ghost use Rattle.owners.specs.inner.Filled.{Sized};
 ghost use Rattle.acceptance.specs.inner.Accepting.{Accepting};
 
 use model::{Sheet, SheetIndex};
@@ -11,7 +10,6 @@ use refusals::Verdict;
 // The verdict, and the index of the rows, as `validation::index` leaves it.
 #[tactic(auto, using(model::proofs::Accepting::accepted))]
 pub fn accept(rows: &[i64], index: &mut SheetIndex) -> Verdict
-    requires { Sized index.old }
     ensures { Accepting rows.now index.old result index.new }
 {
     validation::index(rows, index)?;

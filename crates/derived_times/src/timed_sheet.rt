@@ -11,7 +11,7 @@ ghost use Rattle.derived_times.specs.inner.Needs.{Needs};
 
 use chains::ChainTable;
 use model::Sheet;
-use owners::{LinkIndex, OwnerIndex};
+use owners::{LinkIndex, OwnerIndex, RowLinks};
 use pieces::HeldMarks;
 use sheet::{KindIndex, KindTable, Rows};
 use std::marker::Model;
@@ -91,7 +91,7 @@ impl<'a> KindIndex for TimedSheet<'a> {
 }
 
 impl<'a> LinkIndex for TimedSheet<'a> {
-    fn links(&self) -> &[u16; 1600] {
+    fn links(&self) -> &RowLinks {
         self.sheet.links()
     }
 }

@@ -7,7 +7,7 @@ ghost use Rattle.model.specs.inner.Indexed.{Indexed};
 
 use chains::ChainTable;
 pub use owners::SheetIndex;
-use owners::{ByOwner, LinkIndex, OwnerIndex, Owners};
+use owners::{ByOwner, LinkIndex, OwnerIndex, Owners, RowLinks};
 use sheet::{ByKind, KindIndex, KindTable, Rows};
 use std::marker::Model;
 
@@ -84,7 +84,7 @@ impl<'a> KindIndex for Sheet<'a> {
 }
 
 impl<'a> LinkIndex for Sheet<'a> {
-    fn links(&self) -> &[u16; 1600] {
+    fn links(&self) -> &RowLinks {
         self.index.links()
     }
 }

@@ -18,6 +18,7 @@ use Rattle.loops.specs.Search.{count_below}
 use Rattle.loops.proofs.SearchLaws.{count_le, counted_le}
 use Rattle.loops.proofs.PlaceLaws.{or_none_lem}
 use Rattle.owners.specs.declared.Owner.{Owner}
+use Rattle.owners.specs.declared.RowLinks.{RowLinks}
 use Rattle.owners.specs.declared.Owner.TheVariants.{TaskRow, ActivityRow, RequirementRow, ResourceRow, ConstraintRow}
 use Rattle.rows.specs.Cells.{row_count, num, is}
 use Rattle.sheet.specs.Places.{named, place_of, nth_place, is_constraint, constraint_place}
@@ -76,17 +77,12 @@ module _ (rows : List ℤ) {t : List ℕ} where
   number_read {m} h l e q =
       q ∙ stored rows (constraint_place rows m) (e ∙ h.number m l) (λ k r. (nth_at (is_constraint rows) m (row_count rows) k r).0)
 
-  pub own_entry : (k : ℕ) → Linked rows t → k < row_count rows → get_or t k 0 ≡ own_place rows k
+module _ (rows : List ℤ) {t : RowLinks} where
+  pub own_entry : (k : ℕ) → Linked rows t → k < row_count rows → get_or t.owners k 0 ≡ own_place rows k
   own_entry k h l = h.own k l
 
-  pub own_fits : {k : ℕ} → Linked rows t → k < row_count rows → Fits w64 (get_or t k 0)
-  own_fits {k} h l = record { fits = omega (arith, h.short, h.own k l, own_below rows k) }
-
-  pub res_entry : (k : ℕ) → Linked rows t → k < row_count rows → get_or t (800 + k) 0 ≡ res_place rows k
+  pub res_entry : (k : ℕ) → Linked rows t → k < row_count rows → get_or t.resources k 0 ≡ res_place rows k
   res_entry k h l = h.res k l
-
-  pub res_fits : {k : ℕ} → Linked rows t → k < row_count rows → Fits w64 (get_or t (800 + k) 0)
-  res_fits {k} h l = record { fits = omega (arith, h.short, h.res k l, res_below rows k) }
 
 -- ---- the numbers of the constraints
 
@@ -154,44 +150,39 @@ past_end rows m s l = sym (too_few (is_constraint rows) m (row_count rows) (omeg
 -- ---- the links
 
 -- the links of the rows below k; the other places say n still
-pub record Filling (rows : List ℤ) (n k : ℕ) (t : List ℕ) : Type 0 where
-  pub size : length t ≡ 1600
-  pub own : (j : ℕ) → j < k → get_or t j 0 ≡ own_place rows j
-  pub res : (j : ℕ) → j < k → get_or t (800 + j) 0 ≡ res_place rows j
-  pub rest : (j : ℕ) → k ≤ j → j < 800 → (get_or t j 0 ≡ n) × (get_or t (800 + j) 0 ≡ n)
+pub record Filling (rows : List ℤ) (n k : ℕ) (a b : List ℕ) : Type 0 where
+  pub size : (length a ≡ 800) × (length b ≡ 800)
+  pub own : (j : ℕ) → j < k → get_or a j 0 ≡ own_place rows j
+  pub res : (j : ℕ) → j < k → get_or b j 0 ≡ res_place rows j
+  pub rest : (j : ℕ) → k ≤ j → j < 800 → (get_or a j 0 ≡ n) × (get_or b j 0 ≡ n)
 
-pub filling_start : (rows : List ℤ) (n : ℕ) {t : List ℕ} (N : ℕ) → N ≡ 1600 → t ≡ replicate N n → Filling rows n 0 t
-filling_start rows n N a q = rw (q, a) (record {
-  size = length-replicate {A = ℕ} 1600 n;
+pub filling_start : (rows : List ℤ) (n : ℕ) {a b : List ℕ} → a ≡ replicate 800 n → b ≡ replicate 800 n → Filling rows n 0 a b
+filling_start rows n e f = rw (e, f) (record {
+  size = (length-replicate {A = ℕ} 800 n, length-replicate {A = ℕ} 800 n);
   own = λ j l. absurd (omega arith);
   res = λ j l. absurd (omega arith);
-  rest = λ j l u. (get_or-replicate {A = ℕ} 1600 j n 0 (omega arith), get_or-replicate {A = ℕ} 1600 (800 + j) n 0 (omega arith));
+  rest = λ j l u. (get_or-replicate {A = ℕ} 800 j n 0 u, get_or-replicate {A = ℕ} 800 j n 0 u);
 })
 
-pub filling_turn : (rows : List ℤ) (n k : ℕ) {a b : ℕ} {t t' : List ℕ} → Filling rows n k t → a ≡ own_place rows k → b ≡ res_place rows k → k < n → n ≡ row_count rows
-    → row_count rows ≤ 800 → t' ≡ set (set t k a) (800 + k) b → Filling rows n (k + 1) t'
-filling_turn rows n k {a} {b} {t} {t'} h e f l d u q = record {
-  size = ap length q ∙ length-set (set t k a) (800 + k) b ∙ length-set t k a ∙ h.size;
-  own = λ j z. rw q (get_or-set_other (set t k a) (800 + k) j b 0 (λ w. omega arith) ∙ owns j z (ℕ_discrete j k));
-  res = λ j z. rw q (ress j z (ℕ_discrete j k));
-  rest = λ j z v. rw q (
-    kept j (λ w. omega arith) (λ w. omega arith) ∙ (h.rest j (omega arith) v).0,
-    kept (800 + j) (λ w. omega arith) (λ w. omega arith) ∙ (h.rest j (omega arith) v).1,
-  );
-}
+stored_at : (f : ℕ → ℕ) (k x : ℕ) (t : List ℕ) → length t ≡ 800 → k < 800 → x ≡ f k → ((j : ℕ) → j < k → get_or t j 0 ≡ f j) → (j : ℕ) → j < k + 1 → get_or (set t k x) j 0 ≡ f j
+stored_at f k x t s l e h j z = go (ℕ_discrete j k)
   where
-    kept : (j : ℕ) → (j ≡ 800 + k → ⊥) → (j ≡ k → ⊥) → get_or (set (set t k a) (800 + k) b) j 0 ≡ get_or t j 0
-    kept j u w = get_or-set_other (set t k a) (800 + k) j b 0 u ∙ get_or-set_other t k j a 0 w
+    go : Dec (j ≡ k) → get_or (set t k x) j 0 ≡ f j
+    go (yes w) = rw w (get_or-set_same t k x 0 (omega arith) ∙ e)
+    go (no w) = get_or-set_other t k j x 0 w ∙ h j (omega arith)
 
-    owns : (j : ℕ) → j < k + 1 → Dec (j ≡ k) → get_or (set t k a) j 0 ≡ own_place rows j
-    owns j z (yes w) = rw w (get_or-set_same t k a 0 (omega (arith, h.size)) ∙ e)
-    owns j z (no w) = get_or-set_other t k j a 0 w ∙ h.own j (omega arith)
+pub filling_turn : (rows : List ℤ) (n k : ℕ) {x y : ℕ} {a a' b b' : List ℕ} → Filling rows n k a b → x ≡ own_place rows k → y ≡ res_place rows k → k < n → n ≡ row_count rows
+    → row_count rows ≤ 800 → a' ≡ set a k x → b' ≡ set b k y → Filling rows n (k + 1) a' b'
+filling_turn rows n k {x} {y} {a} {a'} {b} {b'} h e f l d u q r = rw (q, r) (record {
+  size = (length-set a k x ∙ h.size.0, length-set b k y ∙ h.size.1);
+  own = stored_at (own_place rows) k x a h.size.0 (omega arith) e h.own;
+  res = stored_at (res_place rows) k y b h.size.1 (omega arith) f h.res;
+  rest = λ j z v.
+      let w = h.rest j (omega arith) v in
+      (get_or-set_other a k j x 0 (λ m. omega arith) ∙ w.0, get_or-set_other b k j y 0 (λ m. omega arith) ∙ w.1);
+})
 
-    ress : (j : ℕ) → j < k + 1 → Dec (j ≡ k) → get_or (set (set t k a) (800 + k) b) (800 + j) 0 ≡ res_place rows j
-    ress j z (yes w) = rw w (get_or-set_same (set t k a) (800 + k) b 0 (omega (arith, length-set t k a, h.size)) ∙ f)
-    ress j z (no w) = kept (800 + j) (λ y. w (omega arith)) (λ y. omega arith) ∙ h.res j (omega arith)
-
-pub filling_end : (rows : List ℤ) (n k : ℕ) (t : List ℕ) → n ≤ k → k ≤ n → n ≡ row_count rows → row_count rows ≤ 800 → Filling rows n k t → Linked rows t
+pub filling_end : (rows : List ℤ) (n k : ℕ) (t : RowLinks) → n ≤ k → k ≤ n → n ≡ row_count rows → row_count rows ≤ 800 → Filling rows n k t.owners t.resources → Linked rows t
 filling_end rows n k t l u e s h = record {
   short = s;
   own = λ j z. h.own j (omega arith);

@@ -2,6 +2,7 @@
 ghost use Rattle.std.specs.Prelude.{◌≡◌, ◌≤◌};
 ghost use Rattle.owners.specs.inner.Owners.{Linked, Owned};
 
+use crate::RowLinks;
 use chains::{Chain, ChainTable, Walk};
 use rows::Kind;
 use sheet::{Found, Rows};
@@ -16,7 +17,7 @@ pub trait LinkIndex: Rows {
     ghost use Rattle.owners.specs.declared.Owner.{Owner};
     ghost use Rattle.owners.specs.inner.Owners.{owner_kind, own_place, Linked};
 
-    fn links(&self) -> &[u16; 1600]
+    fn links(&self) -> &RowLinks
         ensures { Linked (Self.rows self.now) result.now };
 
     // The row that row k belongs to, or the number of rows.
@@ -124,7 +125,7 @@ pub trait OwnerIndex: Rows {
 #[derive(Drop)]
 pub struct OwnerLinks<'a> {
     rows: &'a [i64],
-    table: &'a [u16; 1600],
+    table: &'a RowLinks,
 }
 
 impl<'a> Model for OwnerLinks<'a> {
@@ -139,7 +140,7 @@ impl<'a> Model for OwnerLinks<'a> {
 }
 
 impl<'a> OwnerLinks<'a> {
-    pub fn new(rows: &'a [i64], table: &'a [u16; 1600]) -> OwnerLinks<'a>
+    pub fn new(rows: &'a [i64], table: &'a RowLinks) -> OwnerLinks<'a>
         requires { Linked rows.now table.now }
         ensures { result ≡ rows.now }
     {
@@ -161,7 +162,7 @@ impl<'a> Rows for OwnerLinks<'a> {
 }
 
 impl<'a> LinkIndex for OwnerLinks<'a> {
-    fn links(&self) -> &[u16; 1600] {
+    fn links(&self) -> &RowLinks {
         self.table
     }
 }
@@ -216,7 +217,7 @@ impl<'a> OwnerIndex for ByOwner<'a> {
 #[derive(Drop)]
 pub struct Owners<'a> {
     rows: &'a [i64],
-    links: &'a [u16; 1600],
+    links: &'a RowLinks,
     owned: &'a ChainTable<8810>,
 }
 
@@ -232,7 +233,7 @@ impl<'a> Model for Owners<'a> {
 }
 
 impl<'a> Owners<'a> {
-    pub fn new(rows: &'a [i64], links: &'a [u16; 1600], owned: &'a ChainTable<8810>) -> Owners<'a>
+    pub fn new(rows: &'a [i64], links: &'a RowLinks, owned: &'a ChainTable<8810>) -> Owners<'a>
         requires { Linked rows.now links.now × Owned rows.now owned.now }
         ensures { result ≡ rows.now }
     {
@@ -261,7 +262,7 @@ impl<'a> Rows for Owners<'a> {
 }
 
 impl<'a> LinkIndex for Owners<'a> {
-    fn links(&self) -> &[u16; 1600] {
+    fn links(&self) -> &RowLinks {
         self.links
     }
 }

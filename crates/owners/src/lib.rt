@@ -146,43 +146,75 @@ fn res_place(rows: &ByKind, k: usize) -> usize
     rows.row_count()
 }
 
-fn set_links(t: &mut [u16; 1600], k: usize, own: usize, res: usize)
-    requires { (k < 800) × (own ≤ 800) × (res ≤ 800) }
-    ensures { t.new ≡ set (set t.old k own) (800 + k) res }
-{
-    t[k] = own as u16;
-    t[800 + k] = res as u16;
+// The row that each row belongs to, and the row of each booking's resource.
+#[derive(Drop)]
+pub struct RowLinks {
+    owners: [u16; 800],
+    resources: [u16; 800],
 }
 
-// Fills the table of owners: the row that row k belongs to at place k, the row of a booking's resource at place 800 + k.
-pub fn links_into(rows: &ByKind, t: &mut [u16; 1600])
-    requires { length t.old ≡ 1600 }
+impl RowLinks {
+    // Of no sheet yet.
+    pub fn new() -> RowLinks
+        ensures owners { result.owners ≡ replicate 800 0 }
+        ensures resources { result.resources ≡ replicate 800 0 }
+    {
+        RowLinks {
+            owners: [0u16; 800],
+            resources: [0u16; 800],
+        }
+    }
+
+    // The number of rows, which stands for none.
+    fn clear(&mut self, n: usize)
+        requires { n ≤ 800 }
+        ensures owners { self.new.owners ≡ replicate 800 n }
+        ensures resources { self.new.resources ≡ replicate 800 n }
+    {
+        self.owners.fill(n as u16);
+        self.resources.fill(n as u16);
+    }
+
+    fn set(&mut self, k: usize, owner: usize, resource: usize)
+        requires { (k < 800) × (owner ≤ 800) × (resource ≤ 800) }
+        ensures owners { self.new.owners ≡ set self.old.owners k owner }
+        ensures resources { self.new.resources ≡ set self.old.resources k resource }
+    {
+        self.owners[k] = owner as u16;
+        self.resources[k] = resource as u16;
+    }
+}
+
+// Fills the table of owners.
+pub fn links_into(rows: &ByKind, t: &mut RowLinks)
     ensures { Linked rows.now t.new }
 {
     let cells = rows.as_slice();
     let n = rows::row_count(cells);
     let mut numbers = [n as u16; 800];
     number_rows(cells, &mut numbers);
-    t.fill(n as u16);
+    t.clear(n);
     for k in 0..n {
-        set_links(t, k, own_place(rows, &numbers, k), res_place(rows, k));
+        t.set(k, own_place(rows, &numbers, k), res_place(rows, k));
     }
 }
 
 // The row that row k belongs to, or the number of rows.
-fn owner_of(rows: &[i64], links: &[u16; 1600], k: usize) -> usize
+#[tactic(auto, using(crate::proofs::Tables::own_entry))]
+fn owner_of(rows: &[i64], links: &RowLinks, k: usize) -> usize
     requires { Linked rows.now links.now × (k < row_count rows.now) }
     ensures { result ≡ own_place rows.now k }
 {
-    links[k] as usize
+    usize::from(links.owners[k])
 }
 
 // The row of booking k's resource, or the number of rows.
-fn resource_of(rows: &[i64], links: &[u16; 1600], k: usize) -> usize
+#[tactic(auto, using(crate::proofs::Tables::res_entry))]
+fn resource_of(rows: &[i64], links: &RowLinks, k: usize) -> usize
     requires { Linked rows.now links.now × (k < row_count rows.now) }
     ensures { result ≡ res_place rows.now k }
 {
-    links[800 + k] as usize
+    usize::from(links.resources[k])
 }
 
 // ---- the rows that belong to a row

@@ -1,16 +1,16 @@
 // The index of a sheet: the tables of its rows, as one value. The library has no heap: whoever checks a sheet has them on the stack, and lends them.
 ghost use Rattle.std.specs.Prelude.{◌≡◌, replicate};
 ghost use Rattle.sheet.specs.inner.Index.{Shaped};
-ghost use Rattle.owners.specs.inner.Filled.{Sized, Filled};
+ghost use Rattle.owners.specs.inner.Filled.{Filled};
 
-use crate::{ByOwner, OwnerLinks, Owners};
+use crate::{ByOwner, OwnerLinks, Owners, RowLinks};
 use chains::ChainTable;
 use sheet::{ByKind, KindTable};
 
 #[derive(Drop)]
 pub struct SheetIndex {
     kinds: KindTable,
-    links: [u16; 1600],
+    links: RowLinks,
     owned: ChainTable<8810>,
 }
 
@@ -19,19 +19,20 @@ impl SheetIndex {
     pub fn new() -> SheetIndex
         ensures kinds { result.kinds.kinds ≡ replicate 832 0 }
         ensures names { result.kinds.names ≡ replicate 2848 0 }
-        ensures links { result.links ≡ replicate 1600 0 }
+        ensures owners { result.links.owners ≡ replicate 800 0 }
+        ensures resources { result.links.resources ≡ replicate 800 0 }
         ensures owned { result.owned ≡ replicate 8810 0 }
     {
         SheetIndex {
             kinds: KindTable::new(),
-            links: [0u16; 1600],
+            links: RowLinks::new(),
             owned: ChainTable::new(),
         }
     }
 
     // Fills them for rows that pass refusals 1 to 3.
     pub fn fill(&mut self, rows: &[i64])
-        requires { Shaped rows.now × Sized self.old }
+        requires { Shaped rows.now }
         ensures { Filled rows.now self.new }
     {
         sheet::kinds_into(rows, &mut self.kinds);
@@ -75,7 +76,7 @@ impl SheetIndex {
         &self.kinds
     }
 
-    pub fn links(&self) -> &[u16; 1600]
+    pub fn links(&self) -> &RowLinks
         ensures { result.now ≡ self.now.links }
     {
         &self.links

@@ -3,7 +3,7 @@ ghost use Rattle.std.specs.Prelude.{◌≡◌};
 ghost use Rattle.pieces.specs.inner.Held.{Held};
 
 use chains::ChainTable;
-use owners::{LinkIndex, OwnerIndex, Owners};
+use owners::{LinkIndex, OwnerIndex, Owners, RowLinks};
 use sheet::Rows;
 use std::marker::Model;
 
@@ -73,7 +73,7 @@ impl<'a> Rows for MarkedRows<'a> {
 }
 
 impl<'a> LinkIndex for MarkedRows<'a> {
-    fn links(&self) -> &[u16; 1600] {
+    fn links(&self) -> &RowLinks {
         self.owners.links()
     }
 }

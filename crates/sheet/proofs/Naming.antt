@@ -12,7 +12,6 @@ use Rattle.loops.specs.Search.{any_below}
 use Rattle.loops.specs.inner.Chain.{same, First, Stands, Blind, Links}
 use Rattle.loops.proofs.BoolLaws.{and_left, and_right}
 use Rattle.loops.proofs.ChainLaws.{links_start, links_again, links_next}
-use Rattle.loops.proofs.TableLaws.{seeking_from}
 use Rattle.loops.proofs.Walks.{stands}
 use Rattle.chains.specs.inner.Along.{Along, Rising, Means, Sought}
 use Rattle.chains.proofs.TableWalk.{links_along, links_rising, sought_all, sought_below}

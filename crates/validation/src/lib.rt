@@ -6,7 +6,6 @@ ghost use Rattle.loops.specs.Search.{first};
 ghost use Rattle.rows.specs.Cells.{row_count};
 ghost use Rattle.refusals.specs.declared.Refusal.{Refusal};
 ghost use Rattle.refusals.specs.Refusals.{verdict_of};
-ghost use Rattle.owners.specs.inner.Filled.{Sized};
 ghost use Rattle.sheet.specs.Refusals.{misshapen, column_fault, owner_fault, repeat_fault, refusal_of};
 ghost use Rattle.validation.specs.inner.Answer.{shape_refusal, link_refusal, Tells, Indexing};
 
@@ -62,7 +61,6 @@ fn link_fault(rows: &ByKind, links: &OwnerLinks) -> Verdict
 
 // The verdict on a sheet, and its index: the tables of its rows, also where 4 or 5 refuses it. A sheet that 1, 2 or 3 refuses has none, and leaves what was lent.
 pub fn index(rows: &[i64], index: &mut SheetIndex) -> Verdict
-    requires { Sized index.old }
     ensures { Indexing rows.now index.old result index.new }
 {
     shape_fault(rows)?;

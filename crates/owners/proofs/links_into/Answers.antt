@@ -5,8 +5,8 @@ use Rattle.owners.proofs.links_into.Goals as goal
 pub loop-k-init : goal.loop-k-init
 loop-k-init c = search (rules, filling_start)
 
-pub set_links-requires : goal.set_links-requires
-set_links-requires c = search (rules, own_read, res_read)
+pub set-requires : goal.set-requires
+set-requires c = search (rules, own_read, res_read)
 
 pub loop-k-preserved : goal.loop-k-preserved
 loop-k-preserved c = search (rules, filling_turn)

@@ -1,11 +1,8 @@
 -- What the tables of a sheet's index hold. Assumes nothing.
-use Rattle.std.specs.Prelude.{◌≡◌, List, ℤ, length}
+use Rattle.std.specs.Prelude.{List, ℤ}
 use Rattle.sheet.specs.inner.Index.{Kinds}
 use Rattle.owners.specs.declared.sheet_index.SheetIndex.{SheetIndex}
 use Rattle.owners.specs.inner.Owners.{Linked, Owned}
-
-abbrev pub Sized : SheetIndex → Type 0
-Sized x = length x.links ≡ 1600
 
 -- the tables are those of these rows
 pub record Filled (rows : List ℤ) (x : SheetIndex) : Type 0 where

@@ -10,6 +10,7 @@ use Rattle.rows.specs.Cells.{row_count, num, is}
 use Rattle.sheet.specs.Places.{task_place, activity_place, resource_place, requirement_place, constraint_place}
 use Rattle.sheet.specs.inner.Index.{or_end}
 use Rattle.owners.specs.declared.Owner.{Owner}
+use Rattle.owners.specs.declared.RowLinks.{RowLinks}
 use Rattle.owners.specs.declared.Owner.TheVariants.{TaskRow, ActivityRow, RequirementRow, ResourceRow, ConstraintRow}
 
 -- What a row of a kind belongs to: what the last * column of the kind names. Bookings and time-only spans belong to their activity, if it is in the sheet.
@@ -68,12 +69,12 @@ pub record Numbered (rows : List ℤ) (t : List ℕ) : Type 0 where
   pub short : row_count rows ≤ 800
   pub number : (m : ℕ) → m < 800 → get_or t m 0 ≡ or_end rows (constraint_place rows m)
 
--- the row that row k belongs to at k, the row of its resource at 800 + k; for the k from the number of rows up to 800, that number
-pub record Linked (rows : List ℤ) (t : List ℕ) : Type 0 where
+-- at k the row that row k belongs to and the row of its resource; for the k from the number of rows up to 800, that number
+pub record Linked (rows : List ℤ) (t : RowLinks) : Type 0 where
   pub short : row_count rows ≤ 800
-  pub own : (k : ℕ) → k < row_count rows → get_or t k 0 ≡ own_place rows k
-  pub res : (k : ℕ) → k < row_count rows → get_or t (800 + k) 0 ≡ res_place rows k
-  pub past : (k : ℕ) → row_count rows ≤ k → k < 800 → (get_or t k 0 ≡ row_count rows) × (get_or t (800 + k) 0 ≡ row_count rows)
+  pub own : (k : ℕ) → k < row_count rows → get_or t.owners k 0 ≡ own_place rows k
+  pub res : (k : ℕ) → k < row_count rows → get_or t.resources k 0 ≡ res_place rows k
+  pub past : (k : ℕ) → row_count rows ≤ k → k < 800 → (get_or t.owners k 0 ≡ row_count rows) × (get_or t.resources k 0 ≡ row_count rows)
 
 -- the last digit of the kind keeps the kinds of one owner apart, but for 3 and 23, and 4 and 24
 unfoldable pub owned_key : List ℤ → ℕ → ℕ
