@@ -4,7 +4,7 @@ ghost use Rattle.rows.specs.Cells.{row_count};
 ghost use Rattle.check6_calendars.specs.inner.Lacking.{lacks_time, Lacking};
 
 use model::Sheet;
-use owners::LinkIndex;
+use owners::{LinkIndex, RowLinks};
 use sheet::{KindIndex, KindTable, Rows};
 use std::marker::Model;
 
@@ -73,7 +73,7 @@ impl<'a> KindIndex for LackingSheet<'a> {
 }
 
 impl<'a> LinkIndex for LackingSheet<'a> {
-    fn links(&self) -> &[u16; 1600] {
+    fn links(&self) -> &RowLinks {
         self.sheet.links()
     }
 }
