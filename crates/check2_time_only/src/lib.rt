@@ -1,7 +1,7 @@
 // Check 2, `check_time_only`: the spans of the activities that hold no resource, and the activities among them that have none.
 #![tactic(auto)]
 
-ghost use Rattle.std.specs.Prelude.{◌≡◌, true, ◌<◌, ◌≤◌, map, Some};
+ghost use Rattle.std.specs.Prelude.{◌≡◌, true, ◌<◌, ◌≤◌, map, length, Some};
 ghost use Rattle.loops.specs.Lists.{is_empty, each};
 ghost use Rattle.loops.specs.Range.{collect};
 ghost use Rattle.calendar.specs.Clock.{clock};
@@ -130,8 +130,8 @@ fn task_release(rows: &Sheet, a: usize) -> Option<u64>
 
 // The findings of the first known span, of row k, of the activity of row a, whose windows are laid out in the room.
 #[tactic(auto, using(sheet::proofs::Lookups::place_within, sheet::proofs::Lookups::place_kind))]
-fn check_first(rows: &Sheet, a: usize, k: usize, room: &mut [TimeWindow; 800], found: &mut Findings)
-    requires { (is rows.now k 0 24 ≡ true) × (place_of rows.now 2 (num rows.now k 1) ≡ Some a) }
+fn check_first(rows: &Sheet, a: usize, k: usize, room: &mut [TimeWindow], found: &mut Findings)
+    requires { (is rows.now k 0 24 ≡ true) × (place_of rows.now 2 (num rows.now k 1) ≡ Some a) × (length room.old ≡ 800) }
     ensures { so_far found.new ≡ tell (so_far found.old) (check_first clock (sheet rows.now) (span_of rows.now k) (activity_of rows.now a)) }
 {
     let own = is_early(rows, k, spans::instant_at(rows.as_slice(), a, 8));
@@ -154,8 +154,8 @@ fn check_first(rows: &Sheet, a: usize, k: usize, room: &mut [TimeWindow; 800], f
 
 // The findings of the span of row k. A second span of an activity is one finding and no more.
 #[tactic(auto, using(crate::proofs::Told::unknown_told, crate::proofs::Told::again_told, crate::proofs::Told::here_told, crate::proofs::Spans::known_place, crate::proofs::Spans::known_free, crate::proofs::Spans::known_self))]
-fn check_span(rows: &Sheet, k: usize, room: &mut [TimeWindow; 800], found: &mut Findings)
-    requires { (k < row_count rows.now) × (is rows.now k 0 24 ≡ true) }
+fn check_span(rows: &Sheet, k: usize, room: &mut [TimeWindow], found: &mut Findings)
+    requires { (k < row_count rows.now) × (is rows.now k 0 24 ≡ true) × (length room.old ≡ 800) }
     ensures { so_far found.new ≡ tell (so_far found.old) (check_span_at clock (sheet rows.now) k) }
 {
     match known(rows, k) {

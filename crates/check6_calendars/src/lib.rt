@@ -2,7 +2,7 @@
 // resumable work starts in the joint working time of its piece, and that time within its span covers it.
 #![tactic(auto)]
 
-ghost use Rattle.std.specs.Prelude.{◌≡◌, ◌<◌, ◌≤◌, true, not, ◌||◌, ltb, pos, Some};
+ghost use Rattle.std.specs.Prelude.{◌≡◌, ◌<◌, ◌≤◌, true, not, ◌||◌, ltb, pos, length, Some};
 ghost use Rattle.loops.specs.Lists.{given, each};
 ghost use Rattle.rows.specs.Cells.{row_count, num, is};
 ghost use Rattle.rows.specs.Kinds.{kind_number};
@@ -90,10 +90,10 @@ fn lacks_time(
     a: usize,
     k: usize,
     needed: u64,
-    windows: &mut [TimeWindow; 800],
-    places: &mut [Places; 800],
+    windows: &mut [TimeWindow],
+    places: &mut [Places],
 ) -> bool
-    requires { (k < row_count rows.now) × (is rows.now k 0 23 ≡ true) × (place_of rows.now 2 (num rows.now k 1) ≡ Some a) }
+    requires { (k < row_count rows.now) × (is rows.now k 0 23 ≡ true) × (place_of rows.now 2 (num rows.now k 1) ≡ Some a) × (length windows.old ≡ 800) × (length places.old ≡ 800) }
     ensures { result ≡ (not (joint_working clock (piece_calendars clock (sheet rows.now) (assignment_of rows.now k) (activity_of rows.now a)) (pos (num rows.now k 4))) || ltb (joint_available_ms clock (piece_calendars clock (sheet rows.now) (assignment_of rows.now k) (activity_of rows.now a)) (pos (num rows.now k 4)) (pos (num rows.now k 5))) needed) }
 {
     let laid = check6_joint_calendars::lay_calendars(rows, a, k, windows, places);
@@ -106,10 +106,10 @@ fn lacks_at(
     rows: &Sheet,
     need: &[u64; 800],
     k: usize,
-    windows: &mut [TimeWindow; 800],
-    places: &mut [Places; 800],
+    windows: &mut [TimeWindow],
+    places: &mut [Places],
 ) -> bool
-    requires { Needs rows.now need.now × (k < row_count rows.now) × (is rows.now k 0 23 ≡ true) }
+    requires { Needs rows.now need.now × (k < row_count rows.now) × (is rows.now k 0 23 ≡ true) × (length windows.old ≡ 800) × (length places.old ≡ 800) }
     ensures { result ≡ lacks_time rows.now k }
 {
     let Found::At(_) = rows.booked_resource(k) else {
