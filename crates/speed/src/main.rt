@@ -7,6 +7,8 @@
 // before, every time; part 100 does only that, and its time is to be taken off.
 #![tactic(auto)]
 
+ghost use Rattle.std.specs.Prelude.{◌≤◌, length};
+
 use calendar::{Calendars, Places, TimeWindow, WindowKind, WorkEnd};
 use check6_calendars::LackingSheet;
 use derived_times::TimedSheet;
