@@ -41,11 +41,6 @@ module _ (rows : List ℤ) (p : ℕ) where
 
 -- ---- lists of what is made of each
 
-pub each_map : {A B C : Type 0} (f : B → List C) (g : A → B) (l : List A) → each f (map g l) ≡ each (λ x. f (g x)) l
-unfolding each
-each_map f g [] = refl
-each_map f g (x ∷ l) = ap (λ y. f (g x) ++ y) (each_map f g l)
-
 pub map_each : {A B C : Type 0} (f : B → C) (g : A → List B) (l : List A) → each (λ x. map f (g x)) l ≡ map f (each g l)
 unfolding each
 map_each f g [] = refl

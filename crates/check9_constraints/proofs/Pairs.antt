@@ -11,7 +11,7 @@ use lib.ListN.{length}
 use Rattle.loops.specs.Lists.{given, keep, head, each, option}
 use Rattle.loops.specs.Range.{collect}
 use Rattle.loops.specs.Search.{or_else, some_if, first, first_place}
-use Rattle.loops.proofs.ListLaws.{keep_collect, head_collect, each_ext}
+use Rattle.loops.proofs.ListLaws.{keep_collect, head_collect, each_ext, each_map}
 use Rattle.chains.specs.Places.{places}
 use Rattle.chains.proofs.PlaceLaws.{places_ext, head_places, keep_places}
 use Rattle.calendar.specs.Clock.{clock}
@@ -27,7 +27,7 @@ use Rattle.model.proofs.RowLaws.{assignment_row, assignment_none}
 use Rattle.model.proofs.ConstraintLaws.{overlap_row}
 use Rattle.definition.specs.CheckConstraints.{first_on, overlapping, check_overlaps, check_constraint, check_constraint_at}
 use Rattle.check9_constraints.specs.inner.Bookings.{booked_on, booking_of, bookings_of, overlap_at, overlap_of, pairs_of}
-use Rattle.check9_constraints.proofs.Members.{members_are, each_map, map_each}
+use Rattle.check9_constraints.proofs.Members.{members_are, map_each}
 
 -- row k names the resource
 abbrev pub on : List ℤ → ℕ → ℕ → Bool

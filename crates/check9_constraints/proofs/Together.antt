@@ -12,6 +12,7 @@ use lib.ListN.{length}
 use borrow.Author.Tests.{eq-eqb, ne_eqb}
 use Rattle.loops.specs.Lists.{given, each, option}
 use Rattle.loops.specs.Range.{collect}
+use Rattle.loops.proofs.ListLaws.{each_map}
 use Rattle.chains.specs.Places.{places}
 use Rattle.calendar.specs.Clock.{clock}
 use Rattle.rows.specs.Cells.{row_count, num, is}
@@ -24,7 +25,7 @@ use Rattle.definition.specs.ActivitySpan.{Span, activity_span}
 use Rattle.definition.specs.CheckRequirements.{same_time}
 use Rattle.definition.specs.CheckConstraints as page
 use Rattle.check9_constraints.specs.inner.Starts.{apart, unsynchronized}
-use Rattle.check9_constraints.proofs.Members.{members_are, each_map, length_map}
+use Rattle.check9_constraints.proofs.Members.{members_are, length_map}
 
 eqb_suc : (a b : ℕ) → eqb (suc a) (suc b) ≡ eqb a b
 eqb_suc a b = go (ℕ_discrete a b)

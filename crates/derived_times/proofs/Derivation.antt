@@ -10,7 +10,7 @@ use Rattle.loops.specs.Range.{fold, collect}
 use Rattle.loops.specs.Search.{any_below}
 use Rattle.loops.specs.inner.Chain.{Quiet}
 use Rattle.loops.proofs.BoolLaws.{and_left}
-use Rattle.loops.proofs.ListLaws.{each_keep, each_collect, foldl_collect}
+use Rattle.loops.proofs.ListLaws.{each_keep, each_collect, foldl_collect, each_map}
 use Rattle.loops.proofs.RangeLaws.{fold_rel}
 use Rattle.loops.proofs.PlaceLaws.{any_same}
 use Rattle.chains.specs.Places.{places}
@@ -41,11 +41,6 @@ use Rattle.derived_times.specs.inner.Rows.{columns_of, part_at, timing_of, timin
 use Rattle.derived_times.specs.Times.{derived}
 use Rattle.derived_times.proofs.Finds.{timing_is}
 use Rattle.derived_times.proofs.Parts.{timing_row, row_amounts}
-
-each_map : {A B C : Type 0} (f : B → List C) (g : A → B) (l : List A) → each f (map g l) ≡ each (λ x. f (g x)) l
-unfolding each
-each_map f g [] = refl
-each_map f g (x ∷ l) = ap (λ y. f (g x) ++ y) (each_map f g l)
 
 foldl_map : {A B C : Type 0} (s : C → B → C) (g : A → B) (c : C) (l : List A) → foldl s c (map g l) ≡ foldl (λ d x. s d (g x)) c l
 foldl_map s g c [] = refl

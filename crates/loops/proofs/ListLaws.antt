@@ -36,6 +36,12 @@ unfolding each
 each_ext f g h [] = refl
 each_ext f g h (x ∷ l) = ap₂ ◌++◌ (h x) (each_ext f g h l)
 
+-- of what is made of each
+pub each_map : {A B C : Type 0} (f : B → List C) (g : A → B) (l : List A) → each f (map g l) ≡ each (λ x. f (g x)) l
+unfolding each
+each_map f g [] = refl
+each_map f g (x ∷ l) = ap (λ y. f (g x) ++ y) (each_map f g l)
+
 pub each_each : {A B C : Type 0} (f : B → List C) (g : A → List B) (l : List A) → each f (each g l) ≡ each (λ x. each f (g x)) l
 unfolding each
 each_each f g [] = refl

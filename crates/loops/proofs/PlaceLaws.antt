@@ -7,7 +7,6 @@ use mathlib.Core.Logic.{◌⊎◌, inl, inr, ⊎_elim}
 use native.Mathlib.Omega.{arith}
 use native.Mathlib.Nat.{add-zero, add-suc, eq-or-lt_of_le, le_of_suc-le-suc, not-suc-le-zero}
 use Rattle.loops.specs.Search.{or_else, some_if, first, first_place, any_below}
-use Rattle.loops.specs.inner.Chain.{First}
 use Rattle.loops.proofs.SearchLaws.{any_none}
 
 -- ---- a place that was found
@@ -116,15 +115,6 @@ module _ (p : ℕ → Bool) where
           let s : j + (n - j) ≡ n = omega (arith, h.0) in
           let z : j ≡ m = some_is (sym e ∙ sym (ap (first_place p) s) ∙ found_on j m (n - j) f) in
           absurd (omega (arith, g.0))
-
-  -- as a place of a chain
-  pub first_at : {n j : ℕ} → Some j ≡ first_place p n → First p 0 n j
-  first_at {n} {j} e =
-      let f = found_at p n j (sym e) in
-      record { low = omega arith; high = omega (arith, f.0); none = λ k a l. none_before n j (sym e) k l; here = λ l. f.1 }
-
-  pub first_end : {n : ℕ} → None ≡ first_place p n → First p 0 n n
-  first_end {n} e = record { low = omega arith; high = omega arith; none = λ k a l. place_none p n (sym e) k l; here = λ l. absurd (omega arith) }
 
 -- ---- searches that agree
 
