@@ -1,42 +1,24 @@
 -- Laws of a search along a chain of a table. Assumes nothing.
 use Prim.Native.Nat.{ℕ, zero, suc, ◌<◌, ◌≤◌}
 use mathlib.Core.Path.{◌≡◌, refl, sym, ◌∙◌}
-use mathlib.Core.Bool.{Bool, true, false}
+use mathlib.Core.Bool.{Bool, false}
 use mathlib.Core.List.{List}
 use native.Mathlib.Omega.{arith}
 use native.Mathlib.Numerals.{add-one}
 use native.Mathlib.Decide.{dec_lt}
 use lib.Dec.{ltb}
-use lib.ListN.{get_or}
 use borrow.Author.Tests.{lt-ltb, le-ltb}
 use Rattle.loops.specs.Search.{any_below}
 use Rattle.loops.specs.inner.Chain.{same, First, Links, Blind}
 use Rattle.loops.proofs.ChainLaws.{links_next}
 use Rattle.loops.proofs.SearchLaws.{any_zero, any_miss, any_hit}
-use Rattle.loops.proofs.TableLaws.{Seeking, seeking_next}
-use Rattle.chains.specs.inner.Along.{Along, Rising, Means, Sought}
+use Rattle.chains.specs.inner.Along.{Along, Sought}
 
 -- ---- the chains that are filled
 
 module _ {key : ℕ → ℕ} {m n : ℕ} {t : List ℕ} (h : Links key m 0 n t) where
   pub links_along : (k : ℕ) → Along (same key k) n t
   links_along k = record { next = λ i l e. links_next key m n t k i h e l }
-
-  pub links_rising : (e : ℕ) → e ≤ n → Rising e t
-  links_rising e l = record { later = λ i a. let f = h.next i (omega arith) (omega arith) in omega (arith, f.low) }
-
--- ---- the loop
-
-module _ {p q : ℕ → Bool} {n j i : ℕ} (h : Seeking p q n j i) where
-  -- a place that was reached, and is none that is sought
-  pub seeking_on : {t : List ℕ} {may : ℕ → Bool → Type 0} (s : ℕ) → Along p n t → Blind p q → Means p q may → may i false → i < n → s ≡ get_or t i 0 → Seeking p q n j s
-  seeking_on s a d w m l e = rw e (seeking_next p q n j i _ d h (a.next i l (h.at.here l)) (sym (w.says i false (h.at.here l) m)))
-
-  pub sought_hit : {may : ℕ → Bool → Type 0} (e : ℕ) → Means p q may → may i true → i < n → Sought q j e n i
-  sought_hit e w m l = record { low = h.low; high = h.at.high; none = h.none; here = λ z. sym (w.says i true (h.at.here l) m) }
-
-  pub sought_end : (e : ℕ) → e ≤ i → Sought q j e n i
-  sought_end e l = record { low = h.low; high = h.at.high; none = h.none; here = λ z. absurd (omega arith) }
 
 -- ---- what it comes to
 

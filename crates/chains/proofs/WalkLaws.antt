@@ -2,7 +2,7 @@
 use Prim.Native.Nat.{ℕ, zero, suc, ◌<◌, ◌≤◌}
 use mathlib.Core.Path.{◌≡◌, refl, ap, subst, sym, ◌∙◌}
 use mathlib.Core.Bool.{Bool, true, false}
-use mathlib.Core.List.{List, [], ◌∷◌, foldl}
+use mathlib.Core.List.{List, [], ◌∷◌}
 use denote.Param.Members.{Mut, Called}
 use lib.ListN.{length}
 use native.Mathlib.Omega.{arith}
@@ -11,7 +11,7 @@ use Rattle.std.specs.Borrow.{Bor}
 use Rattle.std.specs.Fn.{CalledAt, Takes}
 use Rattle.std.specs.Option.{MatchOption, IfSome}
 use Rattle.std.specs.List.{FoldsTo}
-use Rattle.std.specs.Iterator.{Yields, YieldsFirst, YieldsThen, CallableWhile, ChecksAny, FindsItem, FoldsItems, FoldTurn, SkipsThenYields}
+use Rattle.std.specs.Iterator.{Yields, YieldsFirst, YieldsThen, CallableWhile, ChecksAny, FindsItem, SkipsThenYields}
 use Rattle.loops.specs.Lists.{keep, any_of, head, is_some}
 use Rattle.loops.specs.Search.{first_place, any_below}
 use Rattle.chains.specs.Places.{places}
@@ -41,21 +41,6 @@ module _ {F : Type 0} (g : Mut F (ℕ × Unit {0}) Bool) (f : F) (q : ℕ → Bo
 
   pub walk_any : {r : Bool} {s u : List ℕ} → ChecksAny taken g s f r u → r ≡ any_of q s
   walk_any {r} {s} {u} c = any_ran r s c.0 u c.1 f c.2 refl c.3 c.4 c.5
-
-module _ {F B : Type 0} (g : Mut F (B × (ℕ × Unit {0})) B) (f : F) (step : B → ℕ → B)
-    (a : (e : B) (x : ℕ) (r : B) (f' : F) → Called g f (e, (x, tt)) r f' → (f' ≡ f) × (r ≡ step e x)) where
-  folds : (e r : B) (xs : List ℕ) (f₁ f' : F) → f₁ ≡ f → FoldsTo {P = F × B} (FoldTurn g) (f₁, e) xs (f', r) → r ≡ foldl step e xs
-  folds e r [] f₁ f' h c = sym (ap (λ p. p.1) c)
-  folds e r (x ∷ xs) f₁ f' h c =
-      let b = a e x c.0.1 c.0.0 (subst (λ j. Called g j (e, (x, tt)) c.0.1 c.0.0) h c.1) in
-      rw (← b.1) (folds c.0.1 r xs c.0.0 f' b.0 c.2)
-
-  drained : (s xs u : List ℕ) → YieldsThen taken s xs None u → s ≡ xs
-  drained s [] u y = y.1 ∙ y.2.0
-  drained s (x ∷ xs) u y = y.1.1 ∙ ap (λ l. x ∷ l) (drained y.1.0 xs u (y.0, y.1.2, y.2))
-
-  pub walk_fold : {s : List ℕ} {e r : B} → FoldsItems taken g s f e r → r ≡ foldl step e s
-  walk_fold {s} {e} {r} c = rw (drained s c.0 c.2.0 c.2.1) (folds e r c.0 f c.1 refl c.3)
 
 nth_ran : (s xs u : List ℕ) (n : ℕ) (r : Option ℕ) → YieldsThen taken s xs r u → MatchOption r (length xs ≤ n) (λ _. length xs ≡ n) → r ≡ slice_get s n
 nth_ran s [] u n None y m = rw (y.1 ∙ y.2.0)

@@ -10,7 +10,8 @@ mod chain_table;
 pub use chain_table::ChainTable;
 use std::marker::Model;
 
-// The places below an end that pass a test, each of which leads to the next.
+// The places below an end that pass a test, each of which leads to the next. The end stands for none, as in the tables: a walk may stop at an earlier end, and one
+// comparison with that tells both.
 pub trait Chain {
     ghost use Rattle.std.specs.Prelude.{◌≡◌, ◌<◌, suc, ℕ, Bool};
     ghost use Rattle.loops.specs.Search.{first_place};

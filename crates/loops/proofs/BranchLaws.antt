@@ -1,10 +1,10 @@
 -- Tests that code makes one after another, and the test or the answer that the definition puts together of them. Assumes nothing.
 use Prim.Native.Nat.{ℕ, ◌<◌, ◌≤◌}
 use mathlib.Core.Path.{◌≡◌, sym, ◌∙◌}
-use mathlib.Core.Bool.{Bool, true, false, not, ◌&&◌, ◌||◌, and-false, and-true}
+use mathlib.Core.Bool.{Bool, true, false, ◌&&◌, ◌||◌, and-false, and-true}
 use Rattle.std.specs.Prelude.{Option, Some}
 use lib.Dec.{leb}
-use borrow.Author.Tests.{le-leb, lt-leb, not-true, not-false}
+use borrow.Author.Tests.{le-leb, lt-leb}
 use Rattle.loops.specs.Search.{or_else, some_if}
 
 -- ---- what a call gave, r, tells of what it is, b
@@ -27,11 +27,11 @@ pub or_no : {a b r : Bool} → a ≡ false → r ≡ b → r ≡ (a || b)
 or_no e q = rw e q
 
 -- the second half first
-pub half_fails : {r b : Bool} (a : Bool) → r ≡ b → not r ≡ true → false ≡ (a && b)
-half_fails {r} a e f = rw (sym e ∙ not-true r f, and-false)
+pub half_fails : {r b : Bool} (a : Bool) → r ≡ b → r ≡ false → false ≡ (a && b)
+half_fails a e f = rw (sym e ∙ f, and-false)
 
-pub half_holds : {r b s a : Bool} → r ≡ b → not r ≡ false → s ≡ a → s ≡ (a && b)
-half_holds {r} e f q = rw (sym e ∙ not-false r f, and-true) q
+pub half_holds : {r b s a : Bool} → r ≡ b → r ≡ true → s ≡ a → s ≡ (a && b)
+half_holds e f q = rw (sym e ∙ f, and-true) q
 
 -- between two ends, the low one first
 pub range_from : (low high : ℕ) {x v : ℕ} → x ≡ v → low ≤ x → leb x high ≡ (leb low v && leb v high)

@@ -9,10 +9,9 @@ use lib.Dec.{eqb, eqb-suc-suc, eqb-zero-suc}
 use lib.ListN.{length, length-append}
 use lib.IntN.{ℤ}
 use borrow.Author.Tests.{eqb-true, eq-eqb, ne_eqb}
-use Rattle.loops.specs.Lists.{given, option}
+use Rattle.loops.specs.Lists.{given}
 use Rattle.loops.specs.Range.{collect}
 use Rattle.loops.specs.Search.{or_else, some_if, first_place, count_below}
-use Rattle.loops.specs.inner.Chain.{Blind}
 use Rattle.loops.proofs.BoolLaws.{and_left, and_right}
 use Rattle.loops.proofs.PlaceLaws.{found_at, or_none_lem}
 use Rattle.chains.specs.Places.{places}
@@ -48,33 +47,12 @@ placed rows x id k e =
       id_is = is_num rows k 1 id (and_right (is rows k 0 x) (is rows k 1 id) f.1);
     }
 
--- what is said of the row that a lookup answers, and d where it answers none
-module _ {A : Type 0} (d : A) (g : ℕ → A) {f : Found} {x : Option ℕ} where
-  pub told_nothing : found_of f ≡ x → f ≡ Nothing → d ≡ option x d g
-  told_nothing e q = rw (sym e ∙ ap found_of q)
-
-  pub told_at_lem : {y : A} {k : ℕ} → found_of f ≡ x → f ≡ At k → y ≡ g k → y ≡ option x d g
-  told_at_lem e q h = rw (sym e ∙ ap found_of q) h
-
 -- ---- number m of the rows that pass a test
-
-pub nth_blind : {p q : ℕ → Bool} (m : ℕ) → Blind p q → Blind p (is_nth q m)
-unfolding is_nth
-nth_blind m h = record { still = λ k e. let z : _ ≡ false = h.still k e in rw z }
 
 module _ (q : ℕ → Bool) (m : ℕ) where
   pub is_nth_lem : (k : ℕ) {y b : Bool} {s : ℕ} → s ≡ count_below q k → y ≡ q k → b ≡ (y && eqb s m) → is_nth q m k ≡ b
   unfolding is_nth
   is_nth_lem k e f r = rw (← e, ← f) (sym r)
-
-  -- a row that passes, by its number
-  pub nth_here : (k : ℕ) {s : ℕ} → s ≡ count_below q k → q k ≡ true → s ≡ m → is_nth q m k ≡ true
-  unfolding is_nth
-  nth_here k e f r = rw f (eq-eqb (count_below q k) m (sym e ∙ r))
-
-  pub nth_other : (k : ℕ) {s : ℕ} → s ≡ count_below q k → q k ≡ true → (s ≡ m → ⊥) → is_nth q m k ≡ false
-  unfolding is_nth
-  nth_other k e f r = rw f (ne_eqb (count_below q k) m (λ z. r (e ∙ z)))
 
   -- what a row that was found has
   pub nth_at : (n k : ℕ) → nth_place q m n ≡ Some k → (k < n) × (q k ≡ true) × (count_below q k ≡ m)

@@ -13,8 +13,8 @@ use Rattle.loops.specs.inner.Chain.{same, First, Stands, Blind, Links}
 use Rattle.loops.proofs.BoolLaws.{and_left, and_right}
 use Rattle.loops.proofs.ChainLaws.{links_start, links_again, links_next}
 use Rattle.loops.proofs.Walks.{stands}
-use Rattle.chains.specs.inner.Along.{Along, Rising, Means, Sought}
-use Rattle.chains.proofs.TableWalk.{links_along, links_rising, sought_all, sought_below}
+use Rattle.chains.specs.inner.Along.{Along, Means, Sought}
+use Rattle.chains.proofs.TableWalk.{links_along, sought_all, sought_below}
 use Rattle.rows.specs.Cells.{row_count, num, is}
 use Rattle.sheet.specs.Places.{of_kind, named}
 use Rattle.sheet.specs.declared.KindTable.{KindTable}
@@ -46,15 +46,9 @@ module _ (rows : List ℤ) (n : ℕ) (e : n ≡ row_count rows) (s : Shaped rows
     named = links_start (name_key rows) 2048 n (omega (arith, s.short)) (omega arith);
   })
 
-  pub fill_short : n ≤ 800
-  fill_short = omega (arith, s.short)
-
   -- where row i - 1 and its kind stand
   pub fill_place : {i : ℕ} {a b : List ℕ} → 0 < i → Filled rows n i a b → i - 1 < 800
   fill_place z h = omega (arith, h.low, s.short)
-
-  pub fill_kind : {i x : ℕ} {a b : List ℕ} → 0 < i → Filled rows n i a b → x ≡ num rows (i - 1) 0 → x < 32
-  fill_kind {i} z h f = rw f (s.kinds (i - 1) (omega (arith, h.low)))
 
   -- row i - 1 is linked to the rows of its kind, then to those of its name
   pub filled_again : {i x id k : ℕ} {a a' b b' : List ℕ} → 0 < i → Filled rows n i a b → x ≡ num rows (i - 1) 0 → id ≡ num rows (i - 1) 1 → k ≡ name_hash x id
@@ -70,15 +64,6 @@ module _ (rows : List ℤ) (n : ℕ) (e : n ≡ row_count rows) (s : Shaped rows
         named = links_again (name_key rows) 2048 n i k b b' z h.low u c (hash_small (num rows (i - 1) 0) (num rows (i - 1) 1)) h.named r;
       }
 
-  pub filled_done : {i : ℕ} {t : KindTable} → i ≤ 0 → Filled rows n i t.kinds t.names → Kinds rows t
-  filled_done {i} {t} z h =
-      let w : i ≡ 0 = omega arith in
-      record {
-        short = s.short;
-        links = rw (w, e) at h.links;
-        names = rw (w, e) at h.named;
-      }
-
 -- ---- what is read
 
 module _ (rows : List ℤ) (t : KindTable) (h : Kinds rows t) where
@@ -92,12 +77,6 @@ module _ (rows : List ℤ) (t : KindTable) (h : Kinds rows t) where
 
   pub name_head : {r : ℕ} (x id : ℕ) → r ≡ name_hash x id → First (same (name_key rows) (name_hash x id)) 0 (row_count rows) (get_or t.names (800 + r) 0)
   name_head x id e = rw e (h.names.head (name_hash x id) (hash_small x id))
-
-  pub name_next : (k i : ℕ) → Stands (same (name_key rows) k) (row_count rows) i → i < row_count rows → First (same (name_key rows) k) (suc i) (row_count rows) (get_or t.names i 0)
-  name_next k i s l = links_next (name_key rows) 2048 (row_count rows) t.names k i h.names (s.here l) l
-
-  pub names_rising : (e : ℕ) → e ≤ row_count rows → Rising e t.names
-  names_rising e l = links_rising h.names e l
 
 -- ---- the pairs that share a chain
 
@@ -116,9 +95,6 @@ module _ (rows : List ℤ) (x id : ℕ) where
       go k e true q = absurd (true≢false (sym (named_keyed k q) ∙ e))
       go k e false q = q
 
-  pub name_stands : (i : ℕ) → Stands (named rows x id) (row_count rows) i → Stands (same (name_key rows) (name_hash x id)) (row_count rows) i
-  name_stands i s = record { high = s.high; here = λ l. named_keyed i (s.here l) }
-
   pub pair_blind : (other : ℕ) → Blind (same (name_key rows) (name_hash x id)) (named_pair rows x id other)
   unfolding named_pair
   pair_blind other = record { still = λ k e. rw (name_blind.still k e) }
@@ -126,6 +102,11 @@ module _ (rows : List ℤ) (x id : ℕ) where
 -- ---- a search along the chain of a name
 
 module _ (rows : List ℤ) (t : KindTable) (h : Kinds rows t) (x id : ℕ) where
+  -- the next row of the chain after one of the name
+  pub named_next : {i j : ℕ} → Stands (named rows x id) (row_count rows) i × (i < row_count rows) → j ≡ get_or t.names i 0
+      → First (same (name_key rows) (name_hash x id)) (suc i) (row_count rows) j
+  named_next {i} r e = rw e (links_next (name_key rows) 2048 (row_count rows) t.names (name_hash x id) i h.names (named_keyed rows x id i (r.0.here r.1)) r.1)
+
   pub named_sought : {may : ℕ → Bool → Type 0} {j n r : ℕ} → ((i : ℕ) (b : Bool) → may i b → b ≡ named rows x id i) → n ≡ row_count rows
       → Stands (same (name_key rows) (name_hash x id)) (row_count rows) j
       → ((p q : ℕ → Bool) (N : ℕ) → Along p N t.names → Stands p N j → n ≤ N → Blind p q → Means p q may → Sought q j n N r) → First (named rows x id) j (row_count rows) r

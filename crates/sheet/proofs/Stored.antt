@@ -1,21 +1,15 @@
 -- A place as a table holds it: how large it is, and the row that it names. Assumes nothing.
 use Prim.Native.Nat.{ℕ, ◌<◌, ◌≤◌}
 use mathlib.Core.Path.{◌≡◌, refl}
-use mathlib.Core.Bool.{Bool, cond}
 use mathlib.Core.List.{List}
 use Rattle.std.specs.Prelude.{Option, None, Some}
 use native.Mathlib.Omega.{arith}
-use native.Mathlib.Decide.{dec_lt}
-use lib.Dec.{ltb}
 use lib.IntN.{ℤ}
 use borrow.Author.Tests.{lt-ltb, le-ltb}
-use Rattle.loops.specs.Search.{first_place}
-use Rattle.loops.specs.inner.Chain.{First}
-use Rattle.loops.proofs.TableLaws.{first_found, first_absent}
 use Rattle.rows.specs.Cells.{row_count}
-use Rattle.sheet.specs.Places.{place_of, nth_place}
+use Rattle.sheet.specs.Places.{place_of}
 use Rattle.sheet.specs.inner.Index.{or_end, stored_place}
-use Rattle.sheet.proofs.Lookups.{nth_at, placed}
+use Rattle.sheet.proofs.Lookups.{placed}
 
 -- ---- it is at most the number of rows
 
@@ -26,9 +20,6 @@ below rows (Some k) h = omega (arith, h k refl)
 
 pub named_below : (rows : List ℤ) (x id : ℕ) → or_end rows (place_of rows x id) ≤ row_count rows
 named_below rows x id = below rows (place_of rows x id) (λ k e. (placed rows x id k e).within)
-
-pub nth_below : (rows : List ℤ) (q : ℕ → Bool) (m : ℕ) → or_end rows (nth_place q m (row_count rows)) ≤ row_count rows
-nth_below rows q m = below rows (nth_place q m (row_count rows)) (λ k e. (nth_at q m (row_count rows) k e).0)
 
 -- ---- what it names
 
@@ -51,12 +42,3 @@ module _ (rows : List ℤ) where
 
   pub stored_place_lem : (y id : ℕ) {o : ℕ} → o ≡ or_end rows (place_of rows y id) → stored_place rows o ≡ place_of rows y id
   stored_place_lem y id e = stored (place_of rows y id) e (λ k q. (placed rows y id k q).within)
-
-  -- so does the first place of a chain
-  pub stored_first : {p : ℕ → Bool} {o : ℕ} → First p 0 (row_count rows) o → stored_place rows o ≡ first_place p (row_count rows)
-  unfolding stored_place
-  stored_first {p} {o} f = go (dec_lt o (row_count rows))
-    where
-      go : Dec (o < row_count rows) → cond (ltb o (row_count rows)) (Some o) None ≡ first_place p (row_count rows)
-      go (yes l) = rw (lt-ltb o (row_count rows) l) (first_found f l refl)
-      go (no l) = rw (le-ltb o (row_count rows) (omega arith)) (first_absent f (omega arith) refl)

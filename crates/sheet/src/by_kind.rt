@@ -1,7 +1,12 @@
 // The rows of a sheet, and their walks by kind and by name.
-ghost use Rattle.std.specs.Prelude.{◌≡◌, ◌<◌, ◌≤◌};
+ghost use Rattle.std.specs.Prelude.{◌≡◌, ◌≤◌};
+ghost use Rattle.loops.specs.Search.{any_below};
+ghost use Rattle.loops.specs.inner.Chain.{First, Stands, same};
+ghost use Rattle.rows.specs.Kinds.{kind_number};
 ghost use Rattle.rows.specs.Cells.{row_count};
-ghost use Rattle.sheet.specs.inner.Index.{Kinds};
+ghost use Rattle.sheet.specs.Places.{named};
+ghost use Rattle.sheet.specs.inner.Groups.{named_pair};
+ghost use Rattle.sheet.specs.inner.Index.{name_hash, name_key, Kinds};
 
 use crate::{Found, KindTable};
 use chains::{Chain, Walk};
@@ -106,11 +111,7 @@ pub trait KindIndex: Rows {
         ensures places { result ≡ places (named (Self.rows self.now) (kind_number kind) id) (row_count (Self.rows self.now)) }
         ensures known { Self.known (Self.rows self.now) }
     {
-        Walk::new(NamedChain {
-            rows: ByKind::new(self.as_slice(), self.kinds()),
-            kind,
-            id,
-        })
+        Walk::new(NamedChain::new(self.as_slice(), self.kinds(), kind, id))
     }
 
     // Those above row k.
@@ -119,14 +120,7 @@ pub trait KindIndex: Rows {
         ensures places { result ≡ places (named (Self.rows self.now) (kind_number kind) id) k }
         ensures known { Self.known (Self.rows self.now) }
     {
-        Walk::below(
-            NamedChain {
-                rows: ByKind::new(self.as_slice(), self.kinds()),
-                kind,
-                id,
-            },
-            k,
-        )
+        Walk::below(NamedChain::new(self.as_slice(), self.kinds(), kind, id), k)
     }
 
     // Whether an earlier row than k is of a kind, with that id.
@@ -134,7 +128,7 @@ pub trait KindIndex: Rows {
         requires { k ≤ row_count (Self.rows self.now) }
         ensures { result ≡ any_below (named (Self.rows self.now) (kind_number kind) id) k }
     {
-        crate::first_named(self.as_slice(), self.kinds(), kind, id) < k
+        NamedChain::new(self.as_slice(), self.kinds(), kind, id).first_place() < k
     }
 
     // Whether one of those has that number in column 2.
@@ -142,7 +136,7 @@ pub trait KindIndex: Rows {
         requires { k ≤ row_count (Self.rows self.now) }
         ensures { result ≡ any_below (named_pair (Self.rows self.now) (kind_number kind) id other) k }
     {
-        crate::has_earlier_pair(self.as_slice(), self.kinds(), kind, id, other, k)
+        NamedChain::new(self.as_slice(), self.kinds(), kind, id).has_pair_below(other, k)
     }
 
     // The first row of a kind with that id.
@@ -151,8 +145,7 @@ pub trait KindIndex: Rows {
         ensures place { result ≡ place_of (Self.rows self.now) (kind_number kind) id }
         ensures known { Self.known (Self.rows self.now) }
     {
-        let rows = ByKind::new(self.as_slice(), self.kinds());
-        NamedChain { rows, kind, id }.find_first()
+        NamedChain::new(self.as_slice(), self.kinds(), kind, id).find_first()
     }
 
     fn find_task(&self, id: u64) -> Option<usize>
@@ -277,6 +270,54 @@ impl<'a> Model for NamedChain<'a> {
     ghost view = { λ s. (s.rows, kind_number s.kind, s.id) };
 }
 
+impl<'a> NamedChain<'a> {
+    fn new(rows: &'a [i64], table: &'a KindTable, kind: Kind, id: u64) -> NamedChain<'a>
+        requires { Kinds rows.now table.now }
+        ensures { result ≡ (rows.now, kind_number kind, id) }
+    {
+        NamedChain {
+            rows: ByKind::new(rows, table),
+            kind,
+            id,
+        }
+    }
+
+    // The first row of all that share the chain.
+    fn first_hashed(&self) -> usize
+        ensures { First (same (name_key self.now.0) (name_hash self.now.1 self.now.2)) 0 (row_count self.now.0) result }
+    {
+        let key = crate::name_key(self.kind.number() as usize, self.id);
+        self.rows.table.names.first(key)
+    }
+
+    // The first row of the kind with the number from row j on, which shares the chain.
+    fn find_from(&self, j: usize) -> usize
+        requires { Stands (same (name_key self.now.0) (name_hash self.now.1 self.now.2)) (row_count self.now.0) j }
+        ensures { First (named self.now.0 self.now.1 self.now.2) j (row_count self.now.0) result }
+    {
+        let (rows, kind, id) = (self.rows.rows, self.kind, self.id);
+        self.rows
+            .table
+            .names
+            .find_from(j, rows::row_count(rows), |i| is_named(rows, kind, id, i))
+    }
+
+    // Whether one of them above row k has that number in column 2. Along all rows that share the chain: to test kind and id first, as the walk of the rows of a
+    // name does, took 1.21 of the time over 800 speeds of one activity (docs/SPEED.md).
+    fn has_pair_below(&self, other: u64, k: usize) -> bool
+        requires { k ≤ row_count self.now.0 }
+        ensures { result ≡ any_below (named_pair self.now.0 self.now.1 self.now.2 other) k }
+    {
+        let (rows, kind, id) = (self.rows.rows, self.kind, self.id);
+        let first = self.first_hashed();
+        self.rows
+            .table
+            .names
+            .find_from(first, k, |i| is_pair(rows, kind, id, other, i))
+            < k
+    }
+}
+
 impl<'a> Chain for NamedChain<'a> {
     ghost use Rattle.rows.specs.Cells.{row_count};
     ghost use Rattle.sheet.specs.Places.{named};
@@ -290,10 +331,25 @@ impl<'a> Chain for NamedChain<'a> {
     }
 
     fn first_place(&self) -> usize {
-        crate::first_named(self.rows.rows, self.rows.table, self.kind, self.id)
+        self.find_from(self.first_hashed())
     }
 
     fn next_place(&self, i: usize) -> usize {
-        crate::next_named(self.rows.rows, self.rows.table, self.kind, self.id, i)
+        self.find_from(self.rows.table.names.next(i))
     }
+}
+
+#[tactic(auto, using(loops::proofs::BranchLaws::half_fails, loops::proofs::BranchLaws::half_holds), unfolding(crate::specs::Places::named))]
+fn is_named(rows: &[i64], kind: Kind, id: u64, i: usize) -> bool
+    ensures { result ≡ named rows.now (kind_number kind) id i }
+{
+    rows::is_at(rows, i, 1, id) && rows::is_of_kind(rows, i, kind)
+}
+
+// Column 2 first: of the rows of one name only that number tells them apart.
+#[tactic(auto, using(loops::proofs::BranchLaws::half_fails, loops::proofs::BranchLaws::half_holds), unfolding(crate::specs::inner::Groups::named_pair))]
+fn is_pair(rows: &[i64], kind: Kind, id: u64, other: u64, i: usize) -> bool
+    ensures { result ≡ named_pair rows.now (kind_number kind) id other i }
+{
+    rows::is_at(rows, i, 2, other) && is_named(rows, kind, id, i)
 }

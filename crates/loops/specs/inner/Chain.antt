@@ -1,5 +1,5 @@
 -- Chains of places: from a place to the next one of the same key. Assumes nothing.
-use Rattle.std.specs.Prelude.{ℕ, ◌+◌, ◌<◌, ◌≤◌, ◌≡◌, Bool, true, false, cond, List, [], length, get_or, take, drop, eqb}
+use Rattle.std.specs.Prelude.{ℕ, ◌+◌, ◌<◌, ◌≤◌, ◌≡◌, Bool, true, false, cond, List, [], length, get_or, eqb}
 
 -- place i has the key k
 unfoldable pub same : (ℕ → ℕ) → ℕ → ℕ → Bool
@@ -19,10 +19,6 @@ pub record Links (key : ℕ → ℕ) (m i n : ℕ) (t : List ℕ) : Type 0 where
   pub head : (k : ℕ) → k < m → First (same key k) i n (get_or t (800 + k) 0)
   pub next : (j : ℕ) → i ≤ j → j < n → First (same key (key j)) (j + 1) n (get_or t j 0)
   pub past : (j : ℕ) → n ≤ j → j < 800 → get_or t j 0 ≡ n
-
--- A table may hold the chains of several keys, each in a part of its own: the s numbers from place b on.
-unfoldable pub part : ℕ → ℕ → List ℕ → List ℕ
-part b s t = take s (drop b t)
 
 -- what a loop over a chain knows of its place
 pub record Stands (p : ℕ → Bool) (n i : ℕ) : Type 0 where

@@ -7,4 +7,4 @@ use Rattle.sheet.proofs.by_kind.KindIndex.has_earlier.Goals as goal
 pub returns : goal.returns
 returns g c =
     rw (← c.as_slice.ensures.rows)
-    (first_below _ (subst (λ rows. c.args.k ≤ row_count rows) (sym c.as_slice.ensures.rows) c.requires) c.first_named.ensures)
+    (first_below _ (subst (λ rows. c.args.k ≤ row_count rows) (sym c.as_slice.ensures.rows) c.requires) (rw c.new.ensures at c.first_place.ensures))
