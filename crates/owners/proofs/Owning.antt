@@ -13,8 +13,8 @@ use Rattle.loops.proofs.BoolLaws.{and_left, and_right}
 use Rattle.loops.proofs.ChainLaws.{links_again, links_next}
 use Rattle.loops.proofs.TableLaws.{seeking_from}
 use Rattle.loops.proofs.Walks.{stands}
-use Rattle.chains.specs.inner.Along.{Along, Rising, Means, Sought}
-use Rattle.chains.proofs.TableWalk.{links_along, links_rising, sought_all}
+use Rattle.chains.specs.inner.Along.{Along, Means, Sought}
+use Rattle.chains.proofs.TableWalk.{links_along, sought_all}
 use Rattle.rows.specs.Cells.{row_count, num, is}
 use Rattle.sheet.proofs.Lookups.{is_num}
 use Rattle.owners.specs.inner.Owners.{own_place, owned_by, owned_key, Owned}
@@ -67,9 +67,6 @@ module _ (rows : List ℤ) (o x : ℕ) where
       go false f = rw f
 
   module _ (t : List ℕ) (h : Owned rows t) where
-    pub owned_rising : (n : ℕ) → n ≤ row_count rows → Rising n t
-    owned_rising n l = links_rising h.links n l
-
     pub owned_sought : {may : ℕ → Bool → Type 0} {j n r : ℕ} → ((i : ℕ) (b : Bool) → may i b → b ≡ is rows i 0 x) → n ≡ row_count rows → Stands (same (owned_key rows) key) (row_count rows) j
         → ((p q : ℕ → Bool) (N : ℕ) → Along p N t → Stands p N j → n ≤ N → Blind p q → Means p q may → Sought q j n N r) → First (owned_by rows o x) j (row_count rows) r
     owned_sought m e s f =

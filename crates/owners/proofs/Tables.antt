@@ -81,9 +81,6 @@ module _ (rows : List ℤ) {t : RowLinks} where
   pub own_entry : (k : ℕ) → Linked rows t → k < row_count rows → get_or t.owners k 0 ≡ own_place rows k
   own_entry k h l = h.own k l
 
-  pub res_entry : (k : ℕ) → Linked rows t → k < row_count rows → get_or t.resources k 0 ≡ res_place rows k
-  res_entry k h l = h.res k l
-
 -- ---- the numbers of the constraints
 
 -- what the loop knows at row k
@@ -129,9 +126,6 @@ module _ (rows : List ℤ) (k seen : ℕ) (t : List ℕ) (h : Numbering rows k s
     count = counted r e;
     number = λ m z. rw (q, nth_step p m k, is_nth_lem p m k {y = false} {b = false} h.count e refl) (h.number m z ∙ ap (or_end rows) (sym (or_none_lem (nth_place p m k))));
   }
-
-  pub numbering_fits : {n : ℕ} → k < n → n ≡ row_count rows → row_count rows ≤ 800 → seen < 18446744073709551615
-  numbering_fits l z u = omega (arith, counted_le p k h.count)
 
   pub numbering_turn : (b : Bool) {n : ℕ} (seen' : ℕ) (t' : List ℕ) → k < n → n ≡ row_count rows → row_count rows ≤ 800 → b ≡ p k
       → t' ≡ cond b (set t seen k) t → seen' ≡ seen + cond b 1 0 → Numbering rows (k + 1) seen' t'

@@ -1,6 +1,9 @@
 // The rows of a sheet by the rows that they belong to, and the rows that they belong to.
-ghost use Rattle.std.specs.Prelude.{◌≡◌, ◌≤◌};
-ghost use Rattle.owners.specs.inner.Owners.{Linked, Owned};
+ghost use Rattle.std.specs.Prelude.{◌≡◌, ◌+◌, ◌*◌, ◌%◌, ◌≤◌};
+ghost use Rattle.loops.specs.inner.Chain.{First, Stands, same};
+ghost use Rattle.rows.specs.Kinds.{kind_number};
+ghost use Rattle.rows.specs.Cells.{row_count};
+ghost use Rattle.owners.specs.inner.Owners.{owned_by, owned_key, Linked, Owned};
 
 use crate::RowLinks;
 use chains::{Chain, ChainTable, Walk};
@@ -20,12 +23,13 @@ pub trait LinkIndex: Rows {
     fn links(&self) -> &RowLinks
         ensures { Linked (Self.rows self.now) result.now };
 
-    // The row that row k belongs to, or the number of rows.
+    // The row that row k belongs to, or the number of rows: no Option, for rows without an owner have a key among the chains by owner too.
+    #[tactic(auto, using(crate::proofs::Tables::own_entry))]
     fn owner_of(&self, k: usize) -> usize
         requires { k < row_count (Self.rows self.now) }
         ensures { result ≡ own_place (Self.rows self.now) k }
     {
-        crate::owner_of(self.as_slice(), self.links(), k)
+        usize::from(self.links().owners[k])
     }
 
     // The row of the activity that row k, a booking or a time-only span, names.
@@ -33,8 +37,7 @@ pub trait LinkIndex: Rows {
         requires { (k < row_count (Self.rows self.now)) × (owner_kind (num (Self.rows self.now) k 0) ≡ Some Owner.ActivityRow) }
         ensures { found_of result ≡ activity_place (Self.rows self.now) (num (Self.rows self.now) k 1) }
     {
-        let rows = self.as_slice();
-        Found::from(sheet::stored_place(rows, crate::owner_of(rows, self.links(), k)))
+        Found::from(sheet::stored_place(self.as_slice(), self.owner_of(k)))
     }
 
     // The row of the task that activity k is of.
@@ -42,8 +45,7 @@ pub trait LinkIndex: Rows {
         requires { (k < row_count (Self.rows self.now)) × (is (Self.rows self.now) k 0 2 ≡ true) }
         ensures { result ≡ task_place (Self.rows self.now) (num (Self.rows self.now) k 2) }
     {
-        let rows = self.as_slice();
-        sheet::stored_place(rows, crate::owner_of(rows, self.links(), k))
+        sheet::stored_place(self.as_slice(), self.owner_of(k))
     }
 
     // The row of the resource that booking k names.
@@ -51,8 +53,8 @@ pub trait LinkIndex: Rows {
         requires { (k < row_count (Self.rows self.now)) × (is (Self.rows self.now) k 0 23 ≡ true) }
         ensures { found_of result ≡ resource_place (Self.rows self.now) (num (Self.rows self.now) k 3) }
     {
-        let rows = self.as_slice();
-        Found::from(sheet::stored_place(rows, crate::resource_of(rows, self.links(), k)))
+        let place = usize::from(self.links().resources[k]);
+        Found::from(sheet::stored_place(self.as_slice(), place))
     }
 }
 
@@ -74,11 +76,7 @@ pub trait OwnerIndex: Rows {
         ensures places { result ≡ places (owned_by (Self.rows self.now) o (kind_number kind)) (row_count (Self.rows self.now)) }
         ensures known { Self.known (Self.rows self.now) }
     {
-        Walk::new(OwnedChain {
-            rows: ByOwner::new(self.as_slice(), self.owned()),
-            owner: o,
-            kind,
-        })
+        Walk::new(OwnedChain::new(self.as_slice(), self.owned(), o, kind))
     }
 
     // Those above row k.
@@ -87,14 +85,7 @@ pub trait OwnerIndex: Rows {
         ensures places { result ≡ places (owned_by (Self.rows self.now) o (kind_number kind)) k }
         ensures known { Self.known (Self.rows self.now) }
     {
-        Walk::below(
-            OwnedChain {
-                rows: ByOwner::new(self.as_slice(), self.owned()),
-                owner: o,
-                kind,
-            },
-            k,
-        )
+        Walk::below(OwnedChain::new(self.as_slice(), self.owned(), o, kind), k)
     }
 
     // The first of them.
@@ -103,13 +94,7 @@ pub trait OwnerIndex: Rows {
         ensures place { result ≡ first_place (owned_by (Self.rows self.now) o (kind_number kind)) (row_count (Self.rows self.now)) }
         ensures known { Self.known (Self.rows self.now) }
     {
-        let rows = ByOwner::new(self.as_slice(), self.owned());
-        OwnedChain {
-            rows,
-            owner: o,
-            kind,
-        }
-        .find_first()
+        OwnedChain::new(self.as_slice(), self.owned(), o, kind).find_first()
     }
 
     // Whether a row of a kind belongs to row o.
@@ -293,6 +278,32 @@ impl<'a> Model for OwnedChain<'a> {
     ghost invariant = { λ s. s.owner ≤ row_count s.rows };
 }
 
+impl<'a> OwnedChain<'a> {
+    fn new(rows: &'a [i64], table: &'a ChainTable<8810>, owner: usize, kind: Kind) -> OwnedChain<'a>
+        requires { Owned rows.now table.now × (owner ≤ row_count rows.now) }
+        ensures { result ≡ (rows.now, owner, kind_number kind) }
+    {
+        OwnedChain {
+            rows: ByOwner::new(rows, table),
+            owner,
+            kind,
+        }
+    }
+
+    // The first row of the kind from row j on, along the chain of the owner. Two kinds may share a chain.
+    fn find_from(&self, j: usize) -> usize
+        requires { Stands (same (owned_key self.now.0) (self.now.1 * 10 + self.now.2 % 10)) (row_count self.now.0) j }
+        ensures { First (owned_by self.now.0 self.now.1 self.now.2) j (row_count self.now.0) result }
+    {
+        let (rows, kind) = (self.rows.rows, self.kind);
+        self.rows.table.find_from(
+            j,
+            rows::row_count(rows),
+            |i| rows::is_of_kind(rows, i, kind),
+        )
+    }
+}
+
 impl<'a> Chain for OwnedChain<'a> {
     ghost use Rattle.rows.specs.Cells.{row_count};
     ghost use Rattle.owners.specs.inner.Owners.{owned_by};
@@ -306,10 +317,11 @@ impl<'a> Chain for OwnedChain<'a> {
     }
 
     fn first_place(&self) -> usize {
-        crate::first_owned(self.rows.rows, self.rows.table, self.owner, self.kind)
+        let digit = self.kind.number() as usize % 10;
+        self.find_from(self.rows.table.first(self.owner * 10 + digit))
     }
 
     fn next_place(&self, i: usize) -> usize {
-        crate::next_owned(self.rows.rows, self.rows.table, self.owner, self.kind, i)
+        self.find_from(self.rows.table.next(i))
     }
 }

@@ -2,15 +2,10 @@
 // belong to a row are chains of places, as the rows of a kind are.
 #![tactic(auto)]
 
-ghost use Rattle.std.specs.Prelude.{Some, ◌≡◌, suc, ◌+◌, ◌*◌, ◌%◌, ◌<◌, ◌≤◌, true, cond, length, get_or, set, replicate};
-ghost use Rattle.loops.specs.Search.{first_place, any_below};
-ghost use Rattle.loops.specs.inner.Chain.{First, Stands, same};
-ghost use Rattle.rows.specs.Cells.{row_count, num, is};
-ghost use Rattle.rows.specs.Kinds.{kind_number};
-ghost use Rattle.sheet.specs.Places.{task_place, activity_place, resource_place, requirement_place, is_constraint, constraint_place};
-ghost use Rattle.sheet.specs.inner.Found.{found_of};
-ghost use Rattle.sheet.specs.inner.Index.{or_end, Kinds};
-ghost use Rattle.owners.specs.inner.Owners.{owner_kind, owner_place, own_place, res_place, owned_by, owned_key, Numbered, Linked, Owned};
+ghost use Rattle.std.specs.Prelude.{Some, ◌≡◌, ◌+◌, ◌*◌, ◌%◌, ◌<◌, ◌≤◌, cond, set, replicate};
+ghost use Rattle.rows.specs.Cells.{row_count, num};
+ghost use Rattle.sheet.specs.Places.{requirement_place, is_constraint, constraint_place};
+ghost use Rattle.owners.specs.inner.Owners.{owner_kind, owner_place, own_place, res_place, owned_key, Numbered, Linked, Owned};
 
 pub mod by_owner;
 mod sheet_index;
@@ -30,11 +25,12 @@ fn find_requirement(rows: &ByKind, activity: u64, m: u64) -> Option<usize>
     rows.named(Kind::Requirement, activity).nth(m as usize)
 }
 
+#[tactic(auto, unfolding(sheet::specs::Places::is_constraint))]
 fn is_constraint(rows: &[i64], k: usize) -> bool
     ensures { result ≡ is_constraint rows.now k }
 {
-    let kind = rows::num_at(rows, k, 0);
-    17 <= kind && kind <= 21
+    let constraints = Kind::Precedence.number()..=Kind::Synchronize.number();
+    constraints.contains(&rows::num_at(rows, k, 0))
 }
 
 // Row k at the next number, if it is a constraint; and the number after it.
@@ -86,7 +82,7 @@ pub enum Owner {
     ConstraintRow,
 }
 
-// What the rows of a kind belong to.
+// What the rows of a kind belong to. The kind by its number in column 0: a row is asked whatever that number is, and one that stands for no kind has no owner.
 #[tactic(auto, unfolding(crate::specs::inner::Owners::owner_kind))]
 pub fn owner_kind(kind: u64) -> Option<Owner>
     ensures { result ≡ owner_kind kind }
@@ -146,7 +142,7 @@ fn res_place(rows: &ByKind, k: usize) -> usize
     rows.row_count()
 }
 
-// The row that each row belongs to, and the row of each booking's resource.
+// The row that each row belongs to, and the row of each booking's resource. 16-bit places, where the number of rows stands for none.
 #[derive(Drop)]
 pub struct RowLinks {
     owners: [u16; 800],
@@ -199,24 +195,6 @@ pub fn links_into(rows: &ByKind, t: &mut RowLinks)
     }
 }
 
-// The row that row k belongs to, or the number of rows.
-#[tactic(auto, using(crate::proofs::Tables::own_entry))]
-fn owner_of(rows: &[i64], links: &RowLinks, k: usize) -> usize
-    requires { Linked rows.now links.now × (k < row_count rows.now) }
-    ensures { result ≡ own_place rows.now k }
-{
-    usize::from(links.owners[k])
-}
-
-// The row of booking k's resource, or the number of rows.
-#[tactic(auto, using(crate::proofs::Tables::res_entry))]
-fn resource_of(rows: &[i64], links: &RowLinks, k: usize) -> usize
-    requires { Linked rows.now links.now × (k < row_count rows.now) }
-    ensures { result ≡ res_place rows.now k }
-{
-    usize::from(links.resources[k])
-}
-
 // ---- the rows that belong to a row
 
 // The rows as a slice tell that they are 800 at most, here and below.
@@ -238,33 +216,4 @@ pub fn owned_into(rows: &OwnerLinks, t: &mut ChainTable<8810>)
     for i in (0..n).rev() {
         t.link(owned_key(rows, i), i);
     }
-}
-
-// The first row of a kind from row j on, along the chain of owner o. Two kinds may share a chain.
-fn owned_from(rows: &[i64], owned: &ChainTable<8810>, o: usize, kind: Kind, j: usize) -> usize
-    requires { Owned rows.now owned.now × Stands (same (owned_key rows.now) (o * 10 + kind_number kind % 10)) (row_count rows.now) j }
-    ensures { First (owned_by rows.now o (kind_number kind)) j (row_count rows.now) result }
-{
-    owned.find_from(
-        j,
-        rows::row_count(rows),
-        |i| rows::is_of_kind(rows, i, kind),
-    )
-}
-
-// The first row of a kind that belongs to row o.
-fn first_owned(rows: &[i64], owned: &ChainTable<8810>, o: usize, kind: Kind) -> usize
-    requires { Owned rows.now owned.now × (o ≤ row_count rows.now) }
-    ensures { First (owned_by rows.now o (kind_number kind)) 0 (row_count rows.now) result }
-{
-    let digit = kind.number() as usize % 10;
-    owned_from(rows, owned, o, kind, owned.first(o * 10 + digit))
-}
-
-// The next row of a kind that belongs to row o, after row i.
-fn next_owned(rows: &[i64], owned: &ChainTable<8810>, o: usize, kind: Kind, i: usize) -> usize
-    requires { Owned rows.now owned.now × Stands (owned_by rows.now o (kind_number kind)) (row_count rows.now) i × (i < row_count rows.now) }
-    ensures { First (owned_by rows.now o (kind_number kind)) (suc i) (row_count rows.now) result }
-{
-    owned_from(rows, owned, o, kind, owned.next(i))
 }
