@@ -34,7 +34,7 @@ fn is_unowned(rows: &OwnerLinks, k: usize) -> bool
     let o = rows.owner_of(k);
     if n <= o {
         // Bookings and time-only spans, the last two kinds, may name what is not in the sheet.
-        return kind <= 22 && owners::owner_kind(kind).is_some();
+        return kind < Kind::Booking.number() && owners::owner_kind(kind).is_some();
     }
     let Some(owner) = owners::owner_kind(kind) else {
         return false;

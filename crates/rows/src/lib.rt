@@ -127,7 +127,8 @@ pub enum Class {
     ConstraintPlace,
 }
 
-// The columns of each kind, from column 1 on, and a blank one, which stands for all behind them. Kind 0 is none.
+// The columns of each kind, from column 1 on, and a blank one, which stands for all behind them. A constant table of tables, as the project's paper asks
+// (docs/DECISIONS.md, 25): at the number of the kind, and 0 is none.
 static CLASSES: [&[Class]; 25] = [
     &[Blank],
     &[Id, OptionalInstant, OptionalInstant, Blank],
@@ -176,7 +177,8 @@ static CLASSES: [&[Class]; 25] = [
     &[Id, Id, Instant, Instant, Blank],
 ];
 
-// The columns of a kind, from column 1 on, and a blank one.
+// The columns of a kind, from column 1 on, and a blank one. The kind by its number, here and in the next two: where it stands for no kind there are no columns, and
+// no caller has to ask that first.
 fn columns_of(kind: u64) -> &'static [Class]
     ensures { result.now ≡ get_or columns kind [] ++ Class.Blank ∷ [] }
 {

@@ -1,10 +1,13 @@
+use Rattle.std.proofs.Common.{◌≤◌, arith}
 use Rattle.owners.proofs.Absent.{early, unnamed, lost, standing, of_requirement, of_constraint}
 use mathlib.Core.Path.{refl, ◌∙◌, ap}
 use Rattle.std.specs.Prelude.{Some}
 use Rattle.link_faults.proofs.is_unowned.Goals as goal
 
-pub returns-then-kind-le22 : goal.returns-then-kind-le22
-returns-then-kind-le22 c = c.is_some.ensures ∙ lost _ _ c.num-kind.ensures.value c.owner_kind.ensures _ _ c.owner_of-o.ensures c.row_count-n.ensures.value c.if-kind-le22.true c.if-n-o.true
+pub returns-then-kind-number : goal.returns-then-kind-number
+returns-then-kind-number c =
+    let l : c.num-kind.result ≤ 22 = omega (arith, c.number.ensures, c.if-kind-number.true) in
+    c.is_some.ensures ∙ lost _ _ c.num-kind.ensures.value c.owner_kind.ensures _ _ c.owner_of-o.ensures c.row_count-n.ensures.value l c.if-n-o.true
 
 pub returns-in_default : goal.returns-in_default
 returns-in_default c = unnamed _ _ c.num-kind.ensures.value c.owner_kind-2.ensures c.in_default.is

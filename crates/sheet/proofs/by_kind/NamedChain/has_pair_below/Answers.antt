@@ -4,7 +4,6 @@ use Rattle.sheet.proofs.by_kind.NamedChain.has_pair_below.Goals as goal
 
 pub returns : goal.returns
 returns c =
-    let l = rw (← c.self.view_is, ← c.self-inside.view_is) at c.requires in
-    let f = rw (← c.self.view_is, ← c.self-inside.view_is) at c.first_hashed-first.ensures in
     rw (← c.self.view_is, ← c.self-inside.view_is)
-    (pair_sought _ _ c.self-inside.invariant _ _ _ _ (λ i b p. search (rules, p)) l f c.find_from.ensures)
+    (pair_sought _ _ c.self-inside.invariant _ _ _ _ (λ i b p. search (rules, p)) (rw (← c.self.view_is, ← c.self-inside.view_is) at c.requires)
+    (rw (← c.self.view_is, ← c.self-inside.view_is) at c.first_hashed-first.ensures) c.find_from.ensures)
