@@ -21,7 +21,7 @@ pub fn lists(rows: &ByOwner, o: usize, kind: Kind, c: usize, x: u64) -> bool
     requires { o ≤ row_count rows.now }
     ensures { result ≡ any_below (λ k. owned_by rows.now o (kind_number kind) k && is rows.now k c x) (row_count rows.now) }
 {
-    rows.owned_by(o, kind).any(|k| rows.has(k, c, x))
+    rows.any_owned(o, kind, |k| rows.has(k, c, x))
 }
 
 // Whether the resource of row k may fill the requirement of row q: one of its candidates or, where it lists none, one of its type.

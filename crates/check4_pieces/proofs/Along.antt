@@ -1,7 +1,7 @@
 -- Walks along a chain that test each of its places. Assumes nothing.
 use Prim.Native.Nat.{ℕ}
 use mathlib.Core.Path.{◌≡◌, refl, ap, ◌∙◌}
-use mathlib.Core.Bool.{Bool, true, false, not, ◌&&◌, ◌||◌}
+use mathlib.Core.Bool.{Bool, true, false, ◌&&◌}
 use mathlib.Core.List.{append-nil}
 use Rattle.loops.specs.Lists.{given, keep, any_of, head}
 use Rattle.loops.specs.Search.{any_below, first_place}
@@ -24,8 +24,3 @@ first_both p t n = ap head (keep_collect t (λ k. given (p k) k) n ∙ collect_e
     go : (k : ℕ) (b : Bool) → keep t (given b k) ≡ given (b && t k) k
     go k true = append-nil (given (t k) k)
     go k false = refl
-
--- two tests that do not both hold
-pub not_both : (a b : Bool) → not (a && b) ≡ (not a || not b)
-not_both true b = refl
-not_both false b = refl

@@ -1,20 +1,22 @@
 -- Laws of the chains by owner and kind: two kinds may share a chain, and a search passes over the rows of the other kind. Assumes nothing.
 use Prim.Native.Nat.{ℕ, suc, ◌+◌, ◌-◌, ◌*◌, ◌%◌, ◌<◌, ◌≤◌}
 use mathlib.Core.Path.{◌≡◌, refl, sym, ap, ◌∙◌}
-use mathlib.Core.Bool.{Bool, true, false, true≢false}
+use mathlib.Core.Bool.{Bool, true, false, true≢false, ◌&&◌}
 use mathlib.Core.List.{List}
 use native.Mathlib.Omega.{arith}
-use lib.Dec.{eqb}
+use lib.Dec.{eqb, ltb}
 use lib.IntN.{ℤ}
 use lib.ListN.{get_or, set}
 use borrow.Author.Tests.{eqb-true, eq-eqb}
+use Rattle.std.proofs.Math.Bool.{and_comm}
+use Rattle.loops.specs.Search.{any_below}
 use Rattle.loops.specs.inner.Chain.{same, First, Links, Stands, Blind}
 use Rattle.loops.proofs.BoolLaws.{and_left, and_right}
 use Rattle.loops.proofs.ChainLaws.{links_again, links_next}
 use Rattle.loops.proofs.TableLaws.{seeking_from}
 use Rattle.loops.proofs.Walks.{stands}
 use Rattle.chains.specs.inner.Along.{Along, Means, Sought}
-use Rattle.chains.proofs.TableWalk.{links_along, sought_all}
+use Rattle.chains.proofs.TableWalk.{links_along, sought_all, sought_below}
 use Rattle.rows.specs.Cells.{row_count, num, is}
 use Rattle.sheet.proofs.Lookups.{is_num}
 use Rattle.owners.specs.inner.Owners.{own_place, owned_by, owned_key, Owned}
@@ -66,11 +68,30 @@ module _ (rows : List ℤ) (o x : ℕ) where
       go true f = sym (keyed_owned k e f)
       go false f = rw f
 
+  module _ (f : ℕ → Bool) where
+    -- a row of the kind that passes a test
+    abbrev passing : ℕ → Bool
+    passing k = owned_by rows o x k && f k
+
+    passing_blind : Blind (same (owned_key rows) key) passing
+    passing_blind = record { still = λ k e. rw (owned_blind.still k e) }
+
+    keyed_passing : (k : ℕ) → same (owned_key rows) key k ≡ true → (f k && is rows k 0 x) ≡ passing k
+    keyed_passing k e = and_comm (f k) (is rows k 0 x) ∙ ap (λ b. b && f k) (keyed_kind k e)
+
   module _ (t : List ℕ) (h : Owned rows t) where
     pub owned_sought : {may : ℕ → Bool → Type 0} {j n r : ℕ} → ((i : ℕ) (b : Bool) → may i b → b ≡ is rows i 0 x) → n ≡ row_count rows → Stands (same (owned_key rows) key) (row_count rows) j
         → ((p q : ℕ → Bool) (N : ℕ) → Along p N t → Stands p N j → n ≤ N → Blind p q → Means p q may → Sought q j n N r) → First (owned_by rows o x) j (row_count rows) r
     owned_sought m e s f =
         sought_all e (f _ _ _ (links_along h.links key) s (omega arith) owned_blind (record { says = λ i b z w. m i b w ∙ keyed_kind i z }))
+
+    -- whether a row of the kind passes a test, by a search that asks for both
+    pub passing_sought : {may : ℕ → Bool → Type 0} {j n r : ℕ} (f : ℕ → Bool) → ((i : ℕ) (b : Bool) → may i b → b ≡ (f i && is rows i 0 x)) → n ≡ row_count rows → o ≤ row_count rows → j ≡ get_or t (800 + key) 0
+        → ((p q : ℕ → Bool) (N : ℕ) → Along p N t → Stands p N j → n ≤ N → Blind p q → Means p q may → Sought q j n N r) → ltb r n ≡ any_below (λ k. owned_by rows o x k && f k) (row_count rows)
+    passing_sought {may} {j} {n} {r} f m e l d s =
+        let g : First (same (owned_key rows) key) 0 (row_count rows) j = rw d (h.links.head key (omega (arith, h.short))) in
+        let k = s _ _ _ (links_along h.links key) (stands _ _ _ g) (omega arith) (passing_blind f) (record { says = λ i b z w. m i b w ∙ keyed_passing f i z }) in
+        sought_below n (passing_blind f) g k ∙ ap (any_below (passing f)) e
 
     -- the first row of the chain, and the first of the kind
     module _ (l : o ≤ row_count rows) {j : ℕ} (e : j ≡ get_or t (800 + key) 0) where

@@ -60,7 +60,7 @@ pub trait LinkIndex: Rows {
 
 // Rows whose table of the rows by owner and kind is filled.
 pub trait OwnerIndex: Rows {
-    ghost use Rattle.std.specs.Prelude.{◌≡◌, ◌≤◌};
+    ghost use Rattle.std.specs.Prelude.{ℕ, Bool, ◌≡◌, ◌≤◌, ◌&&◌};
     ghost use Rattle.chains.specs.Places.{places};
     ghost use Rattle.loops.specs.Search.{first_place, any_below};
     ghost use Rattle.rows.specs.Kinds.{kind_number};
@@ -95,6 +95,19 @@ pub trait OwnerIndex: Rows {
         ensures known { Self.known (Self.rows self.now) }
     {
         OwnedChain::new(self.as_slice(), self.owned(), o, kind).find_first()
+    }
+
+    // Whether a row of a kind that belongs to row o passes the test. Along the table itself, and the test before the kind: two kinds may share a chain, and a test
+    // that asks for one number tells most rows by it. The walk's `any` looks for the next row before it tests one: a fifth slower over 264 companions of 528 bookings.
+    fn any_owned<F: Fn(usize) -> bool>(&self, o: usize, kind: Kind, test: F) -> bool
+        requires row { o ≤ row_count (Self.rows self.now) }
+        requires callable { F.IsAlwaysCallable test }
+        ensures { (f : ℕ → Bool) → ((k : ℕ) (b : Bool) → F.post test k b → b ≡ f k) → result ≡ any_below (λ k. owned_by (Self.rows self.now) o (kind_number kind) k && f k) (row_count (Self.rows self.now)) }
+    {
+        let (rows, owned) = (self.as_slice(), self.owned());
+        let n = rows::row_count(rows);
+        let first = owned.first(o * 10 + kind.number() as usize % 10);
+        owned.find_from(first, n, |i| test(i) && rows::is_of_kind(rows, i, kind)) < n
     }
 
     // Whether a row of a kind belongs to row o.
