@@ -9,6 +9,7 @@ ghost use Rattle.definition.specs.Pieces.{runs_on};
 ghost use Rattle.pieces.specs.inner.Held.{Held};
 ghost use Rattle.derived_times.specs.inner.Needs.{Needs};
 
+use crate::DerivedTimes;
 use chains::ChainTable;
 use model::Sheet;
 use owners::{LinkIndex, OwnerIndex, RowLinks};
@@ -20,8 +21,7 @@ use std::marker::Model;
 #[derive(Drop)]
 pub struct TimedSheet<'a> {
     sheet: &'a Sheet<'a>,
-    held: &'a [bool; 800],
-    need: &'a [u64; 800],
+    times: &'a DerivedTimes,
 }
 
 impl<'a> Model for TimedSheet<'a> {
@@ -33,15 +33,15 @@ impl<'a> Model for TimedSheet<'a> {
 
     ghost view = { λ s. s.sheet.now };
 
-    ghost invariant = { λ s. Held s.sheet.now s.held.now × Needs s.sheet.now s.need.now };
+    ghost invariant = { λ s. Held s.sheet.now s.times.now.held × Needs s.sheet.now s.times.now.need };
 }
 
 impl<'a> TimedSheet<'a> {
-    pub fn new(sheet: &'a Sheet<'a>, held: &'a [bool; 800], need: &'a [u64; 800]) -> TimedSheet<'a>
-        requires { Held sheet.now held.now × Needs sheet.now need.now }
+    pub fn new(sheet: &'a Sheet<'a>, times: &'a DerivedTimes) -> TimedSheet<'a>
+        requires { Held sheet.now times.now.held × Needs sheet.now times.now.need }
         ensures { result ≡ sheet.now }
     {
-        TimedSheet { sheet, held, need }
+        TimedSheet { sheet, times }
     }
 
     // The sheet alone.
@@ -55,7 +55,7 @@ impl<'a> TimedSheet<'a> {
     pub fn need(&self) -> &'a [u64; 800]
         ensures { Needs self.now result.now }
     {
-        self.need
+        &self.times.need
     }
 
     // What booking k, of the activity of row a, needs besides its own setup.
@@ -65,7 +65,7 @@ impl<'a> TimedSheet<'a> {
         ensures value { num self.now k 6 + result ≡ needed_ms (sheet self.now) (activity_of self.now a) (assignment_of self.now k) (runs_on (sheet self.now) (assignment_of self.now k)) }
         ensures bound { result < 9007199254740992 }
     {
-        let need = self.need;
+        let need = &self.times.need;
         need[k]
     }
 }
@@ -104,6 +104,6 @@ impl<'a> OwnerIndex for TimedSheet<'a> {
 
 impl<'a> HeldMarks for TimedSheet<'a> {
     fn held(&self) -> &[bool; 800] {
-        self.held
+        &self.times.held
     }
 }
