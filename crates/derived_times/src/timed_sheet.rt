@@ -10,12 +10,10 @@ ghost use Rattle.pieces.specs.inner.Held.{Held};
 ghost use Rattle.derived_times.specs.inner.Needs.{Needs};
 
 use crate::DerivedTimes;
-use chains::ChainTable;
 use model::Sheet;
-use owners::{LinkIndex, OwnerIndex, RowLinks};
 use pieces::HeldMarks;
-use sheet::{KindIndex, KindTable, Rows};
 use std::marker::Model;
+use std::ops::Deref;
 
 // A sheet that refusals 1 to 6 let pass, with who is held and what each booking needs; seen as the rows.
 #[derive(Drop)]
@@ -70,39 +68,19 @@ impl<'a> TimedSheet<'a> {
     }
 }
 
-impl<'a> Rows for TimedSheet<'a> {
-    ghost use Rattle.std.specs.Prelude.{None, ◌≡◌, ◌≤◌};
-    ghost use Rattle.rows.specs.Cells.{row_count};
-    ghost use Rattle.sheet.specs.Refusals.{refusal_of};
+impl<'a> Deref for TimedSheet<'a> {
+    type Target = Sheet<'a>;
 
-    ghost rows = { λ s. s };
+    ghost deref_gives = { λ s x. x ≡ s };
 
-    ghost known = { λ rows. (refusal_of rows ≡ None) × (row_count rows ≤ 800) };
-
-    fn as_slice(&self) -> &[i64] {
-        self.sheet.as_slice()
-    }
-}
-
-impl<'a> KindIndex for TimedSheet<'a> {
-    fn kinds(&self) -> &KindTable {
-        self.sheet.kinds()
-    }
-}
-
-impl<'a> LinkIndex for TimedSheet<'a> {
-    fn links(&self) -> &RowLinks {
-        self.sheet.links()
-    }
-}
-
-impl<'a> OwnerIndex for TimedSheet<'a> {
-    fn owned(&self) -> &ChainTable<8810> {
-        self.sheet.owned()
+    fn deref(&self) -> &Sheet<'a> {
+        self.sheet
     }
 }
 
 impl<'a> HeldMarks for TimedSheet<'a> {
+    ghost marked = { λ s. s };
+
     fn held(&self) -> &[bool; 800] {
         &self.times.held
     }
