@@ -4,9 +4,8 @@ ghost use Rattle.rows.specs.Cells.{row_count};
 ghost use Rattle.check6_calendars.specs.inner.Lacking.{lacks_time, Lacking};
 
 use model::Sheet;
-use owners::{LinkIndex, RowLinks};
-use sheet::{KindIndex, KindTable, Rows};
 use std::marker::Model;
+use std::ops::Deref;
 
 // An accepted sheet, with which of its bookings lack working time; seen as the rows.
 #[derive(Drop)]
@@ -52,28 +51,12 @@ impl<'a> LackingSheet<'a> {
     }
 }
 
-impl<'a> Rows for LackingSheet<'a> {
-    ghost use Rattle.std.specs.Prelude.{None, ◌≡◌, ◌≤◌};
-    ghost use Rattle.rows.specs.Cells.{row_count};
-    ghost use Rattle.sheet.specs.Refusals.{refusal_of};
+impl<'a> Deref for LackingSheet<'a> {
+    type Target = Sheet<'a>;
 
-    ghost rows = { λ s. s };
+    ghost deref_gives = { λ s x. x ≡ s };
 
-    ghost known = { λ rows. (refusal_of rows ≡ None) × (row_count rows ≤ 800) };
-
-    fn as_slice(&self) -> &[i64] {
-        self.sheet.as_slice()
-    }
-}
-
-impl<'a> KindIndex for LackingSheet<'a> {
-    fn kinds(&self) -> &KindTable {
-        self.sheet.kinds()
-    }
-}
-
-impl<'a> LinkIndex for LackingSheet<'a> {
-    fn links(&self) -> &RowLinks {
-        self.sheet.links()
+    fn deref(&self) -> &Sheet<'a> {
+        self.sheet
     }
 }

@@ -1,11 +1,12 @@
 -- Derived times by row, and which are refused. Assumes nothing.
-use Rattle.refusals.specs.Refusals.{at}
+use Rattle.refusals.specs.Refusals.{at, verdict_of}
+use Rattle.refusals.specs.declared.Refusal.{Refusal}
 use Rattle.refusals.specs.declared.Reason.TheVariants.{Stretched}
 use Prim.Native.Nat.{ℕ, ◌+◌, ◌^◌, ◌<◌, ◌≤◌}
 use mathlib.Core.Path.{◌≡◌, refl, sym, ap, ◌∙◌}
 use mathlib.Core.Bool.{Bool, true, false, cond, not, ◌||◌, true≢false, or-false}
 use mathlib.Core.List.{List, [], ◌∷◌}
-use Rattle.std.specs.Prelude.{Option, None, Some, Ok}
+use Rattle.std.specs.Prelude.{Option, None, Some, Result, Ok, Err, OnOk}
 use native.Mathlib.Omega.{arith}
 use lib.Dec.{ltb, leb}
 use lib.IntN.{ℤ}
@@ -143,6 +144,10 @@ module _ (rows : List ℤ) where
     small = λ k l. let z = leb-false 9007199254740992 (get_or need k 0) (large_here k t l ∙ all_within e k l) in omega arith;
     past = t.past;
   }
+
+  pub needs_passed : {need : List ℕ} (v : Result Unit Refusal) → Times rows need → verdict_of v ≡ time_refusal rows → OnOk v (Needs rows need)
+  needs_passed {need = need} (Ok u) t q = needs_of need t (sym q)
+  needs_passed (Err e) t q = tt
 
 -- ---- what a booking needs besides its own setup
 

@@ -1,7 +1,7 @@
 // The derived times of the bookings, found once for a sheet, and refusal 6.
 #![tactic(auto)]
 
-ghost use Rattle.std.specs.Prelude.{◌≡◌, ◌<◌, ◌≤◌, true, not, ◌&&◌, Some};
+ghost use Rattle.std.specs.Prelude.{◌≡◌, ◌<◌, ◌≤◌, true, false, not, ◌&&◌, Some, OnOk, replicate};
 ghost use Rattle.loops.specs.Lists.{any_of};
 ghost use Rattle.loops.specs.Range.{fold};
 ghost use Rattle.rows.specs.Cells.{row_count, num, is};
@@ -16,13 +16,14 @@ ghost use Rattle.model.specs.Activity.{piece_of};
 ghost use Rattle.model.specs.Schedule.{assignment_at};
 ghost use Rattle.model.specs.inner.Records.{activity_of, assignment_of};
 ghost use Rattle.pieces.specs.inner.Bookings.{in_piece};
-ghost use Rattle.pieces.specs.inner.Held.{held_at};
+ghost use Rattle.pieces.specs.inner.Held.{held_at, Held};
 ghost use Rattle.derived_times.specs.inner.Rows.{columns_of, part_at, timing_of, timing_place, earlier_of, timed_at, Timings};
 ghost use Rattle.derived_times.specs.Times.{derived, is_too_large, time_refusal};
-ghost use Rattle.derived_times.specs.inner.Needs.{rest_ms, rest_at, Times};
+ghost use Rattle.derived_times.specs.inner.Needs.{rest_ms, rest_at, Times, Needs};
 
 pub mod timed_sheet;
 
+use model::Sheet;
 use owners::{LinkIndex, OwnerIndex, Owners};
 use pieces::{HeldMarks, MarkedRows};
 use refusals::{Reason, Verdict};
@@ -231,18 +232,17 @@ impl<'a> Bookings<'a> {
     }
 }
 
-// What each booking of a known activity needs besides its own setup: a number for each of at most 800 rows, since there is no heap.
+// What each booking of a known activity needs besides its own setup, into a table that is lent: a number for each of at most 800 rows, since there is no heap.
 #[tactic(auto, using(loops::proofs::StoreLaws::filled_start, crate::proofs::Parts::times_next, crate::proofs::Parts::times_end))]
-pub fn needs_of(rows: &MarkedRows) -> [u64; 800]
+pub fn needs_into(rows: &MarkedRows, need: &mut [u64; 800])
     requires { Accepted rows.now }
-    ensures { Times rows.now result }
+    ensures { Times rows.now need.new }
 {
     let bookings = Bookings::new(rows);
-    let mut need = [0u64; 800];
+    *need = [0; 800];
     for k in 0..rows.row_count() {
         need[k] = bookings.rest_at(k);
     }
-    need
 }
 
 // ---- refusal 6
@@ -267,4 +267,48 @@ pub fn refused(rows: &[i64], need: &[u64; 800]) -> Verdict
         }
     }
     Ok(())
+}
+
+// ---- the derived times of a sheet
+
+// Who is held and what each booking needs besides its own setup, as one value. The library has no heap: whoever asks for them has them on the stack.
+#[derive(Drop)]
+pub struct DerivedTimes {
+    held: [bool; 800],
+    need: [u64; 800],
+}
+
+impl DerivedTimes {
+    // Of no sheet yet.
+    pub fn new() -> DerivedTimes
+        ensures held { result.held ≡ replicate 800 false }
+        ensures need { result.need ≡ replicate 800 0 }
+    {
+        DerivedTimes {
+            held: [false; 800],
+            need: [0; 800],
+        }
+    }
+
+    // Fills them for a sheet: refusal 6. A sheet that it lets pass is a `TimedSheet` with them.
+    #[tactic(auto, using(model::proofs::Accepting::accepted, crate::proofs::Refusing::needs_passed))]
+    pub fn fill(&mut self, sheet: &Sheet) -> Verdict
+        ensures verdict { verdict_of result ≡ time_refusal sheet.now }
+        ensures held { Held sheet.now self.new.held }
+        ensures times { Times sheet.now self.new.need }
+        ensures needs { OnOk result (Needs sheet.now self.new.need) }
+    {
+        let owners = sheet.owners();
+        pieces::held_into(&sheet.by_kind(), &owners, &mut self.held);
+        needs_into(&MarkedRows::new(owners, &self.held), &mut self.need);
+        refused(sheet.as_slice(), &self.need)
+    }
+
+    // The rows of the sheet that they were filled for, by owner and with who is held.
+    pub fn marked_rows<'a>(&'a self, sheet: &'a Sheet<'a>) -> MarkedRows<'a>
+        requires { Held sheet.now self.now.held }
+        ensures { result ≡ sheet.now }
+    {
+        MarkedRows::new(sheet.owners(), &self.held)
+    }
 }

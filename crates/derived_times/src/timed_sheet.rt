@@ -9,19 +9,17 @@ ghost use Rattle.definition.specs.Pieces.{runs_on};
 ghost use Rattle.pieces.specs.inner.Held.{Held};
 ghost use Rattle.derived_times.specs.inner.Needs.{Needs};
 
-use chains::ChainTable;
+use crate::DerivedTimes;
 use model::Sheet;
-use owners::{LinkIndex, OwnerIndex, RowLinks};
 use pieces::HeldMarks;
-use sheet::{KindIndex, KindTable, Rows};
 use std::marker::Model;
+use std::ops::Deref;
 
 // A sheet that refusals 1 to 6 let pass, with who is held and what each booking needs; seen as the rows.
 #[derive(Drop)]
 pub struct TimedSheet<'a> {
     sheet: &'a Sheet<'a>,
-    held: &'a [bool; 800],
-    need: &'a [u64; 800],
+    times: &'a DerivedTimes,
 }
 
 impl<'a> Model for TimedSheet<'a> {
@@ -33,15 +31,15 @@ impl<'a> Model for TimedSheet<'a> {
 
     ghost view = { λ s. s.sheet.now };
 
-    ghost invariant = { λ s. Held s.sheet.now s.held.now × Needs s.sheet.now s.need.now };
+    ghost invariant = { λ s. Held s.sheet.now s.times.now.held × Needs s.sheet.now s.times.now.need };
 }
 
 impl<'a> TimedSheet<'a> {
-    pub fn new(sheet: &'a Sheet<'a>, held: &'a [bool; 800], need: &'a [u64; 800]) -> TimedSheet<'a>
-        requires { Held sheet.now held.now × Needs sheet.now need.now }
+    pub fn new(sheet: &'a Sheet<'a>, times: &'a DerivedTimes) -> TimedSheet<'a>
+        requires { Held sheet.now times.now.held × Needs sheet.now times.now.need }
         ensures { result ≡ sheet.now }
     {
-        TimedSheet { sheet, held, need }
+        TimedSheet { sheet, times }
     }
 
     // The sheet alone.
@@ -55,7 +53,7 @@ impl<'a> TimedSheet<'a> {
     pub fn need(&self) -> &'a [u64; 800]
         ensures { Needs self.now result.now }
     {
-        self.need
+        &self.times.need
     }
 
     // What booking k, of the activity of row a, needs besides its own setup.
@@ -65,45 +63,25 @@ impl<'a> TimedSheet<'a> {
         ensures value { num self.now k 6 + result ≡ needed_ms (sheet self.now) (activity_of self.now a) (assignment_of self.now k) (runs_on (sheet self.now) (assignment_of self.now k)) }
         ensures bound { result < 9007199254740992 }
     {
-        let need = self.need;
+        let need = &self.times.need;
         need[k]
     }
 }
 
-impl<'a> Rows for TimedSheet<'a> {
-    ghost use Rattle.std.specs.Prelude.{None, ◌≡◌, ◌≤◌};
-    ghost use Rattle.rows.specs.Cells.{row_count};
-    ghost use Rattle.sheet.specs.Refusals.{refusal_of};
+impl<'a> Deref for TimedSheet<'a> {
+    type Target = Sheet<'a>;
 
-    ghost rows = { λ s. s };
+    ghost deref_gives = { λ s x. x ≡ s };
 
-    ghost known = { λ rows. (refusal_of rows ≡ None) × (row_count rows ≤ 800) };
-
-    fn as_slice(&self) -> &[i64] {
-        self.sheet.as_slice()
-    }
-}
-
-impl<'a> KindIndex for TimedSheet<'a> {
-    fn kinds(&self) -> &KindTable {
-        self.sheet.kinds()
-    }
-}
-
-impl<'a> LinkIndex for TimedSheet<'a> {
-    fn links(&self) -> &RowLinks {
-        self.sheet.links()
-    }
-}
-
-impl<'a> OwnerIndex for TimedSheet<'a> {
-    fn owned(&self) -> &ChainTable<8810> {
-        self.sheet.owned()
+    fn deref(&self) -> &Sheet<'a> {
+        self.sheet
     }
 }
 
 impl<'a> HeldMarks for TimedSheet<'a> {
+    ghost marked = { λ s. s };
+
     fn held(&self) -> &[bool; 800] {
-        self.held
+        &self.times.held
     }
 }

@@ -98,24 +98,25 @@ fn first_at(rows: &ByKind, k: usize) -> bool
     rows.is_of_kind(k, Kind::Booking) && is_first(rows, k)
 }
 
-// True at each row that passes a test, false at the others and past the last one: a mark for each of at most 800 rows, since there is no heap.
-fn marks_of<F: Fn(usize) -> bool>(rows: &[i64], test: F) -> [bool; 800]
+// Marks the rows that pass a test: true at each, false at the others and past the last one. There is no heap: a mark for each of at most 800 rows.
+fn mark_into<F: Fn(usize) -> bool>(rows: &[i64], marks: &mut [bool; 800], test: F)
     requires few { row_count rows.now ≤ 800 }
     requires callable { (k : ℕ) → k < row_count rows.now → F.pre test k }
-    ensures { (f : ℕ → Bool) → TellsAs (λ b. b) (row_count rows.now) (F.post test) f → Marks rows.now f result }
+    ensures { (f : ℕ → Bool) → TellsAs (λ b. b) (row_count rows.now) (F.post test) f → Marks rows.now f marks.new }
 {
-    let mut marks = [false; 800];
+    *marks = [false; 800];
     for k in 0..rows::row_count(rows) {
         marks[k] = test(k);
     }
-    marks
 }
 
 // True at each booking that is the first of its piece on its resource.
 fn firsts_of(rows: &ByKind) -> [bool; 800]
     ensures { Marks rows.now (first_on rows.now) result }
 {
-    marks_of(rows.as_slice(), |k| first_at(rows, k))
+    let mut firsts = [false; 800];
+    mark_into(rows.as_slice(), &mut firsts, |k| first_at(rows, k));
+    firsts
 }
 
 // ---- who is held
@@ -193,13 +194,13 @@ impl<'a> Holders<'a> {
     }
 }
 
-// True at each booking that is held, each looked at.
-fn held_marks(rows: &ByKind, owners: &Owners) -> [bool; 800]
+// Marks each booking that is held, each looked at.
+fn mark_held(rows: &ByKind, owners: &Owners, held: &mut [bool; 800])
     requires { Accepted rows.now × (owners.now ≡ rows.now) }
-    ensures { Held rows.now result }
+    ensures { Held rows.now held.new }
 {
     let holders = Holders::new(rows, owners);
-    marks_of(rows.as_slice(), |k| holders.held_at(k))
+    mark_into(rows.as_slice(), held, |k| holders.held_at(k));
 }
 
 // Whether the sheet has a row that names a companion.
@@ -209,15 +210,17 @@ fn names_companions(rows: &ByKind) -> bool
     rows.of_kind(Kind::Companion).next().is_some()
 }
 
-// True at each booking that is held. Where the sheet names no companions that is none.
-pub fn held_of(rows: &ByKind, owners: &Owners) -> [bool; 800]
+// Marks each booking that is held. Where the sheet names no companions that is none.
+#[tactic(auto, using(crate::proofs::Companions::none_held))]
+pub fn held_into(rows: &ByKind, owners: &Owners, held: &mut [bool; 800])
     requires { Accepted rows.now × (owners.now ≡ rows.now) }
-    ensures { Held rows.now result }
+    ensures { Held rows.now held.new }
 {
     if names_companions(rows) {
-        return held_marks(rows, owners);
+        mark_held(rows, owners, held);
+    } else {
+        *held = [false; 800];
     }
-    [false; 800]
 }
 
 // Whether booking k is held, by the marks.

@@ -2,26 +2,30 @@
 ghost use Rattle.std.specs.Prelude.{◌≡◌};
 ghost use Rattle.pieces.specs.inner.Held.{Held};
 
-use chains::ChainTable;
-use owners::{LinkIndex, OwnerIndex, Owners, RowLinks};
-use sheet::Rows;
+use owners::Owners;
 use std::marker::Model;
+use std::ops::Deref;
 
-// Rows with the marks of the bookings that are held.
-pub trait HeldMarks: Rows {
-    ghost use Rattle.std.specs.Prelude.{◌≡◌, ◌<◌};
+// What has marks of who is held: rows, or a sheet.
+pub trait HeldMarks {
+    ghost use Rattle.std.specs.Prelude.{◌≡◌, ◌<◌, List, ℤ};
     ghost use Rattle.rows.specs.Cells.{row_count};
     ghost use Rattle.pieces.specs.inner.Held.{held_at, Held};
 
+    // The rows that are marked.
+    ghost marked: { Self → List ℤ };
+
     fn held(&self) -> &[bool; 800]
-        ensures { Held (Self.rows self.now) result.now };
+        ensures { Held (marked self.now) result.now };
 
     // Whether row k is a booking that is held.
+    #[tactic(auto, using(crate::proofs::Marks::mark_is))]
     fn is_held(&self, k: usize) -> bool
-        requires { k < row_count (Self.rows self.now) }
-        ensures { result ≡ held_at (Self.rows self.now) k }
+        requires { k < row_count (marked self.now) }
+        ensures { result ≡ held_at (marked self.now) k }
     {
-        crate::is_marked(self.as_slice(), self.held(), k)
+        let held = self.held();
+        held[k]
     }
 }
 
@@ -59,32 +63,19 @@ impl<'a> MarkedRows<'a> {
     }
 }
 
-impl<'a> Rows for MarkedRows<'a> {
-    ghost use Rattle.std.specs.Prelude.{◌≤◌};
-    ghost use Rattle.rows.specs.Cells.{row_count};
+impl<'a> Deref for MarkedRows<'a> {
+    type Target = Owners<'a>;
 
-    ghost rows = { λ s. s };
+    ghost deref_gives = { λ s x. x ≡ s };
 
-    ghost known = { λ rows. row_count rows ≤ 800 };
-
-    fn as_slice(&self) -> &[i64] {
-        self.owners.as_slice()
-    }
-}
-
-impl<'a> LinkIndex for MarkedRows<'a> {
-    fn links(&self) -> &RowLinks {
-        self.owners.links()
-    }
-}
-
-impl<'a> OwnerIndex for MarkedRows<'a> {
-    fn owned(&self) -> &ChainTable<8810> {
-        self.owners.owned()
+    fn deref(&self) -> &Owners<'a> {
+        &self.owners
     }
 }
 
 impl<'a> HeldMarks for MarkedRows<'a> {
+    ghost marked = { λ s. s };
+
     fn held(&self) -> &[bool; 800] {
         self.held
     }

@@ -6,7 +6,7 @@ ghost use Rattle.std.specs.Prelude.{◌≡◌, ◌<◌};
 ghost use Rattle.rows.specs.Cells.{row_count};
 ghost use Rattle.sheet.specs.inner.Accepted.{Accepted};
 
-use derived_times::Bookings;
+use derived_times::{Bookings, DerivedTimes};
 use model::{Sheet, SheetIndex};
 use overlap::Overlap;
 use owners::LinkIndex;
@@ -89,12 +89,10 @@ fn sheet_case(rows: &[i64], expected: &[i64], judging: &[i64]) -> bool {
         return false;
     };
     let sheet = Sheet::new(rows, &index);
-    let owners = sheet.owners();
-    let held = pieces::held_of(&sheet.by_kind(), &owners);
-    let marked = MarkedRows::new(owners, &held);
-    let need = derived_times::needs_of(&marked);
-    stored_run::verdict_passes(judging, derived_times::refused(rows, &need))
-        && derived_are(&marked, expected)
+    let mut times = DerivedTimes::new();
+    let verdict = times.fill(&sheet);
+    stored_run::verdict_passes(judging, verdict)
+        && derived_are(&times.marked_rows(&sheet), expected)
 }
 
 // ---- a process at a product of speeds, a share of a fixed time

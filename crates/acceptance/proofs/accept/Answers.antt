@@ -9,4 +9,4 @@ pub new-sheet-requires : goal.new-sheet-requires
 new-sheet-requires c = indexed_of _ c.index.ensures (search rules)
 
 pub returns : goal.returns
-returns c = accept_times _ c.index.ensures (search rules) c.refused.ensures
+returns c = accept_times _ c.index.ensures (search rules) (rw c.new-sheet.ensures at c.fill.ensures.verdict)

@@ -1,6 +1,6 @@
 use native.Mathlib.Omega.{arith}
 use Rattle.pieces.proofs.Marks.{marking_start, marking_turn, marking_end}
-use Rattle.pieces.proofs.marks_of.Goals as goal
+use Rattle.pieces.proofs.mark_into.Goals as goal
 
 pub loop-k-init : goal.loop-k-init
 loop-k-init g c = λ f h. marking_start _

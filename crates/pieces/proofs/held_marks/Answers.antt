@@ -1,6 +1,0 @@
-use borrow.Author.Rules.{rules}
-use Rattle.pieces.specs.inner.Held.{held_at}
-use Rattle.pieces.proofs.held_marks.Goals as goal
-
-pub returns : goal.returns
-returns c = rw c.as_slice.ensures.rows at (c.marks_of.ensures (held_at c.args.rows.now) (λ k r l p. search rules))
