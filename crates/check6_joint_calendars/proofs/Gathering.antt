@@ -89,20 +89,6 @@ out_more cs w p {x} {m} {l} {l'} o a =
       behind_places = past_more x cs p refl a.behind_places o.behind_places;
     }
 
--- where no calendar is laid out yet, all of the room lies behind
-pub out_first : {w : Room TimeWindow} {p : Room Places} {l : LaidCalendars} → LaidOut [] w p l → LaidOut [] (behind l.windows) (behind l.places) l
-unfolding past in_a_row each
-out_first o = record { windows = o.windows; places = o.places; behind_windows = refl; behind_places = refl }
-
--- so what is laid out from there on is laid out in the room that was lent
-pub out_over : {w : Room TimeWindow} {p : Room Places} {l l' : LaidCalendars} (cs : List (Calendar ℤ)) → LaidOut [] w p l → LaidOut cs (behind l.windows) (behind l.places) l' → LaidOut cs w p l'
-out_over cs o h = record {
-  windows = h.windows;
-  places = h.places;
-  behind_windows = h.behind_windows ∙ ap (past (length (in_a_row cs))) (o.behind_windows ∙ (unfold past in_a_row each in refl));
-  behind_places = h.behind_places ∙ ap (past (length cs)) (o.behind_places ∙ (unfold past in refl));
-}
-
 -- a calendar behind others, read at its places
 calendar_from : (w : List TimeWindow) (p c r : Calendar ℤ) (n : ℕ) → map window_of w ≡ p ++ (c ++ r) → n ≡ length p → calendar_of w n (n + length c) ≡ c
 unfolding calendar_of windows_of
@@ -235,12 +221,12 @@ module _ (rows : List ℤ) (marks : List Bool) where
           rw q (gather_none l (unmarked r (omega arith) e (marked marks r) refl) (h (omega arith)))
 
     pub gather_first : {i : ℕ} {w : Room TimeWindow} {p : Room Places} (l : LaidCalendars) → First (of_kind rows 11) 0 (row_count rows) i → LaidOut [] w p l
-        → Resources rows marks i (behind l.windows) (behind l.places) l
-    gather_first {i} l f o =
-        over (At (behind l.windows) (behind l.places) l) (of_kind rows 11) 0 _ _ (still (behind l.windows) (behind l.places) l) f
+        → Resources rows marks i w p l
+    gather_first {i} {w} {p} l f o =
+        over (At w p l) (of_kind rows 11) 0 _ _ (still w p l) f
         (λ z.
         record {
-          out = unfold collect in out_first o;
+          out = unfold collect in o;
           windows = let e : length (calendar_in l.windows) ≡ 0 = ap length o.windows ∙ row_none in omega (arith, e, listed_length l.windows);
           calendars = let e = ap length o.places in omega arith;
         })

@@ -21,7 +21,7 @@ pub struct LaidCalendars<'a> {
 
 impl<'a> LaidCalendars<'a> {
     ghost use Rattle.loops.specs.Search.{count_below};
-    ghost use Rattle.lent_room.specs.Listed.{room_of};
+    ghost use Rattle.lent_room.specs.Listed.{room_of, whole};
     ghost use Rattle.rows.specs.Cells.{row_count, num};
     ghost use Rattle.rows.specs.Kinds.{kind_number};
     ghost use Rattle.calendar.specs.Layout.{calendars_of};
@@ -43,6 +43,15 @@ impl<'a> LaidCalendars<'a> {
             windows: WindowList::over(windows),
             places: LentList::over(places),
         }
+    }
+
+    // Without calendars again: all of the room lies behind them.
+    #[tactic(auto, unfolding(crate::specs::Laid::in_a_row, window_rows::specs::Listed::calendar_in, lent_room::specs::Listed::past, loops::specs::Lists::each))]
+    pub fn clear(&mut self)
+        ensures { LaidOut [] (whole self.old.windows) (whole self.old.places) self.new }
+    {
+        self.windows.clear();
+        self.places.clear();
     }
 
     // The windows of row o, of a resource or of an activity, as one calendar more.

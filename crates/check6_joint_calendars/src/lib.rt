@@ -2,10 +2,10 @@
 // and that of its activity, laid out for the calendar functions.
 #![tactic(auto)]
 
-ghost use Rattle.std.specs.Prelude.{◌≡◌, suc, ◌<◌, true, length, Some};
+ghost use Rattle.std.specs.Prelude.{◌≡◌, suc, ◌<◌, true, Some};
 ghost use Rattle.rows.specs.Cells.{row_count, num, is};
 ghost use Rattle.sheet.specs.Places.{place_of};
-ghost use Rattle.lent_room.specs.Listed.{room_of};
+ghost use Rattle.lent_room.specs.Listed.{whole};
 ghost use Rattle.calendar.specs.Layout.{calendars_of};
 ghost use Rattle.window_rows.specs.Listed.{listed};
 ghost use Rattle.check6_joint_calendars.specs.Laid.{placed, LaidOut, laid_calendars};
@@ -13,7 +13,6 @@ ghost use Rattle.check6_joint_calendars.specs.inner.Taken.{Marked};
 
 mod laid_calendars;
 
-use calendar::{Places, TimeWindow};
 pub use laid_calendars::{LaidCalendars, NO_PLACES};
 use model::Sheet;
 use owners::{LinkIndex, OwnerIndex};
@@ -52,25 +51,18 @@ fn mark_resources(rows: &Sheet, a: usize, k: usize) -> [bool; 800]
 
 // ---- calendars laid out
 
-// The calendars of booking k's piece, of the activity of row a, laid out in the room that is lent; the rest of it stays.
-pub fn lay_calendars<'a>(
-    rows: &Sheet,
-    a: usize,
-    k: usize,
-    windows: &'a mut [TimeWindow],
-    places: &'a mut [Places],
-) -> LaidCalendars<'a>
-    requires { (k < row_count rows.now) × (is rows.now k 0 23 ≡ true) × (place_of rows.now 2 (num rows.now k 1) ≡ Some a) × (length windows.old ≡ 800) × (length places.old ≡ 800) }
-    ensures laid { LaidOut (laid_calendars rows.now k a) (room_of windows.entry) (room_of places.entry) result }
-    ensures calendars { calendars_of (listed result.windows) (placed result) ≡ laid_calendars rows.now k a }
+// The calendars of booking k's piece, of the activity of row a, in place of those that are laid out. The rest of the lent room stays.
+pub fn lay_calendars(rows: &Sheet, a: usize, k: usize, laid: &mut LaidCalendars)
+    requires { (k < row_count rows.now) × (is rows.now k 0 23 ≡ true) × (place_of rows.now 2 (num rows.now k 1) ≡ Some a) }
+    ensures laid { LaidOut (laid_calendars rows.now k a) (whole laid.old.windows) (whole laid.old.places) laid.new }
+    ensures calendars { calendars_of (listed laid.new.windows) (placed laid.new) ≡ laid_calendars rows.now k a }
 {
+    laid.clear();
     let marks = mark_resources(rows, a, k);
-    let mut laid = LaidCalendars::over(windows, places);
     for r in rows.of_kind(Kind::Resource) {
         if marks[r] {
             laid.add(&rows.by_owner(), r, Kind::ResourceWindow);
         }
     }
     laid.add(&rows.by_owner(), a, Kind::ActivityWindow);
-    laid
 }

@@ -2,7 +2,7 @@ use native.Mathlib.Omega.{arith}
 use Rattle.chains.proofs.PlaceLaws.{left_below, left_here, left_first, left_next, left_start, front_start}
 use Rattle.sheet.proofs.Lookups.{place_low}
 use Rattle.check6_joint_calendars.proofs.Marking.{on_resources}
-use Rattle.check6_joint_calendars.proofs.Gathering.{gather_first, gather_next, gather_more, gather_none, holder, room_windows, room_calendars, last_windows, last_calendars, lent, out_over}
+use Rattle.check6_joint_calendars.proofs.Gathering.{gather_first, gather_next, gather_more, gather_none, holder, room_windows, room_calendars, last_windows, last_calendars, lent}
 use Rattle.check6_joint_calendars.proofs.Whole.{activity_holder, whole}
 use Rattle.check6_joint_calendars.proofs.lay_calendars.Goals as goal
 
@@ -10,7 +10,7 @@ pub loop-r-init : goal.loop-r-init
 loop-r-init c =
     let e = c.into_iter-r-iterator.ensures.into_iter_gives in
     let p = c.of_kind-r-items.ensures.places in
-    (left_start _ _ e p, gather_first _ _ (on_resources _ _ c.mark_resources-marks.ensures) _ (front_start _ _ e p) c.over-laid.ensures)
+    (left_start _ _ e p, gather_first _ _ (on_resources _ _ c.mark_resources-marks.ensures) _ (front_start _ _ e p) c.clear.ensures)
 
 pub add-requires : goal.add-requires
 add-requires c =
@@ -46,5 +46,5 @@ add-requires-2 c =
 pub returns : goal.returns
 returns c =
     let h = rw c.in-None.ensures.steps.0 at c.loop-r.invariant.1 in
-    let o = out_over _ c.over-laid.ensures (whole _ _ _ _ _ _ _ c.mark_resources-marks.ensures h (rw c.by_owner-2.ensures.rows at c.add-2.ensures)) in
+    let o = whole _ _ _ _ _ _ _ c.mark_resources-marks.ensures h (rw c.by_owner-2.ensures.rows at c.add-2.ensures) in
     record { laid = o; calendars = lent _ _ _ _ o }
