@@ -24,13 +24,14 @@ ghost use Rattle.check6_calendars.specs.inner.Lacking.{uncovered_at, lacks_time,
 pub mod lacking_sheet;
 
 use calendar::Calendars;
-use check6_joint_calendars::LaidCalendars;
+use check6_joint_calendars::PlacesList;
 use findings::{Findings, Violation, ViolationKind};
 pub use lacking_sheet::LackingSheet;
 use model::Sheet;
 use owners::LinkIndex;
 use rows::Kind;
 use sheet::{Found, KindIndex, Rows};
+use window_rows::WindowList;
 
 // ---- plain bookings
 
@@ -90,17 +91,31 @@ fn is_uncovered(calendars: Calendars, start: u64, end: u64, needed: u64) -> bool
 
 // Whether so much work of booking k, of the activity of row a, is not covered by the working time of its piece.
 #[tactic(auto, using(crate::proofs::Resumable::laid_covered))]
-fn lacks_time(rows: &Sheet, a: usize, k: usize, needed: u64, laid: &mut LaidCalendars) -> bool
+fn lacks_time(
+    rows: &Sheet,
+    a: usize,
+    k: usize,
+    needed: u64,
+    list: &mut WindowList,
+    places: &mut PlacesList,
+) -> bool
     requires { (k < row_count rows.now) × (is rows.now k 0 23 ≡ true) × (place_of rows.now 2 (num rows.now k 1) ≡ Some a) }
     ensures { result ≡ (not (joint_working clock (piece_calendars clock (sheet rows.now) (assignment_of rows.now k) (activity_of rows.now a)) (pos (num rows.now k 4))) || ltb (joint_available_ms clock (piece_calendars clock (sheet rows.now) (assignment_of rows.now k) (activity_of rows.now a)) (pos (num rows.now k 4)) (pos (num rows.now k 5))) needed) }
 {
-    check6_joint_calendars::lay_calendars(rows, a, k, laid);
-    is_uncovered(laid.as_calendars(), rows.num(k, 4), rows.num(k, 5), needed)
+    check6_joint_calendars::lay_calendars(rows, a, k, list, places);
+    let calendars = check6_joint_calendars::as_calendars(list, places);
+    is_uncovered(calendars, rows.num(k, 4), rows.num(k, 5), needed)
 }
 
 // Whether booking k is on a resource of the sheet, of a resumable activity, and lacks working time for its own setup and the rest of its work.
 #[tactic(auto, using(crate::proofs::Resumable::needed_is, owners::proofs::Links::books), unfolding(crate::specs::inner::Lacking::lacks_time))]
-fn lacks_at(rows: &Sheet, need: &[u64; 800], k: usize, laid: &mut LaidCalendars) -> bool
+fn lacks_at(
+    rows: &Sheet,
+    need: &[u64; 800],
+    k: usize,
+    list: &mut WindowList,
+    places: &mut PlacesList,
+) -> bool
     requires { Needs rows.now need.now × (k < row_count rows.now) × (is rows.now k 0 23 ≡ true) }
     ensures { result ≡ lacks_time rows.now k }
 {
@@ -110,7 +125,7 @@ fn lacks_at(rows: &Sheet, need: &[u64; 800], k: usize, laid: &mut LaidCalendars)
     let Found::At(a) = rows.activity_of(k) else {
         return false;
     };
-    rows.has(a, 7, 1) && lacks_time(rows, a, k, rows.num(k, 6) + need[k], laid)
+    rows.has(a, 7, 1) && lacks_time(rows, a, k, rows.num(k, 6) + need[k], list, places)
 }
 
 // Which bookings of resumable activities lack working time. Found once for a sheet, since it is the dearest question of all checks. Its calendars
@@ -121,13 +136,14 @@ pub fn lacking_of(rows: &Sheet, need: &[u64; 800]) -> [bool; 800]
     requires { Needs rows.now need.now }
     ensures { Lacking rows.now result }
 {
-    // No heap: room for a window, and for a calendar, of each row.
-    let mut windows = [window_rows::NO_WINDOW; 800];
-    let mut places = [check6_joint_calendars::NO_PLACES; 800];
-    let mut laid = LaidCalendars::over(&mut windows, &mut places);
+    // No heap: room for a window, for a calendar and for a mark of each row.
+    let mut window_room = [window_rows::NO_WINDOW; 800];
+    let mut place_room = [check6_joint_calendars::NO_PLACES; 800];
+    let mut list = WindowList::over(&mut window_room);
+    let mut places = PlacesList::over(&mut place_room);
     let mut lacking = [false; 800];
     for k in rows.of_kind(Kind::Booking) {
-        lacking[k] = lacks_at(rows, need, k, &mut laid);
+        lacking[k] = lacks_at(rows, need, k, &mut list, &mut places);
     }
     lacking
 }
