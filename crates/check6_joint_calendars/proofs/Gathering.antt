@@ -49,10 +49,6 @@ unfolding in_a_row each total
 row_total [] = refl
 row_total (c ∷ cs) = omega (arith, length-append c (each (λ x. x) cs), row_total cs)
 
-row_none : length (in_a_row []) ≡ 0
-unfolding in_a_row each
-row_none = refl
-
 row_more : (cs : List (Calendar ℤ)) (x : Calendar ℤ) → in_a_row (cs ++ x ∷ []) ≡ in_a_row cs ++ x
 unfolding in_a_row
 row_more cs x = each_append (λ c. c) cs (x ∷ []) ∙ ap (λ y. each (λ c. c) cs ++ y) (unfold each in append-nil x)
