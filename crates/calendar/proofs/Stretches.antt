@@ -56,7 +56,7 @@ nearer_first t x y b m l =
     sym (nearer_min t y b (nearer t x m)) ∙ ap (nearer t y) (sym (nearer_min t x b m) ∙ ap (nearer t x) e)
 
 -- the window's own stop, then the nearer of the two
-pub stop_next : (l : List TimeWindow) (x : TimeWindow) (t b m : ℕ) {s p q r : ℕ} → s ≡ next_stop l t b → p ≡ nearer t x.start m → q ≡ nearer t x.end p
+stop_next : (l : List TimeWindow) (x : TimeWindow) (t b m : ℕ) {s p q r : ℕ} → s ≡ next_stop l t b → p ≡ nearer t x.start m → q ≡ nearer t x.end p
     → r ≡ min s q → s ≤ m → r ≡ next_stop (l ++ x ∷ []) t b
 stop_next l x t b m {s} e f g h k = h ∙ ap (min s) (g ∙ ap (nearer t x.end) f) ∙ nearer_first t x.start x.end s m k ∙ ap (λ z. nearer t x.end (nearer t x.start z)) e ∙ sym (stop_more l x t b)
 

@@ -77,6 +77,17 @@ pub struct Places {
 }
 
 impl Places {
+    // Of all the windows, which are one calendar then.
+    #[tactic(auto, using(crate::proofs::Windows::one_calendar))]
+    pub fn all(windows: &[TimeWindow]) -> Places
+        ensures { calendars_of windows.now (result ∷ []) ≡ map window_of windows.now ∷ [] }
+    {
+        Places {
+            from: 0,
+            to: windows.len(),
+        }
+    }
+
     // The windows at these places.
     #[tactic(auto, using(crate::proofs::Windows::slice_is))]
     pub fn windows_in(self, windows: &[TimeWindow]) -> &[TimeWindow]

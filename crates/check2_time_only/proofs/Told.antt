@@ -7,7 +7,6 @@ use Rattle.std.specs.Prelude.{Option, None, Some}
 use native.Mathlib.Omega.{arith}
 use lib.Dec.{eqb, ltb}
 use lib.IntN.{ℤ, pos}
-use lib.ListN.{length}
 use lib.Signed.{lt_z}
 use mir.Syntax.{w64}
 use mir.Val.{Fits}
@@ -19,9 +18,9 @@ use Rattle.loops.proofs.ListLaws.{each_collect, each_keep}
 use Rattle.calendar.specs.Clock.{clock}
 use Rattle.calendar.specs.Calendar.{Calendar, is_working_time, interval_fits, joint_working}
 use Rattle.calendar.specs.Amount.{joint_available_ms}
+use Rattle.calendar.specs.declared.Places.{Places}
 use Rattle.calendar.specs.declared.TimeWindow.{TimeWindow}
 use Rattle.calendar.specs.Layout.{window_of, calendars_of}
-use Rattle.calendar.proofs.Windows.{one_calendar}
 use Rattle.loops.proofs.NumberLaws.{shorter}
 use Rattle.rows.specs.Cells.{row_count, num, is}
 use Rattle.sheet.specs.Places.{of_kind, place_of}
@@ -86,12 +85,12 @@ module _ (rows : List ℤ) (a k : ℕ) where
   own = own_windows rows a
 
   module _ (w : List TimeWindow) (c : map window_of w ≡ own_windows rows a) where
-    pub short_resumed : {r : Bool} {v work start end : ℕ} → r ≡ is rows a 7 1 → r ≡ true → work ≡ total_ms (activity_of rows a).duration → start ≡ num rows k 3
-        → end ≡ num rows k 4 → v ≡ joint_available_ms clock (calendars_of w (record { from = 0; to = length w } ∷ [])) (pos start) (pos end)
+    pub short_resumed : (p : Places) {r : Bool} {v work start end : ℕ} → r ≡ is rows a 7 1 → r ≡ true → work ≡ total_ms (activity_of rows a).duration → start ≡ num rows k 3
+        → end ≡ num rows k 4 → calendars_of w (p ∷ []) ≡ map window_of w ∷ [] → v ≡ joint_available_ms clock (calendars_of w (p ∷ [])) (pos start) (pos end)
         → ltb v work ≡ too_short clock (span_of rows k) (activity_of rows a) own
     unfolding is
-    short_resumed {v = v} {start = start} {end} q h wk s e g =
-        let j : v ≡ joint_available_ms clock (own ∷ []) (pos (num rows k 3)) (pos (num rows k 4)) = rw (one_calendar w, c, s, e) at g in
+    short_resumed p {v = v} {start = start} {end} q h wk s e o g =
+        let j : v ≡ joint_available_ms clock (own ∷ []) (pos (num rows k 3)) (pos (num rows k 4)) = rw (o, c, s, e) at g in
         rw (sym q ∙ h) (ap₂ ltb j wk)
 
     pub short_plain : {r : Bool} {work start end : ℕ} → r ≡ is rows a 7 1 → r ≡ false → work ≡ total_ms (activity_of rows a).duration → start ≡ num rows k 3

@@ -1,7 +1,7 @@
 // Check 2, `check_time_only`: the spans of the activities that hold no resource, and the activities among them that have none.
 #![tactic(auto)]
 
-ghost use Rattle.std.specs.Prelude.{◌≡◌, true, ◌<◌, ◌≤◌, map, length, Some};
+ghost use Rattle.std.specs.Prelude.{◌≡◌, true, ◌<◌, ◌≤◌, map, Some};
 ghost use Rattle.loops.specs.Lists.{is_empty, each};
 ghost use Rattle.loops.specs.Range.{collect};
 ghost use Rattle.calendar.specs.Clock.{clock};
@@ -83,13 +83,9 @@ fn is_short(rows: &Sheet, a: usize, k: usize, windows: &[TimeWindow]) -> bool
     let start = rows.num(k, 3);
     let end = rows.num(k, 4);
     if rows.has(a, 7, 1) {
-        let all = [Places {
-            from: 0,
-            to: windows.len(),
-        }];
         let calendar = Calendars {
             windows,
-            places: &all,
+            places: &[Places::all(windows)],
         };
         return calendar.joint_available_ms(start, end) < work;
     }
@@ -128,17 +124,17 @@ fn task_release(rows: &Sheet, a: usize) -> Option<u64>
     spans::instant_at(rows.as_slice(), rows.task_of(a)?, 3)
 }
 
-// The findings of the first known span, of row k, of the activity of row a, whose windows are laid out in the room.
+// The findings of the first known span, of row k, of the activity of row a, whose windows are laid out in the list.
 #[tactic(auto, using(sheet::proofs::Lookups::place_within, sheet::proofs::Lookups::place_kind))]
-fn check_first(rows: &Sheet, a: usize, k: usize, room: &mut [TimeWindow], found: &mut Findings)
-    requires { (is rows.now k 0 24 ≡ true) × (place_of rows.now 2 (num rows.now k 1) ≡ Some a) × (length room.old ≡ 800) }
+fn check_first(rows: &Sheet, a: usize, k: usize, list: &mut WindowList, found: &mut Findings)
+    requires { (is rows.now k 0 24 ≡ true) × (place_of rows.now 2 (num rows.now k 1) ≡ Some a) }
     ensures { so_far found.new ≡ tell (so_far found.old) (check_first clock (sheet rows.now) (span_of rows.now k) (activity_of rows.now a)) }
 {
     let own = is_early(rows, k, spans::instant_at(rows.as_slice(), a, 8));
     let of_task = is_early(rows, k, task_release(rows, a));
-    let mut windows = WindowList::over(room);
-    window_rows::gather_windows(&rows.by_owner(), a, Kind::ActivityWindow, &mut windows);
-    let windows = windows.as_slice();
+    list.clear();
+    window_rows::gather_windows(&rows.by_owner(), a, Kind::ActivityWindow, list);
+    let windows = list.as_slice();
     let short = is_short(rows, a, k, windows);
     let outside = is_outside(rows, a, k, windows);
     let id = rows.num(k, 1);
@@ -154,12 +150,12 @@ fn check_first(rows: &Sheet, a: usize, k: usize, room: &mut [TimeWindow], found:
 
 // The findings of the span of row k. A second span of an activity is one finding and no more.
 #[tactic(auto, using(crate::proofs::Told::unknown_told, crate::proofs::Told::again_told, crate::proofs::Told::here_told, crate::proofs::Spans::known_place, crate::proofs::Spans::known_free, crate::proofs::Spans::known_self))]
-fn check_span(rows: &Sheet, k: usize, room: &mut [TimeWindow], found: &mut Findings)
-    requires { (k < row_count rows.now) × (is rows.now k 0 24 ≡ true) × (length room.old ≡ 800) }
+fn check_span(rows: &Sheet, k: usize, list: &mut WindowList, found: &mut Findings)
+    requires { (k < row_count rows.now) × (is rows.now k 0 24 ≡ true) }
     ensures { so_far found.new ≡ tell (so_far found.old) (check_span_at clock (sheet rows.now) k) }
 {
     match known(rows, k) {
-        Some(a) if !is_seen(rows, a, k) => check_first(rows, a, k, room, found),
+        Some(a) if !is_seen(rows, a, k) => check_first(rows, a, k, list, found),
         _ => found.tell(Violation::of(2, ViolationKind::UnknownActivity, rows.num(k, 1))),
     }
 }
@@ -168,9 +164,11 @@ fn check_span(rows: &Sheet, k: usize, room: &mut [TimeWindow], found: &mut Findi
 fn check_spans(rows: &Sheet, found: &mut Findings)
     ensures { so_far found.new ≡ tell (so_far found.old) (collect (check_span_at clock (sheet rows.now)) (row_count rows.now)) }
 {
+    // No heap: room for a window of each row. It is filled once.
     let mut room = [window_rows::NO_WINDOW; 800];
+    let mut list = WindowList::over(&mut room);
     for k in rows.of_kind(Kind::TimeOnlySpan) {
-        check_span(rows, k, &mut room, found);
+        check_span(rows, k, &mut list, found);
     }
 }
 

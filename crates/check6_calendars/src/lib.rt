@@ -2,7 +2,7 @@
 // resumable work starts in the joint working time of its piece, and that time within its span covers it.
 #![tactic(auto)]
 
-ghost use Rattle.std.specs.Prelude.{◌≡◌, ◌<◌, ◌≤◌, true, not, ◌||◌, ltb, pos, length, Some};
+ghost use Rattle.std.specs.Prelude.{◌≡◌, ◌<◌, ◌≤◌, true, not, ◌||◌, ltb, pos, Some};
 ghost use Rattle.loops.specs.Lists.{given, each};
 ghost use Rattle.rows.specs.Cells.{row_count, num, is};
 ghost use Rattle.rows.specs.Kinds.{kind_number};
@@ -23,22 +23,34 @@ ghost use Rattle.check6_calendars.specs.inner.Lacking.{uncovered_at, lacks_time,
 
 pub mod lacking_sheet;
 
-use calendar::{Calendars, Places, TimeWindow};
+use calendar::Calendars;
+use check6_joint_calendars::PlacesList;
 use findings::{Findings, Violation, ViolationKind};
 pub use lacking_sheet::LackingSheet;
 use model::Sheet;
 use owners::LinkIndex;
 use rows::Kind;
 use sheet::{Found, KindIndex, Rows};
+use window_rows::WindowList;
 
 // ---- plain bookings
 
-// Whether booking k fits the windows of row o, of a resource or of an activity, whole.
-fn fits_windows(rows: &Sheet, o: usize, kind: Kind, k: usize) -> bool
-    requires { (o ≤ row_count rows.now) × Holder rows.now o (kind_number kind) }
-    ensures { result ≡ interval_fits clock (windows (sheet rows.now) (kind_number kind) (num rows.now o 1)) (pos (num rows.now k 4)) (pos (num rows.now k 5)) }
+// Reports the violation unless booking k fits the windows of row o, of a resource or of an activity, whole.
+fn report_unfit(
+    rows: &Sheet,
+    o: usize,
+    kind: Kind,
+    k: usize,
+    violation: Violation,
+    found: &mut Findings,
+)
+    requires { (o ≤ row_count rows.now) × Holder rows.now o (kind_number kind) × (violation.entity < 9223372036854775808) }
+    ensures { so_far found.new ≡ tell (so_far found.old) (given (not (interval_fits clock (windows (sheet rows.now) (kind_number kind) (num rows.now o 1)) (pos (num rows.now k 4)) (pos (num rows.now k 5)))) violation) }
 {
-    window_rows::interval_fits(&rows.by_owner(), o, kind, rows.num(k, 4), rows.num(k, 5))
+    let start = rows.num(k, 4);
+    let end = rows.num(k, 5);
+    let fits = window_rows::interval_fits(&rows.by_owner(), o, kind, start, end);
+    found.report(!fits, violation);
 }
 
 #[tactic(auto, using(check6_joint_calendars::proofs::Whole::resource_holder, sheet::proofs::Lookups::place_low, crate::proofs::Plain::resource_fits))]
@@ -46,11 +58,8 @@ fn check_resource(rows: &Sheet, o: usize, k: usize, found: &mut Findings)
     requires { place_of rows.now 11 (num rows.now k 3) ≡ Some o }
     ensures { so_far found.new ≡ tell (so_far found.old) (given (not (interval_fits clock (windows (sheet rows.now) 15 (num rows.now k 3)) (pos (num rows.now k 4)) (pos (num rows.now k 5)))) (resource_unavailable 6 (num rows.now k 3))) }
 {
-    let fits = fits_windows(rows, o, Kind::ResourceWindow, k);
-    found.report(
-        !fits,
-        Violation::of(6, ViolationKind::ResourceUnavailable, rows.num(k, 3)),
-    );
+    let unavailable = Violation::of(6, ViolationKind::ResourceUnavailable, rows.num(k, 3));
+    report_unfit(rows, o, Kind::ResourceWindow, k, unavailable, found);
 }
 
 #[tactic(auto, using(check6_joint_calendars::proofs::Whole::activity_holder, sheet::proofs::Lookups::place_low))]
@@ -58,11 +67,8 @@ fn check_activity(rows: &Sheet, a: usize, k: usize, found: &mut Findings)
     requires { place_of rows.now 2 (num rows.now k 1) ≡ Some a }
     ensures { so_far found.new ≡ tell (so_far found.old) (given (not (interval_fits clock (windows (sheet rows.now) 16 (num rows.now a 1)) (pos (num rows.now k 4)) (pos (num rows.now k 5)))) (time_window_violation 6 (num rows.now k 1))) }
 {
-    let fits = fits_windows(rows, a, Kind::ActivityWindow, k);
-    found.report(
-        !fits,
-        Violation::of(6, ViolationKind::TimeWindowViolation, rows.num(k, 1)),
-    );
+    let outside = Violation::of(6, ViolationKind::TimeWindowViolation, rows.num(k, 1));
+    report_unfit(rows, a, Kind::ActivityWindow, k, outside, found);
 }
 
 // Booking k, that may not pause, of the activity of row a, on the resource of row o.
@@ -90,14 +96,15 @@ fn lacks_time(
     a: usize,
     k: usize,
     needed: u64,
-    windows: &mut [TimeWindow],
-    places: &mut [Places],
+    list: &mut WindowList,
+    places: &mut PlacesList,
 ) -> bool
-    requires { (k < row_count rows.now) × (is rows.now k 0 23 ≡ true) × (place_of rows.now 2 (num rows.now k 1) ≡ Some a) × (length windows.old ≡ 800) × (length places.old ≡ 800) }
+    requires { (k < row_count rows.now) × (is rows.now k 0 23 ≡ true) × (place_of rows.now 2 (num rows.now k 1) ≡ Some a) }
     ensures { result ≡ (not (joint_working clock (piece_calendars clock (sheet rows.now) (assignment_of rows.now k) (activity_of rows.now a)) (pos (num rows.now k 4))) || ltb (joint_available_ms clock (piece_calendars clock (sheet rows.now) (assignment_of rows.now k) (activity_of rows.now a)) (pos (num rows.now k 4)) (pos (num rows.now k 5))) needed) }
 {
-    let laid = check6_joint_calendars::lay_calendars(rows, a, k, windows, places);
-    is_uncovered(laid.as_calendars(), rows.num(k, 4), rows.num(k, 5), needed)
+    check6_joint_calendars::lay_calendars(rows, a, k, list, places);
+    let calendars = check6_joint_calendars::as_calendars(list, places);
+    is_uncovered(calendars, rows.num(k, 4), rows.num(k, 5), needed)
 }
 
 // Whether booking k is on a resource of the sheet, of a resumable activity, and lacks working time for its own setup and the rest of its work.
@@ -106,10 +113,10 @@ fn lacks_at(
     rows: &Sheet,
     need: &[u64; 800],
     k: usize,
-    windows: &mut [TimeWindow],
-    places: &mut [Places],
+    list: &mut WindowList,
+    places: &mut PlacesList,
 ) -> bool
-    requires { Needs rows.now need.now × (k < row_count rows.now) × (is rows.now k 0 23 ≡ true) × (length windows.old ≡ 800) × (length places.old ≡ 800) }
+    requires { Needs rows.now need.now × (k < row_count rows.now) × (is rows.now k 0 23 ≡ true) }
     ensures { result ≡ lacks_time rows.now k }
 {
     let Found::At(_) = rows.booked_resource(k) else {
@@ -118,7 +125,7 @@ fn lacks_at(
     let Found::At(a) = rows.activity_of(k) else {
         return false;
     };
-    rows.has(a, 7, 1) && lacks_time(rows, a, k, rows.num(k, 6) + need[k], windows, places)
+    rows.has(a, 7, 1) && lacks_time(rows, a, k, rows.num(k, 6) + need[k], list, places)
 }
 
 // Which bookings of resumable activities lack working time. Found once for a sheet, since it is the dearest question of all checks. Its calendars
@@ -129,12 +136,14 @@ pub fn lacking_of(rows: &Sheet, need: &[u64; 800]) -> [bool; 800]
     requires { Needs rows.now need.now }
     ensures { Lacking rows.now result }
 {
-    // No heap: room for a window, and for a calendar, of each row.
-    let mut windows = [window_rows::NO_WINDOW; 800];
-    let mut places = [check6_joint_calendars::NO_PLACES; 800];
+    // No heap: room for a window, for a calendar and for a mark of each row.
+    let mut window_room = [window_rows::NO_WINDOW; 800];
+    let mut place_room = [check6_joint_calendars::NO_PLACES; 800];
+    let mut list = WindowList::over(&mut window_room);
+    let mut places = PlacesList::over(&mut place_room);
     let mut lacking = [false; 800];
     for k in rows.of_kind(Kind::Booking) {
-        lacking[k] = lacks_at(rows, need, k, &mut windows, &mut places);
+        lacking[k] = lacks_at(rows, need, k, &mut list, &mut places);
     }
     lacking
 }

@@ -38,9 +38,7 @@ use Rattle.model.proofs.Requiring.{count_less}
 use Rattle.model.proofs.OwnedLaws.{owned_kind}
 use Rattle.window_rows.specs.Listed.{listed, calendar_in}
 use Rattle.window_rows.specs.inner.Laid.{Holder}
-use Rattle.check6_joint_calendars.specs.declared.laid_calendars.LaidCalendars.{LaidCalendars}
 use Rattle.check6_joint_calendars.specs.inner.Taken.{marked, OnResources}
-use Rattle.check6_joint_calendars.specs.Laid as laid
 use Rattle.check6_joint_calendars.specs.Laid.{in_a_row, places_from, LaidOut}
 use Rattle.check6_joint_calendars.specs.inner.Laying.{Added, calendar_at, window_above, Resources}
 
@@ -50,10 +48,6 @@ row_total : (cs : List (Calendar ℤ)) → length (in_a_row cs) ≡ total length
 unfolding in_a_row each total
 row_total [] = refl
 row_total (c ∷ cs) = omega (arith, length-append c (each (λ x. x) cs), row_total cs)
-
-row_none : length (in_a_row []) ≡ 0
-unfolding in_a_row each
-row_none = refl
 
 row_more : (cs : List (Calendar ℤ)) (x : Calendar ℤ) → in_a_row (cs ++ x ∷ []) ≡ in_a_row cs ++ x
 unfolding in_a_row
@@ -71,16 +65,17 @@ unfolding calendar_in
 listed_length l = length-map (listed l) window_of
 
 -- one calendar more
-pub out_more : (cs : List (Calendar ℤ)) (w : Room TimeWindow) (p : Room Places) {x : Calendar ℤ} {m : ℕ} {l l' : LaidCalendars} → LaidOut cs w p l → Added x m l l' → LaidOut (cs ++ x ∷ []) w p l'
-out_more cs w p {x} {m} {l} {l'} o a =
-    let n : length (listed l.windows) ≡ 0 + total length cs =
-    omega (arith, listed_length l.windows, ap length o.windows, row_total cs) in
+pub out_more : (cs : List (Calendar ℤ)) (w : Room TimeWindow) (p : Room Places) {x : Calendar ℤ} {m : ℕ} {l l' : LentList TimeWindow 800} {q q' : LentList Places 800} → LaidOut cs w p l q
+    → Added x m l l' q q' → LaidOut (cs ++ x ∷ []) w p l' q'
+out_more cs w p {x} {m} {l} o a =
+    let n : length (listed l) ≡ 0 + total length cs =
+    omega (arith, listed_length l, ap length o.windows, row_total cs) in
     record {
       windows = a.windows ∙ ap (λ c. c ++ x) o.windows ∙ sym (row_more cs x);
       places =
           a.places
-          ∙ ap (λ p. p ++ record { from = length (listed l.windows); to = length (listed l.windows) + length x } ∷ []) o.places
-          ∙ sym (places_more 0 (length (listed l.windows)) cs x n);
+          ∙ ap (λ p. p ++ record { from = length (listed l); to = length (listed l) + length x } ∷ []) o.places
+          ∙ sym (places_more 0 (length (listed l)) cs x n);
       behind_windows =
           a.behind_windows
           ∙ ap (past (length x)) o.behind_windows
@@ -89,19 +84,10 @@ out_more cs w p {x} {m} {l} {l'} o a =
       behind_places = past_more x cs p refl a.behind_places o.behind_places;
     }
 
--- where no calendar is laid out yet, all of the room lies behind
-pub out_first : {w : Room TimeWindow} {p : Room Places} {l : LaidCalendars} → LaidOut [] w p l → LaidOut [] (behind l.windows) (behind l.places) l
-unfolding past in_a_row each
-out_first o = record { windows = o.windows; places = o.places; behind_windows = refl; behind_places = refl }
-
--- so what is laid out from there on is laid out in the room that was lent
-pub out_over : {w : Room TimeWindow} {p : Room Places} {l l' : LaidCalendars} (cs : List (Calendar ℤ)) → LaidOut [] w p l → LaidOut cs (behind l.windows) (behind l.places) l' → LaidOut cs w p l'
-out_over cs o h = record {
-  windows = h.windows;
-  places = h.places;
-  behind_windows = h.behind_windows ∙ ap (past (length (in_a_row cs))) (o.behind_windows ∙ (unfold past in_a_row each in refl));
-  behind_places = h.behind_places ∙ ap (past (length cs)) (o.behind_places ∙ (unfold past in refl));
-}
+-- where the lists are empty, none is laid out
+none_out : {w : Room TimeWindow} {p : Room Places} (l : LentList TimeWindow 800) (q : LentList Places 800) → listed l ≡ [] → behind l ≡ w → listed q ≡ [] → behind q ≡ p → LaidOut [] w p l q
+unfolding calendar_in in_a_row each past
+none_out l q e a f b = record { windows = ap (map window_of) e; places = f; behind_windows = a; behind_places = b }
 
 -- a calendar behind others, read at its places
 calendar_from : (w : List TimeWindow) (p c r : Calendar ℤ) (n : ℕ) → map window_of w ≡ p ++ (c ++ r) → n ≡ length p → calendar_of w n (n + length c) ≡ c
@@ -121,8 +107,8 @@ laid_from w p (c ∷ cs) n e z =
     (laid_from w (p ++ c) cs (n + length c) (e ∙ sym (append_assoc p c (each (λ x. x) cs))) (omega (arith, z, length-append p c)))
 
 -- as they are lent, they are the calendars that were laid out
-pub lent : (cs : List (Calendar ℤ)) (w : Room TimeWindow) (p : Room Places) (l : LaidCalendars) → LaidOut cs w p l → calendars_of (listed l.windows) (laid.placed l) ≡ cs
-lent cs w p l o = ap (calendars_of (listed l.windows)) o.places ∙ laid_from (listed l.windows) [] cs 0 (unfold calendar_in in o.windows) refl
+pub lent : (cs : List (Calendar ℤ)) (w : Room TimeWindow) (p : Room Places) (l : LentList TimeWindow 800) (q : LentList Places 800) → LaidOut cs w p l q → calendars_of (listed l) (listed q) ≡ cs
+lent cs w p l q o = ap (calendars_of (listed l)) o.places ∙ laid_from (listed l) [] cs 0 (unfold calendar_in in o.windows) refl
 
 -- ---- counts of rows
 
@@ -186,30 +172,31 @@ module _ (rows : List ℤ) where
 
 module _ (rows : List ℤ) (marks : List Bool) where
   -- there is place for one calendar more
-  module _ {r : ℕ} {w : Room TimeWindow} {p : Room Places} (l : LaidCalendars) (h : Resources rows marks r w p l) (b : row_count rows ≤ 800) where
-    pub room_windows : length (listed l.windows) + count_below (owned_by rows r 15) (row_count rows) ≤ 800
+  module _ {r : ℕ} {w : Room TimeWindow} {p : Room Places} (l : LentList TimeWindow 800) (q : LentList Places 800) (h : Resources rows marks r w p l q) (b : row_count rows ≤ 800) where
+    pub room_windows : length (listed l) + count_below (owned_by rows r 15) (row_count rows) ≤ 800
     room_windows = omega (arith, windows_more rows r (row_count rows), count_le (window_above rows (suc r)) (row_count rows), h.windows)
 
-    pub room_calendars : r < row_count rows → length (laid.placed l) < 800
+    pub room_calendars : r < row_count rows → length (listed q) < 800
     room_calendars m = omega (arith, count_le (of_kind rows 11) r, h.calendars)
 
-  pub gather_more : {r : ℕ} {w : Room TimeWindow} {p : Room Places} (l l' : LaidCalendars) → marked marks r ≡ true → of_kind rows 11 r ≡ true
-      → Added (windows (sheet rows) 15 (num rows r 1)) (count_below (owned_by rows r 15) (row_count rows)) l l'
-      → Resources rows marks r w p l → Resources rows marks (suc r) w p l'
-  gather_more {r} {w} {p} l l' e k a h = record {
+  pub gather_more : {r : ℕ} {w : Room TimeWindow} {p : Room Places} (l l' : LentList TimeWindow 800) (q q' : LentList Places 800) → marked marks r ≡ true → of_kind rows 11 r ≡ true
+      → Added (windows (sheet rows) 15 (num rows r 1)) (count_below (owned_by rows r 15) (row_count rows)) l l' q q'
+      → Resources rows marks r w p l q → Resources rows marks (suc r) w p l' q'
+  gather_more {r} {w} {p} l l' q q' e k a h = record {
     out =
         let s : collect (calendar_at rows marks) r ++ windows (sheet rows) 15 (num rows r 1) ∷ [] ≡ collect (calendar_at rows marks) (suc r) =
         unfold collect calendar_at in rw e in
-        subst (λ c. LaidOut c w p l') s (out_more _ w p h.out a);
+        subst (λ c. LaidOut c w p l' q') s (out_more _ w p h.out a);
     windows = let b = windows_more rows r (row_count rows) in omega (arith, a.count, h.windows);
-    calendars = let q = resource_more rows r k in omega (arith, ap length a.places, length_push (laid.placed l) (record { from = length (listed l.windows); to = length (listed l.windows) + length (windows (sheet rows) 15 (num rows r 1)) }), h.calendars);
+    calendars = let z = resource_more rows r k in omega (arith, ap length a.places, length_push (listed q) (record { from = length (listed l); to = length (listed l) + length (windows (sheet rows) 15 (num rows r 1)) }), h.calendars);
   }
 
-  pub gather_none : {r : ℕ} {w : Room TimeWindow} {p : Room Places} (l : LaidCalendars) → marked marks r ≡ false → Resources rows marks r w p l → Resources rows marks (suc r) w p l
-  gather_none {r} {w} {p} l e h = record {
+  pub gather_none : {r : ℕ} {w : Room TimeWindow} {p : Room Places} (l : LentList TimeWindow 800) (q : LentList Places 800) → marked marks r ≡ false → Resources rows marks r w p l q
+      → Resources rows marks (suc r) w p l q
+  gather_none {r} {w} {p} l q e h = record {
     out =
         let s : collect (calendar_at rows marks) r ≡ collect (calendar_at rows marks) (suc r) = unfold collect calendar_at in rw e (sym (append-nil _)) in
-        subst (λ c. LaidOut c w p l) s h.out;
+        subst (λ c. LaidOut c w p l q) s h.out;
     windows = let b = windows_more rows r (row_count rows) in omega (arith, h.windows);
     calendars = let b = h.calendars in unfold count_below in omega arith;
   }
@@ -224,52 +211,47 @@ module _ (rows : List ℤ) (marks : List Bool) where
     unmarked r l e true q = absurd (true≢false (sym (num_is rows r 0 11 (placed rows 11 _ r (m.resource r l q)).kind) ∙ e))
     unmarked r l e false q = q
 
-    module _ (w : Room TimeWindow) (p : Room Places) (l : LaidCalendars) where
+    module _ (w : Room TimeWindow) (p : Room Places) (l : LentList TimeWindow 800) (q : LentList Places 800) where
       -- what is known of row i, where it is one or the end
       abbrev At : ℕ → Type 0
-      At i = i ≤ row_count rows → Resources rows marks i w p l
+      At i = i ≤ row_count rows → Resources rows marks i w p l q
 
       still : (r : ℕ) → of_kind rows 11 r ≡ false → At r → At (r + 1)
       still r e h b =
-          let q : r + 1 ≡ suc r = omega arith in
-          rw q (gather_none l (unmarked r (omega arith) e (marked marks r) refl) (h (omega arith)))
+          let z : r + 1 ≡ suc r = omega arith in
+          rw z (gather_none l q (unmarked r (omega arith) e (marked marks r) refl) (h (omega arith)))
 
-    pub gather_first : {i : ℕ} {w : Room TimeWindow} {p : Room Places} (l : LaidCalendars) → First (of_kind rows 11) 0 (row_count rows) i → LaidOut [] w p l
-        → Resources rows marks i (behind l.windows) (behind l.places) l
-    gather_first {i} l f o =
-        over (At (behind l.windows) (behind l.places) l) (of_kind rows 11) 0 _ _ (still (behind l.windows) (behind l.places) l) f
-        (λ z.
-        record {
-          out = unfold collect in out_first o;
-          windows = let e : length (calendar_in l.windows) ≡ 0 = ap length o.windows ∙ row_none in omega (arith, e, listed_length l.windows);
-          calendars = let e = ap length o.places in omega arith;
-        })
+    pub gather_first : {i : ℕ} {w : Room TimeWindow} {p : Room Places} (l : LentList TimeWindow 800) (q : LentList Places 800) → First (of_kind rows 11) 0 (row_count rows) i
+        → listed l ≡ [] → behind l ≡ w → listed q ≡ [] → behind q ≡ p → Resources rows marks i w p l q
+    gather_first {i} {w} {p} l q f e a g b =
+        over (At w p l q) (of_kind rows 11) 0 _ _ (still w p l q) f
+        (λ z. record { out = unfold collect in none_out l q e a g b; windows = omega (arith, ap length e); calendars = omega (arith, ap length g) })
         f.high
 
-    pub gather_next : {i j : ℕ} {w : Room TimeWindow} {p : Room Places} (l : LaidCalendars) → First (of_kind rows 11) (suc i) (row_count rows) j → Resources rows marks (suc i) w p l
-        → Resources rows marks j w p l
-    gather_next {w = w} {p} l f h = over (At w p l) (of_kind rows 11) (suc _) _ _ (still w p l) f (λ _. h) f.high
+    pub gather_next : {i j : ℕ} {w : Room TimeWindow} {p : Room Places} (l : LentList TimeWindow 800) (q : LentList Places 800) → First (of_kind rows 11) (suc i) (row_count rows) j
+        → Resources rows marks (suc i) w p l q → Resources rows marks j w p l q
+    gather_next {w = w} {p} l q f h = over (At w p l q) (of_kind rows 11) (suc _) _ _ (still w p l q) f (λ _. h) f.high
 
   -- there is place for the calendar of the activity of row a, which booking k is of
-  module _ {w : Room TimeWindow} {p : Room Places} (l : LaidCalendars) (h : Resources rows marks (row_count rows) w p l) (b : row_count rows ≤ 800) where
-    pub last_windows : (a : ℕ) → length (listed l.windows) + count_below (owned_by rows a 16) (row_count rows) ≤ 800
+  module _ {w : Room TimeWindow} {p : Room Places} (l : LentList TimeWindow 800) (q : LentList Places 800) (h : Resources rows marks (row_count rows) w p l q) (b : row_count rows ≤ 800) where
+    pub last_windows : (a : ℕ) → length (listed l) + count_below (owned_by rows a 16) (row_count rows) ≤ 800
     last_windows a = omega (arith, windows_all rows (row_count rows) a (row_count rows), h.windows)
 
-    pub last_calendars : (k : ℕ) → is rows k 0 23 ≡ true → k < row_count rows → length (laid.placed l) < 800
+    pub last_calendars : (k : ℕ) → is rows k 0 23 ≡ true → k < row_count rows → length (listed q) < 800
     last_calendars k e m = omega (arith, resources_few rows k (row_count rows) m e, h.calendars)
 
--- ---- a calendar more in the room that is lent
+-- ---- a calendar more in the rooms that are lent
 
-pub added : (l l' : LaidCalendars) {x : Calendar ℤ} {m from to : ℕ} → from ≡ length (listed l.windows) → to ≡ length (listed l'.windows)
-    → calendar_in l'.windows ≡ calendar_in l.windows ++ x → length (listed l'.windows) ≡ length (listed l.windows) + m → behind l'.windows ≡ past m (behind l.windows)
-    → laid.placed l' ≡ laid.placed l ++ record { from = from; to = to } ∷ [] → behind l'.places ≡ past 1 (behind l.places) → Added x m l l'
-added l l' {x} {m} {from} {to} e f g h b p q =
-    let n : length (listed l'.windows) ≡ length (listed l.windows) + length x =
-    omega (arith, listed_length l'.windows, ap length g, length-append (calendar_in l.windows) x, listed_length l.windows) in
+pub added : (l l' : LentList TimeWindow 800) (q q' : LentList Places 800) {x : Calendar ℤ} {m from to : ℕ} → from ≡ length (listed l) → to ≡ length (listed l')
+    → calendar_in l' ≡ calendar_in l ++ x → length (listed l') ≡ length (listed l) + m → behind l' ≡ past m (behind l)
+    → listed q' ≡ listed q ++ record { from = from; to = to } ∷ [] → behind q' ≡ past 1 (behind q) → Added x m l l' q q'
+added l l' q q' {x} {m} {from} {to} e f g h b c d =
+    let n : length (listed l') ≡ length (listed l) + length x =
+    omega (arith, listed_length l', ap length g, length-append (calendar_in l) x, listed_length l) in
     record {
       windows = g;
-      places = p ∙ ap₂ (λ (i j : ℕ). laid.placed l ++ record { from = i; to = j } ∷ []) e (f ∙ n);
+      places = c ∙ ap₂ (λ (i j : ℕ). listed q ++ record { from = i; to = j } ∷ []) e (f ∙ n);
       count = h;
-      behind_windows = b ∙ ap (λ i. past i (behind l.windows)) (omega (arith, h, n));
-      behind_places = q;
+      behind_windows = b ∙ ap (λ i. past i (behind l)) (omega (arith, h, n));
+      behind_places = d;
     }

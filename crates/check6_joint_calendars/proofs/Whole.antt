@@ -12,6 +12,7 @@ use Rattle.loops.specs.Search.{any_below, count_below}
 use Rattle.loops.proofs.ListLaws.{any_collect, all_append}
 use Rattle.loops.proofs.RangeLaws.{collect_ext}
 use Rattle.loops.proofs.PlaceLaws.{any_same}
+use Rattle.lent_room.specs.declared.lent_list.LentList.{LentList}
 use Rattle.lent_room.specs.Listed.{Room}
 use Rattle.calendar.specs.declared.Places.{Places}
 use Rattle.calendar.specs.declared.TimeWindow.{TimeWindow}
@@ -27,7 +28,6 @@ use Rattle.model.specs.inner.Records.{activity_of, assignment_of}
 use Rattle.model.proofs.Finds.{found_self}
 use Rattle.definition.specs.CheckCalendars.{piece_calendars}
 use Rattle.window_rows.specs.inner.Laid.{Holder}
-use Rattle.check6_joint_calendars.specs.declared.laid_calendars.LaidCalendars.{LaidCalendars}
 use Rattle.check6_joint_calendars.specs.Laid.{taken_at, laid_calendars, LaidOut}
 use Rattle.check6_joint_calendars.specs.inner.Taken.{taken, Marked}
 use Rattle.check6_joint_calendars.specs.inner.Laying.{Added, calendar_at, Resources}
@@ -76,8 +76,8 @@ unfolding calendar_at
 marks_taken rows k m = collect_ext _ _ (row_count rows) (λ r b. ap (λ y. given y (windows (sheet rows) 15 (num rows r 1))) (marked_is rows k m r b))
 
 -- what is promised of the calendars that are laid out
-pub whole : (rows : List ℤ) (k a : ℕ) (w : Room TimeWindow) (p : Room Places) {marks : List Bool} (l l' : LaidCalendars) → Marked rows k (row_count rows) marks
-    → Resources rows marks (row_count rows) w p l → Added (windows (sheet rows) 16 (num rows a 1)) (count_below (owned_by rows a 16) (row_count rows)) l l'
-    → LaidOut (laid_calendars rows k a) w p l'
-whole rows k a w p l l' m r s =
-    subst (λ c. LaidOut (c ++ windows (sheet rows) 16 (num rows a 1) ∷ []) w p l') (marks_taken rows k m) (out_more _ w p r.out s)
+pub whole : (rows : List ℤ) (k a : ℕ) (w : Room TimeWindow) (p : Room Places) {marks : List Bool} (l l' : LentList TimeWindow 800) (q q' : LentList Places 800) → Marked rows k (row_count rows) marks
+    → Resources rows marks (row_count rows) w p l q → Added (windows (sheet rows) 16 (num rows a 1)) (count_below (owned_by rows a 16) (row_count rows)) l l' q q'
+    → LaidOut (laid_calendars rows k a) w p l' q'
+whole rows k a w p l l' q q' m r s =
+    subst (λ c. LaidOut (c ++ windows (sheet rows) 16 (num rows a 1) ∷ []) w p l' q') (marks_taken rows k m) (out_more _ w p r.out s)

@@ -2,23 +2,35 @@
 // and that of its activity, laid out for the calendar functions.
 #![tactic(auto)]
 
-ghost use Rattle.std.specs.Prelude.{◌≡◌, suc, ◌<◌, true, length, Some};
+ghost use Rattle.std.specs.Prelude.{◌≡◌, ◌≤◌, ◌<◌, ◌+◌, suc, true, length, Some};
+ghost use Rattle.loops.specs.Search.{count_below};
+ghost use Rattle.lent_room.specs.Listed.{whole};
 ghost use Rattle.rows.specs.Cells.{row_count, num, is};
-ghost use Rattle.sheet.specs.Places.{place_of};
-ghost use Rattle.lent_room.specs.Listed.{room_of};
+ghost use Rattle.rows.specs.Kinds.{kind_number};
 ghost use Rattle.calendar.specs.Layout.{calendars_of};
+ghost use Rattle.sheet.specs.Places.{place_of};
+ghost use Rattle.owners.specs.inner.Owners.{owned_by};
+ghost use Rattle.model.specs.Sheet.{sheet};
+ghost use Rattle.model.specs.Resource.{windows};
 ghost use Rattle.window_rows.specs.Listed.{listed};
-ghost use Rattle.check6_joint_calendars.specs.Laid.{placed, LaidOut, laid_calendars};
+ghost use Rattle.window_rows.specs.inner.Laid.{Holder};
+ghost use Rattle.check6_joint_calendars.specs.Laid.{LaidOut, laid_calendars};
 ghost use Rattle.check6_joint_calendars.specs.inner.Taken.{Marked};
+ghost use Rattle.check6_joint_calendars.specs.inner.Laying.{Added};
 
-mod laid_calendars;
-
-use calendar::{Places, TimeWindow};
-pub use laid_calendars::{LaidCalendars, NO_PLACES};
+use calendar::{Calendars, Places};
+use lent_room::LentList;
 use model::Sheet;
-use owners::{LinkIndex, OwnerIndex};
+use owners::{ByOwner, LinkIndex, OwnerIndex};
 use rows::Kind;
 use sheet::{Found, KindIndex, Rows};
+use window_rows::WindowList;
+
+// What stands in room before a calendar is laid out there.
+pub const NO_PLACES: Places = Places { from: 0, to: 0 };
+
+// The places of calendars among windows that are laid out: as many calendars as a sheet has rows have room.
+pub type PlacesList<'a> = LentList<'a, Places, 800>;
 
 // ---- the resources of a piece
 
@@ -52,25 +64,54 @@ fn mark_resources(rows: &Sheet, a: usize, k: usize) -> [bool; 800]
 
 // ---- calendars laid out
 
-// The calendars of booking k's piece, of the activity of row a, laid out in the room that is lent; the rest of it stays.
-pub fn lay_calendars<'a>(
+// Lays out the windows of row o, of a resource or of an activity, as one calendar more.
+fn lay_calendar(
+    rows: &ByOwner,
+    o: usize,
+    kind: Kind,
+    list: &mut WindowList,
+    places: &mut PlacesList,
+)
+    requires { (o ≤ row_count rows.now) × Holder rows.now o (kind_number kind) × (length (listed list.old) + count_below (owned_by rows.now o (kind_number kind)) (row_count rows.now) ≤ 800) × (length (listed places.old) < 800) }
+    ensures { Added (windows (sheet rows.now) (kind_number kind) (num rows.now o 1)) (count_below (owned_by rows.now o (kind_number kind)) (row_count rows.now)) list.old list.new places.old places.new }
+{
+    let from = list.len();
+    window_rows::gather_windows(rows, o, kind, list);
+    let to = list.len();
+    places.push(Places { from, to });
+}
+
+// The calendars of booking k's piece, of the activity of row a, one behind the other: their windows, and the places of each among these, in place of what
+// is in the lists. The rest of the lent rooms stays. (Two lists, and not a struct of them: a caller's proof finds its rooms again only behind a list that
+// it holds itself.)
+pub fn lay_calendars(
     rows: &Sheet,
     a: usize,
     k: usize,
-    windows: &'a mut [TimeWindow],
-    places: &'a mut [Places],
-) -> LaidCalendars<'a>
-    requires { (k < row_count rows.now) × (is rows.now k 0 23 ≡ true) × (place_of rows.now 2 (num rows.now k 1) ≡ Some a) × (length windows.old ≡ 800) × (length places.old ≡ 800) }
-    ensures laid { LaidOut (laid_calendars rows.now k a) (room_of windows.entry) (room_of places.entry) result }
-    ensures calendars { calendars_of (listed result.windows) (placed result) ≡ laid_calendars rows.now k a }
+    list: &mut WindowList,
+    places: &mut PlacesList,
+)
+    requires { (k < row_count rows.now) × (is rows.now k 0 23 ≡ true) × (place_of rows.now 2 (num rows.now k 1) ≡ Some a) }
+    ensures laid { LaidOut (laid_calendars rows.now k a) (whole list.old) (whole places.old) list.new places.new }
+    ensures calendars { calendars_of (listed list.new) (listed places.new) ≡ laid_calendars rows.now k a }
 {
     let marks = mark_resources(rows, a, k);
-    let mut laid = LaidCalendars::over(windows, places);
+    list.clear();
+    places.clear();
     for r in rows.of_kind(Kind::Resource) {
         if marks[r] {
-            laid.add(&rows.by_owner(), r, Kind::ResourceWindow);
+            lay_calendar(&rows.by_owner(), r, Kind::ResourceWindow, list, places);
         }
     }
-    laid.add(&rows.by_owner(), a, Kind::ActivityWindow);
-    laid
+    lay_calendar(&rows.by_owner(), a, Kind::ActivityWindow, list, places);
+}
+
+// As they are lent to the calendar functions.
+pub fn as_calendars<'a>(list: &'a WindowList, places: &'a PlacesList) -> Calendars<'a>
+    ensures { calendars_of result.windows.now result.places.now ≡ calendars_of (listed list.now) (listed places.now) }
+{
+    Calendars {
+        windows: list.as_slice(),
+        places: places.as_slice(),
+    }
 }

@@ -119,6 +119,7 @@ fn write_margins(rows: &Sheet, out: &mut [i64]) -> Answer
     ensures value { result ≡ margins_answer rows.now (length out.old / 3) }
     ensures out_after { out.new ≡ margins_after rows.now out.old }
 {
+    // No heap: room for a line of each row.
     let mut lines = [0i64; 2400];
     let count = put_margins(rows, &mut lines);
     match line_buffer::hand_over(out, 3, count, &lines) {

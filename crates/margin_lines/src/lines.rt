@@ -23,9 +23,10 @@ impl MarginKind {
     }
 }
 
-// A margin: the number of what it is of, of which one, and how much; below zero where the task is late or the resource overloaded.
+// A margin: what it is of, of which one, and how much; below zero where the task is late or the resource overloaded.
 #[derive(Clone, Copy)]
 pub struct Margin {
+    // The number, not the kind: margins and findings are compared (specs/Findings), and printed, by the numbers of their lines.
     pub of: u8,
     pub id: u64,
     pub margin: i64,

@@ -82,7 +82,8 @@ get_last [] n (suc m) = ap (λ b. some_if b n) (sym (eqb-zero-suc m))
 get_last (x ∷ l) n zero = refl
 get_last (x ∷ l) n (suc m) = get_last l n m ∙ ap (λ b. or_else (slice_get l m) (some_if b n)) (sym (eqb-suc-suc (length l) m))
 
-counted : (p : ℕ → Bool) (n : ℕ) → length (places p n) ≡ count_below p n
+-- so many places pass a test
+pub counted : (p : ℕ → Bool) (n : ℕ) → length (places p n) ≡ count_below p n
 unfolding places collect count_below
 counted p zero = refl
 counted p (suc n) = go (p n) (counted p n)

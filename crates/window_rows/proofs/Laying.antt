@@ -1,15 +1,13 @@
 -- The windows of a row, place by place along the chain of their owner. Assumes nothing.
-use Prim.Native.Nat.{ℕ, zero, suc, ◌+◌}
+use Prim.Native.Nat.{ℕ}
 use mathlib.Core.Path.{◌≡◌, refl, ap, sym, ◌∙◌}
 use mathlib.Core.Logic.{⊎_elim}
-use mathlib.Core.Bool.{Bool, true, false, ◌&&◌, cond}
+use mathlib.Core.Bool.{Bool, true, false, ◌&&◌}
 use mathlib.Core.List.{List, map}
 use Rattle.std.specs.Prelude.{Some}
 use lib.IntN.{ℤ}
-use lib.ListN.{length, length-append}
 use Rattle.loops.specs.Lists.{given}
 use Rattle.loops.specs.Range.{collect}
-use Rattle.loops.specs.Search.{count_below}
 use Rattle.loops.proofs.ListLaws.{map_collect}
 use Rattle.loops.proofs.RangeLaws.{collect_ext}
 use Rattle.chains.specs.Places.{places}
@@ -21,16 +19,6 @@ use Rattle.model.specs.Resource.{windows}
 use Rattle.model.proofs.OwnedLaws.{of_activity, of_resource}
 use Rattle.window_rows.specs.inner.Laid.{Holder}
 use Rattle.window_rows.proofs.WindowRows.{window_row, window_naming, resource_windows, activity_windows}
-
--- so many places pass a test
-pub count_places : (p : ℕ → Bool) (n : ℕ) → length (places p n) ≡ count_below p n
-unfolding places collect count_below
-count_places p zero = refl
-count_places p (suc n) = length-append (places p n) (given (p n) n) ∙ ap (λ m. m + length (given (p n) n)) (count_places p n) ∙ ap (λ m. count_below p n + m) (go (p n))
-  where
-    go : (b : Bool) → length (given b n) ≡ cond b 1 0
-    go true = refl
-    go false = refl
 
 module _ (rows : List ℤ) (o x : ℕ) where
   -- the windows of row o, place by place

@@ -23,10 +23,10 @@ use Rattle.calendar.specs.Clock.{clock}
 use Rattle.calendar.specs.Calendar.{Calendar, joint_working}
 use Rattle.calendar.specs.Amount.{since}
 use Rattle.calendar.specs.WorkEnd.{Ending, ends_at, pauses, never, map_ending, after, end_in, reach, reaches, end_after, end_from, joint_work_end}
+use Rattle.calendar.specs.declared.Places.{Places}
 use Rattle.calendar.specs.declared.TimeWindow.{TimeWindow}
 use Rattle.lent_room.specs.declared.lent_list.LentList.{LentList}
 use Rattle.calendar.specs.Layout as layout
-use Rattle.calendar.proofs.Windows.{one_calendar}
 use Rattle.rows.specs.declared.Class.TheVariants.{Id, Instant, SignedTime}
 use Rattle.rows.specs.Ranges.{between, is_none, in_range, in_class}
 use Rattle.rows.specs.Cells.{row_count, num, is}
@@ -197,16 +197,16 @@ module _ (rows : List ℤ) (resource start work : ℤ) (i : in_order start work 
   unfolding in_order
   same_start = (start_in start (and_left (in_class Instant start) (in_class SignedTime work) i)).0
 
-  -- the windows w are those of the list l, m of them
-  pub ending_said : (l : LentList TimeWindow 800) {r : Result InquiryEnd Refusal} {a : calendar.WorkEnd} {s m : ℕ} {w : List TimeWindow} → calendar_in l ≡ inquired_calendar rows (read resource) → Near (calendar_in l)
-      → m ≡ length (listed l) → w ≡ listed l → s ≡ to_nat (read start)
-      → a ≡ layout.saying (joint_work_end clock (layout.calendars_of w (record { from = 0; to = m } ∷ [])) (pos s) (read work)) → r ≡ said a → SFits w64 resource → SFits w64 start → SFits w64 work
+  -- the windows w are those of the list l, all at the places p
+  pub ending_said : (l : LentList TimeWindow 800) (p : Places) {r : Result InquiryEnd Refusal} {a : calendar.WorkEnd} {s : ℕ} {w : List TimeWindow} → calendar_in l ≡ inquired_calendar rows (read resource) → Near (calendar_in l)
+      → w ≡ listed l → layout.calendars_of w (p ∷ []) ≡ map layout.window_of w ∷ [] → s ≡ to_nat (read start)
+      → a ≡ layout.saying (joint_work_end clock (layout.calendars_of w (p ∷ [])) (pos s) (read work)) → r ≡ said a → SFits w64 resource → SFits w64 start → SFits w64 work
       → outcome_of r ≡ ends (joint_work_end clock (inquired_calendar rows resource ∷ []) start work)
   unfolding calendar_in
-  ending_said l {m = m} {w = w} c n z y h e f o p q =
+  ending_said l p {w = w} c n y z h e f o u q =
       let d : calendar_in l ≡ inquired_calendar rows resource = c ∙ ap (inquired_calendar rows) (to_z-of_z o) in
-      ap outcome_of (f ∙ ap said (rw (to_z-of_z q, h, to_z-of_z p, y, z) at e))
-      ∙ ap (λ c. outcome_of (said (layout.saying (joint_work_end clock c (pos (to_nat start)) work)))) (one_calendar (listed l) ∙ ap (λ x. x ∷ []) d)
+      ap outcome_of (f ∙ ap said (rw (to_z-of_z q, h, to_z-of_z u, z, y) at e))
+      ∙ ap (λ c. outcome_of (said (layout.saying (joint_work_end clock c (pos (to_nat start)) work)))) (ap (λ x. x ∷ []) d)
       ∙ said_as_is (joint_work_end clock (inquired_calendar rows resource ∷ []) (pos (to_nat start)) work) (fits_inquiry (rw d at (n.near (to_nat start))))
       ∙ ap (λ x. ends (joint_work_end clock (inquired_calendar rows resource ∷ []) x work)) same_start
 

@@ -81,13 +81,10 @@ fn ending(rows: &Sheet, resource: i64, start: i64, work: i64) -> InquiryAnswer
     let mut room = [window_rows::NO_WINDOW; 800];
     let mut list = WindowList::over(&mut room);
     resource_calendar(rows, resource, &mut list);
-    let all = [Places {
-        from: 0,
-        to: list.len(),
-    }];
+    let windows = list.as_slice();
     let calendar = Calendars {
-        windows: list.as_slice(),
-        places: &all,
+        windows,
+        places: &[Places::all(windows)],
     };
     answer_of(calendar.joint_work_end(rows::nat(start), work))
 }

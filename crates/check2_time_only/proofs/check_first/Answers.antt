@@ -11,11 +11,11 @@ gather_windows-requires c = rw c.by_owner.ensures.rows (search (rules, place_low
 
 pub is_short-short-requires : goal.is_short-short-requires
 is_short-short-requires c =
-    let e = rw c.by_owner.ensures.rows at (alone _ _ _ c.over-windows.ensures.list c.gather_windows.ensures.laid c.as_slice-windows.ensures.list) in
+    let e = rw c.by_owner.ensures.rows at (alone _ _ _ c.clear.ensures.list c.gather_windows.ensures.laid c.as_slice-windows.ensures.list) in
     search (rules, place_kind)
 
 pub is_outside-outside-requires : goal.is_outside-outside-requires
-is_outside-outside-requires c = rw c.by_owner.ensures.rows at (alone _ _ _ c.over-windows.ensures.list c.gather_windows.ensures.laid c.as_slice-windows.ensures.list)
+is_outside-outside-requires c = rw c.by_owner.ensures.rows at (alone _ _ _ c.clear.ensures.list c.gather_windows.ensures.laid c.as_slice-windows.ensures.list)
 
 pub returns : goal.returns
 returns c =

@@ -1,5 +1,0 @@
-use Rattle.check6_joint_calendars.proofs.Gathering.{added}
-use Rattle.check6_joint_calendars.proofs.laid_calendars.LaidCalendars.add.Goals as goal
-
-pub returns : goal.returns
-returns c = added c.args.self.now _ c.len-from.ensures c.len-to.ensures c.gather_windows.ensures.laid c.gather_windows.ensures.count c.gather_windows.ensures.behind c.push.ensures.list c.push.ensures.behind
