@@ -117,8 +117,8 @@ pub trait OwnerIndex: Rows {
     }
 }
 
-// Three types of rows, by the tables that are filled: the rows by owner are filled of rows with their owners (`owned_into`), as those are of the rows by kind, and
-// who only walks or only looks up owners asks no more of a caller. One type that has either table or both would have to say at each use which.
+// Three types of rows, by which tables are filled. The rows by owner are filled from rows with their owners (`owned_into`), as those are from the rows by kind, and
+// whoever only walks, or only looks up owners, asks no more of a caller. One type for the three would have to say at each use which tables it has.
 
 // The rows of a sheet with the table of owners; seen as the rows. There is no heap: tables are arrays that are lent.
 #[derive(Drop)]
