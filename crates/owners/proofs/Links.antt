@@ -10,21 +10,24 @@ use Rattle.rows.specs.Cells.{num, is}
 use Rattle.sheet.specs.Places.{place_of}
 use Rattle.sheet.specs.inner.Index.{or_end, stored_place}
 use Rattle.sheet.proofs.Lookups.{is_num}
-use Rattle.sheet.proofs.Stored.{stored_place_lem}
+use Rattle.sheet.proofs.Stored.{stored}
+use Rattle.owners.proofs.Tables.{owner_within}
 use Rattle.owners.specs.inner.Owners.{owner_kind, owner_of, owner_place, own_place, res_place}
 
 module _ (rows : List ℤ) where
-  own_task : (k : ℕ) {o : ℕ} → is rows k 0 2 ≡ true → o ≡ own_place rows k → o ≡ or_end rows (place_of rows 1 (num rows k 2))
-  unfolding own_place owner_place owner_kind owner_of
-  own_task k h e = rw (is_num rows k 0 2 h) at e
+  -- what is read of the table
+  pub owner_read : (k : ℕ) {o : ℕ} {x : Option ℕ} → o ≡ own_place rows k → x ≡ stored_place rows o → x ≡ owner_place rows k
+  unfolding own_place owner_place
+  owner_read k e f = f ∙ stored rows (owner_place rows k) e (owner_within rows (owner_kind (num rows k 0)) k)
 
-  -- the task that is read of the table
-  pub found_task : (k : ℕ) {o : ℕ} {x : Option ℕ} → is rows k 0 2 ≡ true → o ≡ own_place rows k → x ≡ stored_place rows o → x ≡ place_of rows 1 (num rows k 2)
-  found_task k h e f = f ∙ stored_place_lem rows 1 (num rows k 2) (own_task k h e)
+  -- the owner as it is named
+  pub task_named : (k : ℕ) {x : Option ℕ} → is rows k 0 2 ≡ true → x ≡ owner_place rows k → x ≡ place_of rows 1 (num rows k 2)
+  unfolding owner_place owner_kind owner_of
+  task_named k h e = rw (is_num rows k 0 2 h) at e
 
-  pub own_activity : (k : ℕ) {o : ℕ} → owner_kind (num rows k 0) ≡ Some ActivityRow → o ≡ own_place rows k → o ≡ or_end rows (place_of rows 2 (num rows k 1))
-  unfolding own_place owner_place owner_of
-  own_activity k h e = rw h at e
+  pub activity_named : (k : ℕ) {x : Option ℕ} → owner_kind (num rows k 0) ≡ Some ActivityRow → x ≡ owner_place rows k → x ≡ place_of rows 2 (num rows k 1)
+  unfolding owner_place owner_of
+  activity_named k h e = rw h at e
 
   pub own_resource : (k : ℕ) {o : ℕ} → is rows k 0 23 ≡ true → o ≡ res_place rows k → o ≡ or_end rows (place_of rows 11 (num rows k 3))
   unfolding res_place

@@ -127,9 +127,18 @@ module _ (rows : List ℤ) (k seen : ℕ) (t : List ℕ) (h : Numbering rows k s
     number = λ m z. rw (q, nth_step p m k, is_nth_lem p m k {y = false} {b = false} h.count e refl) (h.number m z ∙ ap (or_end rows) (sym (or_none_lem (nth_place p m k))));
   }
 
-  pub numbering_turn : (b : Bool) {n : ℕ} (seen' : ℕ) (t' : List ℕ) → k < n → n ≡ row_count rows → row_count rows ≤ 800 → b ≡ p k
-      → t' ≡ cond b (set t seen k) t → seen' ≡ seen + cond b 1 0 → Numbering rows (k + 1) seen' t'
-  numbering_turn b seen' t' l z u e q r = rw add-one (turn b seen' t' e (omega arith) (counted_le p k h.count) q r)
+  -- there is room for one more
+  pub numbering_low : {n : ℕ} → k < n → n ≡ row_count rows → row_count rows ≤ 800 → seen < 800
+  numbering_low l z u = omega (arith, counted_le p k h.count)
+
+  -- the next row, a constraint or none
+  pub numbering_yes : {b : Bool} {n seen' : ℕ} {t' : List ℕ} → k < n → n ≡ row_count rows → row_count rows ≤ 800 → b ≡ p k → b ≡ true → t' ≡ set t seen k → seen' ≡ seen + 1
+      → Numbering rows (k + 1) seen' t'
+  numbering_yes l z u e y q r = rw add-one (turn true _ _ (sym y ∙ e) (omega arith) (counted_le p k h.count) q r)
+
+  pub numbering_no : {b : Bool} {n seen' : ℕ} {t' : List ℕ} → k < n → n ≡ row_count rows → row_count rows ≤ 800 → b ≡ p k → b ≡ false → t' ≡ t → seen' ≡ seen
+      → Numbering rows (k + 1) seen' t'
+  numbering_no l z u e y q r = rw add-one (turn false _ _ (sym y ∙ e) (omega arith) (counted_le p k h.count) q (omega arith))
 
 pub numbering_end : (rows : List ℤ) (k seen n : ℕ) (t : List ℕ) → Numbering rows k seen t → k ≤ n → n ≤ k → n ≡ row_count rows → row_count rows ≤ 800 → Numbered rows t
 numbering_end rows k seen n t h a b e s = record {

@@ -18,12 +18,12 @@ pub trait LinkIndex: Rows {
     ghost use Rattle.sheet.specs.Places.{task_place, activity_place, resource_place};
     ghost use Rattle.sheet.specs.inner.Found.{found_of};
     ghost use Rattle.owners.specs.declared.Owner.{Owner};
-    ghost use Rattle.owners.specs.inner.Owners.{owner_kind, own_place, Linked};
+    ghost use Rattle.owners.specs.inner.Owners.{owner_kind, owner_place, own_place, Linked};
 
     fn links(&self) -> &RowLinks
         ensures { Linked (Self.rows self.now) result.now };
 
-    // The row that row k belongs to, or the number of rows: no Option, for rows without an owner have a key among the chains by owner too.
+    // The row that row k belongs to, or the number of rows: rows without an owner have a key among the chains by owner too.
     #[tactic(auto, using(crate::proofs::Tables::own_entry))]
     fn owner_of(&self, k: usize) -> usize
         requires { k < row_count (Self.rows self.now) }
@@ -32,20 +32,31 @@ pub trait LinkIndex: Rows {
         usize::from(self.links().owners[k])
     }
 
+    // The same, if there is one.
+    #[tactic(auto, using(crate::proofs::Links::owner_read))]
+    fn find_owner(&self, k: usize) -> Option<usize>
+        requires { k < row_count (Self.rows self.now) }
+        ensures { result ≡ owner_place (Self.rows self.now) k }
+    {
+        sheet::stored_place(self.as_slice(), self.owner_of(k))
+    }
+
     // The row of the activity that row k, a booking or a time-only span, names.
+    #[tactic(auto, using(crate::proofs::Links::activity_named))]
     fn activity_of(&self, k: usize) -> Found
         requires { (k < row_count (Self.rows self.now)) × (owner_kind (num (Self.rows self.now) k 0) ≡ Some Owner.ActivityRow) }
         ensures { found_of result ≡ activity_place (Self.rows self.now) (num (Self.rows self.now) k 1) }
     {
-        Found::from(sheet::stored_place(self.as_slice(), self.owner_of(k)))
+        Found::from(self.find_owner(k))
     }
 
     // The row of the task that activity k is of.
+    #[tactic(auto, using(crate::proofs::Links::task_named))]
     fn task_of(&self, k: usize) -> Option<usize>
         requires { (k < row_count (Self.rows self.now)) × (is (Self.rows self.now) k 0 2 ≡ true) }
         ensures { result ≡ task_place (Self.rows self.now) (num (Self.rows self.now) k 2) }
     {
-        sheet::stored_place(self.as_slice(), self.owner_of(k))
+        self.find_owner(k)
     }
 
     // The row of the resource that booking k names.
@@ -118,6 +129,9 @@ pub trait OwnerIndex: Rows {
         self.find_owned(o, kind).is_some()
     }
 }
+
+// Three types of rows, by which tables are filled. The rows by owner are filled from rows with their owners (`owned_into`), as those are from the rows by kind, and
+// whoever only walks, or only looks up owners, asks no more of a caller. One type for the three would have to say at each use which tables it has.
 
 // The rows of a sheet with the table of owners; seen as the rows. There is no heap: tables are arrays that are lent.
 #[derive(Drop)]

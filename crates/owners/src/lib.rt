@@ -2,7 +2,7 @@
 // belong to a row are chains of places, as the rows of a kind are.
 #![tactic(auto)]
 
-ghost use Rattle.std.specs.Prelude.{Some, ◌≡◌, ◌+◌, ◌*◌, ◌%◌, ◌<◌, ◌≤◌, cond, set, replicate};
+ghost use Rattle.std.specs.Prelude.{Some, ◌≡◌, ◌+◌, ◌*◌, ◌%◌, ◌<◌, ◌≤◌, set, replicate};
 ghost use Rattle.rows.specs.Cells.{row_count, num};
 ghost use Rattle.sheet.specs.Places.{requirement_place, is_constraint, constraint_place};
 ghost use Rattle.owners.specs.inner.Owners.{owner_kind, owner_place, own_place, res_place, owned_key, Numbered, Linked, Owned};
@@ -33,20 +33,8 @@ fn is_constraint(rows: &[i64], k: usize) -> bool
     constraints.contains(&rows::num_at(rows, k, 0))
 }
 
-// Row k at the next number, if it is a constraint; and the number after it.
-fn number_row(t: &mut [u16; 800], next: usize, k: usize, yes: bool) -> usize
-    requires { (k < 800) × (next ≤ k) }
-    ensures table { t.new ≡ cond yes (set t.old next k) t.old }
-    ensures value { result ≡ next + cond yes 1 0 }
-{
-    if !yes {
-        return next;
-    }
-    t[next] = k as u16;
-    next + 1
-}
-
 // The row of constraint place m at place m. The table is lent: one that is returned stands twice in the caller's frame.
+#[tactic(auto, using(crate::proofs::Tables::numbering_low))]
 fn number_rows(rows: &[i64], t: &mut [u16; 800])
     requires { (row_count rows.now ≤ 800) × (t.old ≡ replicate 800 (row_count rows.now)) }
     ensures { Numbered rows.now t.new }
@@ -54,7 +42,10 @@ fn number_rows(rows: &[i64], t: &mut [u16; 800])
     let n = rows::row_count(rows);
     let mut next = 0;
     for k in 0..n {
-        next = number_row(t, next, k, is_constraint(rows, k));
+        if is_constraint(rows, k) {
+            t[next] = k as u16;
+            next += 1;
+        }
     }
 }
 

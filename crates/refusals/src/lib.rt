@@ -4,27 +4,27 @@
 ghost use Rattle.std.specs.Prelude.{◌≡◌};
 ghost use Rattle.refusals.specs.Refusals.{number_of, at};
 
-// Why something is refused; each request adds its own.
+// Why something is refused, each with its number; each request adds its own.
 #[derive(Clone, Copy, PartialEq, Eq)]
 pub enum Reason {
     // Rows of a sheet.
-    Misshapen,
-    UnknownKind,
-    OutOfRange,
-    Stray,
-    Twice,
+    Misshapen = 1,
+    UnknownKind = 2,
+    OutOfRange = 3,
+    Stray = 4,
+    Twice = 5,
     // A booking's derived time.
-    Stretched,
+    Stretched = 6,
     // The findings.
-    Full,
+    Full = 7,
     // A text.
-    Overlong,
-    Misspelt,
-    Crowded,
+    Overlong = 8,
+    Misspelt = 9,
+    Crowded = 10,
     // An office calendar.
-    Malformed,
-    Undated,
-    Overfull,
+    Malformed = 11,
+    Undated = 12,
+    Overfull = 13,
 }
 
 // Why, and at the place of which row or line, counted from 0.
@@ -45,21 +45,7 @@ impl Reason {
     pub fn number(self) -> u64
         ensures { result ≡ number_of self }
     {
-        match self {
-            Reason::Misshapen => 1,
-            Reason::UnknownKind => 2,
-            Reason::OutOfRange => 3,
-            Reason::Stray => 4,
-            Reason::Twice => 5,
-            Reason::Stretched => 6,
-            Reason::Full => 7,
-            Reason::Overlong => 8,
-            Reason::Misspelt => 9,
-            Reason::Crowded => 10,
-            Reason::Malformed => 11,
-            Reason::Undated => 12,
-            Reason::Overfull => 13,
-        }
+        self as u64
     }
 
     // Refused for this reason at that place.

@@ -128,7 +128,7 @@ pub trait KindIndex: Rows {
         requires { k ≤ row_count (Self.rows self.now) }
         ensures { result ≡ any_below (named (Self.rows self.now) (kind_number kind) id) k }
     {
-        NamedChain::new(self.as_slice(), self.kinds(), kind, id).first_place() < k
+        NamedChain::new(self.as_slice(), self.kinds(), kind, id).has_earlier(k)
     }
 
     // Whether one of those has that number in column 2.
@@ -136,7 +136,7 @@ pub trait KindIndex: Rows {
         requires { k ≤ row_count (Self.rows self.now) }
         ensures { result ≡ any_below (named_pair (Self.rows self.now) (kind_number kind) id other) k }
     {
-        NamedChain::new(self.as_slice(), self.kinds(), kind, id).has_pair_below(other, k)
+        NamedChain::new(self.as_slice(), self.kinds(), kind, id).has_earlier_pair(other, k)
     }
 
     // The first row of a kind with that id.
@@ -302,9 +302,17 @@ impl<'a> NamedChain<'a> {
             .find_from(j, rows::row_count(rows), |i| is_named(rows, kind, id, i))
     }
 
-    // Whether one of them above row k has that number in column 2. Along all rows that share the chain: to test kind and id first, as the walk of the rows of a
+    // Whether one of them is earlier than row k.
+    fn has_earlier(&self, k: usize) -> bool
+        requires { k ≤ row_count self.now.0 }
+        ensures { result ≡ any_below (named self.now.0 self.now.1 self.now.2) k }
+    {
+        self.find_from(self.first_hashed()) < k
+    }
+
+    // Whether one of those has that number in column 2. Along all rows that share the chain: to test kind and id first, as the walk of the rows of a
     // name does, took 1.21 of the time over 800 speeds of one activity (docs/SPEED.md).
-    fn has_pair_below(&self, other: u64, k: usize) -> bool
+    fn has_earlier_pair(&self, other: u64, k: usize) -> bool
         requires { k ≤ row_count self.now.0 }
         ensures { result ≡ any_below (named_pair self.now.0 self.now.1 self.now.2 other) k }
     {

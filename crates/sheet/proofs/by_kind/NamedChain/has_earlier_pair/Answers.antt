@@ -1,6 +1,6 @@
 use Rattle.std.proofs.Common.{rules}
 use Rattle.sheet.proofs.Naming.{pair_sought}
-use Rattle.sheet.proofs.by_kind.NamedChain.has_pair_below.Goals as goal
+use Rattle.sheet.proofs.by_kind.NamedChain.has_earlier_pair.Goals as goal
 
 pub returns : goal.returns
 returns c =
