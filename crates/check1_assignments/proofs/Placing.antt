@@ -1,7 +1,7 @@
 -- Where a booking belongs: its activity's row, whether it is misplaced, and that it stands in its activity's chain. Assumes nothing.
 use Prim.Native.Nat.{ℕ, ◌<◌, ◌≤◌}
 use mathlib.Core.Path.{◌≡◌, refl, ap, sym, ◌∙◌}
-use mathlib.Core.Bool.{true, not, ◌&&◌, ◌||◌}
+use mathlib.Core.Bool.{Bool, true, false, cond, not, ◌&&◌, ◌||◌}
 use mathlib.Core.List.{List}
 use Rattle.std.specs.Prelude.{Option, None, Some}
 use native.Mathlib.Omega.{arith}
@@ -57,6 +57,13 @@ index_some x e =
     ∙ before_key (negsuc 9223372036854775807) x none_class e
     ∙ ap (λ z. ltb z (index_key x)) none_key
 
+index_given : (x : ℤ) → is_some (index_in x) ≡ not (is_none x)
+index_given x = go (is_none x)
+  where
+    go : (b : Bool) → is_some (cond b None (Some x)) ≡ not b
+    go true = refl
+    go false = refl
+
 module _ (rows : List ℤ) (acc : Accepted rows) (a k : ℕ) (l : k < row_count rows) (h : is rows k 0 23 ≡ true) where
   part_some : is_some (assignment_of rows k).part ≡ ltb 0 (key_at rows k)
   unfolding key_at
@@ -65,11 +72,20 @@ module _ (rows : List ℤ) (acc : Accepted rows) (a k : ℕ) (l : k < row_count 
       ∙ ap is_some (booked_index rows acc k l h)
       ∙ index_some (cell rows k 7) (index_class rows acc k h)
 
-  -- as the code tests it
+  -- by the key of the piece
   pub misplaced_is : misplaced (sheet rows) (activity_of rows a) (assignment_of rows k)
       ≡ (not (is rows k 2 (num rows a 2)) || (ltb 0 (key_at rows k) && not (is_some (split (sheet rows) (num rows a 1)))))
   unfolding is
   misplaced_is = ap (λ x. not (eqb (num rows k 2) (num rows a 2)) || (x && not (is_some (split (sheet rows) (num rows a 1))))) part_some
+
+  part_given : is_some (assignment_of rows k).part ≡ not (is_none (cell rows k 7))
+  part_given = part_index (assignment_of rows k).part ∙ ap is_some (booked_index rows acc k l h) ∙ index_given (cell rows k 7)
+
+  -- as the code tests it
+  pub misplaced_told : misplaced (sheet rows) (activity_of rows a) (assignment_of rows k)
+      ≡ (not (is rows k 2 (num rows a 2)) || (not (is_none (cell rows k 7)) && not (is_some (split (sheet rows) (num rows a 1)))))
+  unfolding is
+  misplaced_told = ap (λ x. not (eqb (num rows k 2) (num rows a 2)) || (x && not (is_some (split (sheet rows) (num rows a 1))))) part_given
 
 -- ---- the activity's row
 

@@ -25,7 +25,7 @@ use pieces::HeldMarks;
 use rows::Kind;
 use sheet::{Found, KindIndex, Rows};
 
-// ---- misplaced bookings
+// ---- the activity of a booking
 
 // Whether the activity of row a is split.
 #[tactic(auto, using(sheet::proofs::Lookups::place_low, crate::proofs::Finding::split_told))]
@@ -35,18 +35,6 @@ fn is_split(rows: &TimedSheet, a: usize) -> bool
 {
     rows.has_owned(a, Kind::Split)
 }
-
-// Whether booking k names another task than its activity's, of row a, or a part where that is not split.
-#[tactic(auto, using(model::proofs::Accepting::accepted, crate::proofs::Placing::misplaced_is))]
-fn is_misplaced(rows: &TimedSheet, a: usize, k: usize) -> bool
-    requires { (k < row_count rows.now) × (is rows.now k 0 23 ≡ true) × (place_of rows.now 2 (num rows.now a 1) ≡ Some a) }
-    ensures { result ≡ misplaced (sheet rows.now) (activity_of rows.now a) (assignment_of rows.now k) }
-{
-    !rows.has(k, 2, rows.num(a, 2))
-        || (0 < pieces::key_at(rows.as_slice(), k) && !is_split(rows, a))
-}
-
-// ---- units
 
 // What the requirements of the activity of row a take; a quantity may be negative.
 #[tactic(auto, using(sheet::proofs::Lookups::place_low, chains::proofs::PlaceLaws::left_all, crate::proofs::Summing::sum_left))]
@@ -70,93 +58,115 @@ fn is_over(rows: &TimedSheet, a: usize, used: u64) -> bool
     1 < used && quantity_of(rows, a) < used as i64
 }
 
-// ---- uses
+// ---- a booking of an activity of the sheet
 
-// Whether booking j takes a unit of booking k's piece, of the activity of row a. Booking k is not misplaced, so another booking
-// of its piece is misplaced only where it names another task.
-#[tactic(auto, using(model::proofs::Accepting::accepted, crate::proofs::Counting::takes_told))]
-fn takes_unit(rows: &TimedSheet, a: usize, k: usize, j: usize) -> bool
-    requires { Booked rows.now a k × (misplaced (sheet rows.now) (activity_of rows.now a) (assignment_of rows.now k) ≡ false) × (j < row_count rows.now) }
-    ensures { result ≡ takes_unit rows.now a k j }
-{
-    pieces::in_piece(rows.as_slice(), k, j) && rows.has(j, 2, rows.num(a, 2)) && !rows.is_held(j)
+// By the rows of the two.
+#[derive(Drop)]
+struct KnownBooking<'a> {
+    rows: &'a TimedSheet<'a>,
+    activity: usize,
+    row: usize,
+    ghost booked: { Booked rows.now activity row },
 }
 
-// How many bookings before booking k take a unit of its piece.
-#[tactic(auto, using(crate::proofs::Placing::activity_most, chains::proofs::PlaceLaws::left_all, crate::proofs::Counting::uses_left, crate::proofs::Counting::uses_most), unfolding(loops::specs::Lists::count_of))]
-fn uses_before(rows: &TimedSheet, a: usize, k: usize) -> u64
-    requires { Booked rows.now a k × (misplaced (sheet rows.now) (activity_of rows.now a) (assignment_of rows.now k) ≡ false) }
-    ensures count { result ≡ uses (sheet rows.now) (activity_of rows.now a) (assignment_of rows.now k) (assignments_below (sheet rows.now) k) }
-    ensures bound { result ≤ 800 }
-{
-    let mut used = 0;
-    for j in rows.owned_above(a, Kind::Booking, k) {
-        used += u64::from(takes_unit(rows, a, k, j));
+impl<'a> KnownBooking<'a> {
+    // Whether it names another task than its activity's, or a part where that is not split.
+    #[tactic(auto, using(model::proofs::Accepting::accepted, crate::proofs::Placing::misplaced_told, crate::proofs::Placing::activity_place_lem))]
+    fn is_misplaced(&self) -> bool
+        ensures { result ≡ misplaced (sheet self.now.rows.now) (activity_of self.now.rows.now self.now.activity) (assignment_of self.now.rows.now self.now.row) }
+    {
+        !self.rows.has(self.row, 2, self.rows.num(self.activity, 2))
+            || (!self.rows.is_none(self.row, 7) && !is_split(self.rows, self.activity))
     }
-    used
-}
 
-// ---- times
+    // Whether booking j takes a unit of its piece. It is not misplaced, so another booking of its piece is misplaced only where that names another task.
+    #[tactic(auto, using(model::proofs::Accepting::accepted, crate::proofs::Counting::takes_told))]
+    fn takes_unit(&self, j: usize) -> bool
+        requires { (misplaced (sheet self.now.rows.now) (activity_of self.now.rows.now self.now.activity) (assignment_of self.now.rows.now self.now.row) ≡ false) × (j < row_count self.now.rows.now) }
+        ensures { result ≡ takes_unit self.now.rows.now self.now.activity self.now.row j }
+    {
+        pieces::in_piece(self.rows.as_slice(), self.row, j)
+            && self.rows.has(j, 2, self.rows.num(self.activity, 2))
+            && !self.rows.is_held(j)
+    }
 
-// Whether booking k, of the activity of row a, ends before its setup and the rest of its work are done.
-#[tactic(auto, using(model::proofs::Accepting::accepted, crate::proofs::Judging::start_small, crate::proofs::Judging::setup_small))]
-fn is_short(rows: &TimedSheet, a: usize, k: usize, setup: u64) -> bool
-    requires { Booked rows.now a k × (setup ≡ num rows.now k 6) }
-    ensures { result ≡ ltb (num rows.now k 5) (num rows.now k 4 + needed_ms (sheet rows.now) (activity_of rows.now a) (assignment_of rows.now k) (runs_on (sheet rows.now) (assignment_of rows.now k))) }
-{
-    rows.num(k, 5) < rows.num(k, 4) + (setup + rows.rest_ms(a, k))
-}
+    // How many bookings before it take a unit of its piece.
+    #[tactic(auto, using(crate::proofs::Placing::activity_most, chains::proofs::PlaceLaws::left_all, crate::proofs::Counting::uses_left, crate::proofs::Counting::uses_most), unfolding(loops::specs::Lists::count_of))]
+    fn uses_before(&self) -> u64
+        requires { misplaced (sheet self.now.rows.now) (activity_of self.now.rows.now self.now.activity) (assignment_of self.now.rows.now self.now.row) ≡ false }
+        ensures count { result ≡ uses (sheet self.now.rows.now) (activity_of self.now.rows.now self.now.activity) (assignment_of self.now.rows.now self.now.row) (assignments_below (sheet self.now.rows.now) self.now.row) }
+        ensures bound { result ≤ 800 }
+    {
+        let mut used = 0;
+        for j in self
+            .rows
+            .owned_above(self.activity, Kind::Booking, self.row)
+        {
+            used += u64::from(self.takes_unit(j));
+        }
+        used
+    }
 
-// Whether booking k starts before the release in column c of row r; a release that is none counts as 0, before every start.
-fn is_early(rows: &TimedSheet, k: usize, r: usize, c: usize) -> bool
-    ensures { result ≡ ltb (num rows.now k 4) (num rows.now r c) }
-{
-    rows.num(k, 4) < rows.num(r, c)
-}
+    // Whether it ends before its setup and the rest of its work are done. The setup is the one that it records, not its activity's.
+    #[tactic(auto, using(model::proofs::Accepting::accepted, crate::proofs::Judging::start_small, crate::proofs::Judging::setup_small))]
+    fn is_short(&self) -> bool
+        ensures { result ≡ ltb (num self.now.rows.now self.now.row 5) (num self.now.rows.now self.now.row 4 + needed_ms (sheet self.now.rows.now) (activity_of self.now.rows.now self.now.activity) (assignment_of self.now.rows.now self.now.row) (runs_on (sheet self.now.rows.now) (assignment_of self.now.rows.now self.now.row))) }
+    {
+        let setup = self.rows.num(self.row, 6);
+        let rest = self.rows.rest_ms(self.activity, self.row);
+        self.rows.num(self.row, 5) < self.rows.num(self.row, 4) + (setup + rest)
+    }
 
-// Whether booking k starts before the release of the task that the activity of row a is of.
-fn is_early_in_task(rows: &TimedSheet, k: usize, a: usize) -> bool
-    requires { (a < row_count rows.now) × (is rows.now a 0 2 ≡ true) }
-    ensures { result ≡ option (task_place rows.now (num rows.now a 2)) false (λ t. ltb (num rows.now k 4) (num rows.now t 3)) }
-{
-    let Some(t) = rows.task_of(a) else {
-        return false;
-    };
-    is_early(rows, k, t, 3)
+    // Whether it starts before the release in column c of row r; a release that is none counts as 0, before every start.
+    fn is_early(&self, r: usize, c: usize) -> bool
+        ensures { result ≡ ltb (num self.now.rows.now self.now.row 4) (num self.now.rows.now r c) }
+    {
+        self.rows.num(self.row, 4) < self.rows.num(r, c)
+    }
+
+    // Whether it starts before the release of its activity's task.
+    #[tactic(auto, using(crate::proofs::Placing::activity_within, crate::proofs::Placing::activity_kind))]
+    fn is_early_in_task(&self) -> bool
+        ensures { result ≡ option (task_place self.now.rows.now (num self.now.rows.now self.now.activity 2)) false (λ t. ltb (num self.now.rows.now self.now.row 4) (num self.now.rows.now t 3)) }
+    {
+        let Some(t) = self.rows.task_of(self.activity) else {
+            return false;
+        };
+        self.is_early(t, 3)
+    }
+
+    // What is found of it where it is neither misplaced nor held.
+    #[tactic(auto, using(crate::proofs::Placing::activity_place_lem))]
+    fn judge(&self, found: &mut Findings)
+        requires { (misplaced (sheet self.now.rows.now) (activity_of self.now.rows.now self.now.activity) (assignment_of self.now.rows.now self.now.row) ≡ false) × (is_held (sheet self.now.rows.now) (assignment_of self.now.rows.now self.now.row) ≡ false) }
+        ensures { so_far found.new ≡ tell (so_far found.old) (check_known clock (sheet self.now.rows.now) (assignments_below (sheet self.now.rows.now) self.now.row) (assignment_of self.now.rows.now self.now.row) (activity_of self.now.rows.now self.now.activity)) }
+    {
+        let id = self.rows.num(self.row, 1);
+        let used = self.uses_before();
+        let over = is_over(self.rows, self.activity, used + 1);
+        found.report(over, Violation::of(1, ViolationKind::UnknownActivity, id));
+        let short = self.is_short();
+        found.report(short, Violation::of(1, ViolationKind::DurationTooShort, id));
+        let early = Violation::of(1, ViolationKind::EarlyStart, id);
+        found.report(self.is_early(self.activity, 8), early);
+        found.report(self.is_early_in_task(), early);
+    }
+
+    // What is found of it.
+    #[tactic(auto, using(crate::proofs::Judging::known_misplaced, crate::proofs::Judging::held_as))]
+    fn check(&self, found: &mut Findings)
+        ensures { so_far found.new ≡ tell (so_far found.old) (check_known clock (sheet self.now.rows.now) (assignments_below (sheet self.now.rows.now) self.now.row) (assignment_of self.now.rows.now self.now.row) (activity_of self.now.rows.now self.now.activity)) }
+    {
+        if self.is_misplaced() {
+            let id = self.rows.num(self.row, 1);
+            found.tell(Violation::of(1, ViolationKind::UnknownActivity, id));
+        } else if !self.rows.is_held(self.row) {
+            self.judge(found);
+        }
+    }
 }
 
 // ---- the check
-
-// Booking k, that is neither misplaced nor held. Its setup is the one that the booking records, not its activity's.
-#[tactic(auto, using(crate::proofs::Placing::activity_within, crate::proofs::Placing::activity_place_lem, crate::proofs::Placing::activity_kind))]
-fn check_judged(rows: &TimedSheet, a: usize, k: usize, found: &mut Findings)
-    requires { Booked rows.now a k × (misplaced (sheet rows.now) (activity_of rows.now a) (assignment_of rows.now k) ≡ false) × (is_held (sheet rows.now) (assignment_of rows.now k) ≡ false) }
-    ensures { so_far found.new ≡ tell (so_far found.old) (check_known clock (sheet rows.now) (assignments_below (sheet rows.now) k) (assignment_of rows.now k) (activity_of rows.now a)) }
-{
-    let id = rows.num(k, 1);
-    let used = uses_before(rows, a, k);
-    let over = is_over(rows, a, used + 1);
-    found.report(over, Violation::of(1, ViolationKind::UnknownActivity, id));
-    let setup = rows.num(k, 6);
-    let short = is_short(rows, a, k, setup);
-    found.report(short, Violation::of(1, ViolationKind::DurationTooShort, id));
-    let early = Violation::of(1, ViolationKind::EarlyStart, id);
-    found.report(is_early(rows, k, a, 8), early);
-    found.report(is_early_in_task(rows, k, a), early);
-}
-
-// Booking k of the activity of row a.
-#[tactic(auto, using(crate::proofs::Placing::activity_place_lem, crate::proofs::Judging::known_misplaced, crate::proofs::Judging::held_as))]
-fn check_known(rows: &TimedSheet, a: usize, k: usize, found: &mut Findings)
-    requires { Booked rows.now a k }
-    ensures { so_far found.new ≡ tell (so_far found.old) (check_known clock (sheet rows.now) (assignments_below (sheet rows.now) k) (assignment_of rows.now k) (activity_of rows.now a)) }
-{
-    if is_misplaced(rows, a, k) {
-        found.tell(Violation::of(1, ViolationKind::UnknownActivity, rows.num(k, 1)));
-    } else if !rows.is_held(k) {
-        check_judged(rows, a, k, found);
-    }
-}
 
 #[tactic(auto, using(crate::proofs::Judging::task_known))]
 fn is_task(rows: &TimedSheet, id: u64) -> bool
@@ -176,7 +186,12 @@ fn check_assignment(rows: &TimedSheet, k: usize, found: &mut Findings)
         found.report(is_task(rows, rows.num(k, 2)), f);
         return;
     };
-    check_known(rows, a, k, found);
+    let booking = KnownBooking {
+        rows,
+        activity: a,
+        row: k,
+    };
+    booking.check(found);
 }
 
 #[tactic(auto, using(chains::proofs::PlaceLaws::left_all, model::proofs::Accepting::accepted, crate::proofs::Judging::assignments_told), unfolding(sheet::specs::Places::of_kind))]

@@ -204,6 +204,7 @@ fn check_activity(rows: &Sheet, o: usize, found: &mut Findings)
     }
 }
 
+// The activities of the task of row t: by task in two functions, as `check4_requirements::check_task` says.
 #[tactic(auto, using(chains::proofs::PlaceLaws::left_all, crate::proofs::Whole::activities_told))]
 fn check_task(rows: &Sheet, t: usize, found: &mut Findings)
     requires { t ≤ row_count rows.now }

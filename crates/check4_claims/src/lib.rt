@@ -16,13 +16,13 @@ use rows::Kind;
 use sheet::{Found, Rows};
 
 // True at each booking of the piece that may be claimed.
-fn free_in(rows: &MarkedRows, o: usize, p: u64) -> [bool; 800]
-    requires { o ≤ row_count rows.now }
-    ensures { unclaimed_of rows.now o result ≡ runs_on_in rows.now o p }
+fn free_in(rows: &MarkedRows, piece: Piece) -> [bool; 800]
+    requires { piece.row ≤ row_count rows.now }
+    ensures { unclaimed_of rows.now piece.row result ≡ runs_on_in rows.now piece.row piece.key }
 {
     let mut free = [false; 800];
-    for k in rows.owned_by(o, Kind::Booking) {
-        free[k] = check4_pieces::is_free(rows.as_slice(), rows.held(), p, k);
+    for k in rows.owned_by(piece.row, Kind::Booking) {
+        free[k] = check4_pieces::is_free(rows.as_slice(), rows.held(), piece.key, k);
     }
     free
 }
@@ -125,7 +125,7 @@ pub fn fill_all(rows: &MarkedRows, piece: Piece, found: &mut Findings)
     requires { piece.row ≤ row_count rows.now }
     ensures { so_far found.new ≡ tell (so_far found.old) (claims_of rows.now piece.activity (requirement_rows rows.now piece.row) (runs_on_in rows.now piece.row piece.key)) }
 {
-    let mut free = free_in(rows, piece.row, piece.key);
+    let mut free = free_in(rows, piece);
     for q in rows.owned_by(piece.row, Kind::Requirement) {
         fill(rows.owners(), &mut free, piece, q, found);
     }

@@ -8,7 +8,8 @@ ghost use Rattle.sheet.specs.inner.Accepted.{Accepted};
 use owners::Owners;
 use sheet::ByKind;
 
-// Two activities of accepted rows, by their rows: the later one is judged by when the earlier one runs.
+// Two activities of accepted rows, by their rows: the later one is judged by when the earlier one runs. With the two indexes that are looked into and no `Sheet`,
+// whose tables are of one `SheetIndex`: that would ask more of who makes a pair.
 #[derive(Drop)]
 pub struct ActivityPair<'a> {
     pub rows: Owners<'a>,

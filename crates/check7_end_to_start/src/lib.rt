@@ -29,7 +29,8 @@ pub fn is_before(start: u64, end: u64, delay: i64) -> bool
     (start as i64) < end as i64 + delay
 }
 
-// Whether `after` starts before `delay` after `before` ends.
+// Whether `after` starts before `delay` after `before` ends. `Accepted` is asked here and below, and no `Sheet`, which has that by its type: a `Sheet` would ask for
+// the tables by owner too, of which an activity's span needs none.
 #[tactic(auto, unfolding(crate::specs::inner::Early::starts_early))]
 fn starts_early(rows: &ByKind, before: u64, after: u64, delay: i64) -> bool
     requires { Accepted rows.now × (nat_abs delay ≤ 8000000000000) }
@@ -68,7 +69,7 @@ fn check_predecessors(rows: &ByKind, owners: &ByOwner, o: usize, found: &mut Fin
     }
 }
 
-// The activities of the task of row t against their predecessors.
+// The activities of the task of row t against their predecessors: by task, since the steps of each task are compared before these.
 #[tactic(auto, using(chains::proofs::PlaceLaws::left_all, crate::proofs::Told::activities_told, model::proofs::OwnedLaws::owned_kind))]
 pub fn check_all_predecessors(rows: &ByKind, owners: &ByOwner, t: usize, found: &mut Findings)
     requires { (owners.now ≡ rows.now) × Accepted rows.now × (t < row_count rows.now) × (is rows.now t 0 1 ≡ true) }

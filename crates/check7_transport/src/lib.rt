@@ -14,7 +14,8 @@ use owners::{LinkIndex, OwnerIndex, Owners};
 use rows::Kind;
 use sheet::{Found, Rows};
 
-// The time to move work from the resource of booking i to resource b, 0 where none is given.
+// The time to move work from the resource of booking i to resource b, 0 where none is given. `Accepted` is asked here and below, and no `Sheet`, which has that by
+// its type: a `Sheet` would ask for the tables by kind and name too.
 #[tactic(auto, using(crate::proofs::Moves::unmoved, crate::proofs::Moves::no_move, crate::proofs::Moves::move_is, crate::proofs::Moves::move_most))]
 fn transport_to(rows: &Owners, i: usize, b: u64) -> u64
     requires { Accepted rows.now × (i < row_count rows.now) × (is rows.now i 0 23 ≡ true) }

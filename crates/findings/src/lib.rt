@@ -61,7 +61,8 @@ impl ViolationKind {
     }
 }
 
-// A violation: the check that reports it, its type's number, the entity that it is of, and its severity.
+// A violation: the check that reports it, its type's number, the entity that it is of, and its severity. Type and severity are numbers: this is the record of the
+// definition's lists, whose fields are a line's four numbers. Who reports one names a `ViolationKind`.
 #[derive(Clone, Copy, PartialEq, Eq)]
 pub struct Violation {
     pub check: u8,

@@ -9,5 +9,5 @@ use Rattle.check4_claims.proofs.free_in.Given as goal
 
 abbrev pub invariant-loop-k : goal.invariant-loop-k
 invariant-loop-k l =
-    Left (owned_by l.rows l.o 23) (row_count l.rows) l.k-iterator
-    × (unclaimed_of l.rows l.o (foldl (mark_free l.rows l.p) l.free l.k-iterator) ≡ runs_on_in l.rows l.o l.p)
+    Left (owned_by l.rows l.piece.row 23) (row_count l.rows) l.k-iterator
+    × (unclaimed_of l.rows l.piece.row (foldl (mark_free l.rows l.piece.key) l.free l.k-iterator) ≡ runs_on_in l.rows l.piece.row l.piece.key)
