@@ -6,7 +6,7 @@ ghost use Rattle.loops.specs.Search.{first};
 ghost use Rattle.rows.specs.Cells.{row_count};
 ghost use Rattle.refusals.specs.declared.Refusal.{Refusal};
 ghost use Rattle.refusals.specs.Refusals.{verdict_of};
-ghost use Rattle.sheet.specs.Refusals.{misshapen, column_fault, owner_fault, repeat_fault, refusal_of};
+ghost use Rattle.sheet.specs.Refusals.{misshapen, refusal_of};
 ghost use Rattle.validation.specs.inner.Answer.{shape_refusal, link_refusal, Tells, Indexing};
 
 use owners::{OwnerLinks, SheetIndex};
