@@ -2,11 +2,12 @@
 // whose type says more than that, would also ask for the tables of kinds and names.
 #![tactic(auto)]
 
-ghost use Rattle.std.specs.Prelude.{◌≡◌, ◌<◌, ◌≤◌, true, false, not, ◌&&◌, Some, OnOk, replicate};
+ghost use Rattle.std.specs.Prelude.{◌≡◌, ◌<◌, ◌≤◌, true, false, not, ◌&&◌, Some, None, OnOk, replicate};
 ghost use Rattle.loops.specs.Lists.{any_of};
 ghost use Rattle.loops.specs.Range.{fold};
 ghost use Rattle.rows.specs.Cells.{row_count, num, is};
 ghost use Rattle.sheet.specs.Places.{place_of};
+ghost use Rattle.sheet.specs.Refusals.{refusal_of};
 ghost use Rattle.owners.specs.inner.Owners.{own_place};
 ghost use Rattle.refusals.specs.Refusals.{verdict_of};
 ghost use Rattle.sheet.specs.inner.Accepted.{Accepted};
@@ -291,6 +292,7 @@ impl DerivedTimes {
     #[tactic(auto, using(model::proofs::Accepting::accepted, crate::proofs::Refusing::needs_passed))]
     pub fn fill(&mut self, sheet: &Sheet) -> Verdict
         ensures verdict { verdict_of result ≡ time_refusal sheet.now }
+        ensures known { refusal_of sheet.now ≡ None }
         ensures held { Held sheet.now self.new.held }
         ensures times { Times sheet.now self.new.need }
         ensures needs { OnOk result (Needs sheet.now self.new.need) }
