@@ -26,7 +26,7 @@ use Rattle.chains.specs.Places.{places}
 use Rattle.model.specs.Sheet.{sheet, read, as_instant}
 use Rattle.model.specs.inner.Records.{maybe_at, task_of, activity_of, assignment_of}
 use Rattle.model.specs.Task.{find_task}
-use Rattle.model.specs.Activity.{find_activity, needed_ms}
+use Rattle.model.specs.Activity.{needed_ms}
 use Rattle.model.specs.Schedule.{Assignment, assignments_below, unknown_activity, duration_too_short, early_start}
 use Rattle.model.proofs.RowLaws.{assignment_row, assignment_none}
 use Rattle.model.proofs.Accepting.{at_most}
