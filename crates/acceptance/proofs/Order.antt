@@ -1,6 +1,5 @@
 -- The refusals of a sheet in order, from what the two verdicts ensure. Assumes nothing.
 use Rattle.std.specs.Prelude.{Result, Ok, Err}
-use Prim.Native.Nat.{ℕ}
 use mathlib.Core.Path.{◌≡◌, ap, sym, ◌∙◌}
 use mathlib.Core.List.{List}
 use Rattle.std.specs.Prelude.{None, Some}
@@ -14,8 +13,6 @@ use Rattle.owners.specs.declared.sheet_index.SheetIndex.{SheetIndex}
 use Rattle.validation.specs.inner.Answer.{Indexing}
 use Rattle.validation.proofs.Order.{shape_passed, tables_of}
 use Rattle.derived_times.specs.Times.{time_refusal}
-use Rattle.derived_times.specs.inner.Needs.{Times, Needs}
-use Rattle.derived_times.proofs.Refusing.{needs_of}
 use Rattle.model.specs.inner.Indexed.{Indexed}
 use Rattle.model.proofs.Accepting.{accepted}
 use Rattle.acceptance.specs.Refusals.{sheet_refusal}
@@ -53,10 +50,6 @@ module _ (rows : List ℤ) where
     unfolding sheet_refusal
     accept_times e q = record { verdict = rw (sym i.verdict ∙ ap verdict_of e) q; tables = i.tables; kept = i.kept }
 
-    -- rows that are not refused
-    pub rows_accepted : v ≡ (Ok tt) → Accepted rows
-    rows_accepted e = accepted rows (indexed_of i e).accepted
-
   module _ {before after : SheetIndex} {v : Result Unit Refusal} (a : Accepting rows before v after) where
     pub refused_by : {e : Refusal} → v ≡ Err e → sheet_refusal rows ≡ Some e
     refused_by e = sym a.verdict ∙ ap verdict_of e
@@ -74,8 +67,3 @@ module _ (rows : List ℤ) where
   pub sheet_accepted : sheet_refusal rows ≡ None → Accepted rows
   unfolding sheet_refusal
   sheet_accepted h = accepted rows (or_none_left (refusal_of rows) (time_refusal rows) h)
-
-  -- ---- what each booking needs
-
-  pub needed_of : {v : Result Unit Refusal} (need : List ℕ) → Times rows need → verdict_of v ≡ time_refusal rows → v ≡ (Ok tt) → Needs rows need
-  needed_of need t q e = needs_of rows need t (sym q ∙ ap verdict_of e)

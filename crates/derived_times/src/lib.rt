@@ -1,11 +1,13 @@
-// The derived times of the bookings, found once for a sheet, and refusal 6.
+// The derived times of the bookings, found once for a sheet, and refusal 6. What takes rows by owner asks in a clause that they are `Accepted`: a `Sheet`,
+// whose type says more than that, would also ask for the tables of kinds and names.
 #![tactic(auto)]
 
-ghost use Rattle.std.specs.Prelude.{◌≡◌, ◌<◌, ◌≤◌, true, false, not, ◌&&◌, Some, OnOk, replicate};
+ghost use Rattle.std.specs.Prelude.{◌≡◌, ◌<◌, ◌≤◌, true, false, not, ◌&&◌, Some, None, OnOk, replicate};
 ghost use Rattle.loops.specs.Lists.{any_of};
 ghost use Rattle.loops.specs.Range.{fold};
 ghost use Rattle.rows.specs.Cells.{row_count, num, is};
 ghost use Rattle.sheet.specs.Places.{place_of};
+ghost use Rattle.sheet.specs.Refusals.{refusal_of};
 ghost use Rattle.owners.specs.inner.Owners.{own_place};
 ghost use Rattle.refusals.specs.Refusals.{verdict_of};
 ghost use Rattle.sheet.specs.inner.Accepted.{Accepted};
@@ -39,15 +41,11 @@ const REFUSED: u64 = 9007199254740992;
 
 // ---- timings
 
-// The earlier of two places. Not Option's own `min`: None is below every place there, and here it is no place. `freebusy_components` has the same
-// two lines, and no crate below both has code of places that may be none.
+// The earlier of two places, where there is one. Not Option's own `min`: None is below every place there, and here it is no place.
 fn earlier(x: Option<usize>, y: Option<usize>) -> Option<usize>
     ensures { result ≡ earlier_of x y }
 {
-    match (x, y) {
-        (Some(i), Some(j)) => Some(i.min(j)),
-        (x, y) => x.or(y),
-    }
+    x.into_iter().chain(y).min()
 }
 
 // The row of the timing of booking k's activity on its resource.
@@ -294,6 +292,7 @@ impl DerivedTimes {
     #[tactic(auto, using(model::proofs::Accepting::accepted, crate::proofs::Refusing::needs_passed))]
     pub fn fill(&mut self, sheet: &Sheet) -> Verdict
         ensures verdict { verdict_of result ≡ time_refusal sheet.now }
+        ensures known { refusal_of sheet.now ≡ None }
         ensures held { Held sheet.now self.new.held }
         ensures times { Times sheet.now self.new.need }
         ensures needs { OnOk result (Needs sheet.now self.new.need) }

@@ -9,13 +9,12 @@ ghost use Rattle.acceptance.specs.Refusals.{sheet_refusal};
 ghost use Rattle.feasibility.specs.Call.{check_answer, findings_after};
 
 use check6_calendars::LackingSheet;
-use derived_times::TimedSheet;
+use derived_times::{DerivedTimes, TimedSheet};
 use findings::Findings;
 use line_buffer::Handed;
 use model::{Sheet, SheetIndex};
-use pieces::{HeldMarks, MarkedRows};
+use pieces::HeldMarks;
 use refusals::{Answer, Reason};
-use sheet::Rows;
 
 // The nine checks, into a lent buffer: how many findings there are.
 fn check_all(rows: &TimedSheet, lacking: &[bool; 800], out: &mut [i64]) -> usize
@@ -56,17 +55,14 @@ fn write_findings(rows: &TimedSheet, out: &mut [i64]) -> Answer
 }
 
 // Refusal 6, then the findings.
-#[tactic(auto, using(model::proofs::Accepting::accepted, acceptance::proofs::Order::by_none))]
+#[tactic(auto, using(acceptance::proofs::Order::by_none))]
 fn check_times(rows: &Sheet, out: &mut [i64]) -> Answer
     ensures value { result ≡ check_answer rows.now (length out.old / 4) }
     ensures out_after { out.new ≡ findings_after rows.now out.old }
 {
-    let slice = rows.as_slice();
-    let owners = rows.owners();
-    let held = pieces::held_of(&rows.by_kind(), &owners);
-    let need = derived_times::needs_of(&MarkedRows::new(owners, &held));
-    derived_times::refused(slice, &need)?;
-    write_findings(&TimedSheet::new(rows, &held, &need), out)
+    let mut times = DerivedTimes::new();
+    times.fill(rows)?;
+    write_findings(&TimedSheet::new(rows, &times), out)
 }
 
 // Checks a sheet: any rows, any buffer.

@@ -11,7 +11,7 @@ use lib.Ieee.Digits.{back}
 use Rattle.rounding.specs.Rounding.{half_up, rounded, divided_by}
 use Rattle.rounding.specs.inner.Limited.{limited, too_large}
 use Rattle.rounding.specs.declared.TooLarge.{TooLarge}
-use Rattle.std.specs.Prelude.{Option, None, Some, Result, Ok}
+use Rattle.std.specs.Prelude.{None, Some, Result, Ok}
 use lib.Ieee.Bits.{nan_bits_is, nan_bits_above}
 
 -- (2n / d + 1) / 2
@@ -147,15 +147,6 @@ unfolding limited
 limit_beyond n h = rw (le-ltb n (2 ^ 53) h)
 
 -- what a limited time tells of the time
-pub limited_ms : (o : Option ℕ) (n : ℕ) → Ok n ≡ limited o → o ≡ Some n
-unfolding limited
-limited_ms None n e = cc
-limited_ms (Some m) n e = go (ltb m (2 ^ 53)) e
-  where
-    go : (b : Bool) → Ok n ≡ cond b (Ok m) too_large → Some m ≡ Some n
-    go true h = cc
-    go false h = cc
-
 pub limited_below : (n m : ℕ) → Ok m ≡ limited (Some n) → (m ≡ n) × (n < 2 ^ 53)
 unfolding limited
 limited_below n m e = go (ltb n (2 ^ 53)) (ltb-true n (2 ^ 53)) e
@@ -163,14 +154,6 @@ limited_below n m e = go (ltb n (2 ^ 53)) (ltb-true n (2 ^ 53)) e
     go : (b : Bool) → (b ≡ true → n < 2 ^ 53) → Ok m ≡ cond b (Ok n) too_large → (m ≡ n) × (n < 2 ^ 53)
     go true k h = (cc, k refl)
     go false k h = absurd cc
-
-pub limited_large : (n : ℕ) → too_large ≡ limited (Some n) → 2 ^ 53 ≤ n
-unfolding limited
-limited_large n e = go (ltb n (2 ^ 53)) (ltb-false n (2 ^ 53)) e
-  where
-    go : (b : Bool) → (b ≡ false → 2 ^ 53 ≤ n) → too_large ≡ cond b (Ok n) too_large → 2 ^ 53 ≤ n
-    go true k h = absurd cc
-    go false k h = k refl
 
 -- ---- what `rounded` is, by the tests of the code
 

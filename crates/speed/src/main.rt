@@ -11,10 +11,10 @@ ghost use Rattle.std.specs.Prelude.{◌≤◌, length};
 
 use calendar::{Calendars, Places, TimeWindow, WindowKind, WorkEnd};
 use check6_calendars::LackingSheet;
-use derived_times::TimedSheet;
+use derived_times::{DerivedTimes, TimedSheet};
 use findings::Findings;
 use model::{Sheet, SheetIndex};
-use pieces::{HeldMarks, MarkedRows};
+use pieces::HeldMarks;
 use refusals::Verdict;
 use sheet::Rows;
 use std::io;
@@ -74,13 +74,8 @@ fn one_if_fine(v: Verdict) -> usize {
     usize::from(v.is_ok())
 }
 
-#[tactic(auto, using(model::proofs::Accepting::accepted))]
 fn derive_times(rows: &Sheet) -> usize {
-    let slice = rows.as_slice();
-    let owners = rows.owners();
-    let held = pieces::held_of(&rows.by_kind(), &owners);
-    let need = derived_times::needs_of(&MarkedRows::new(owners, &held));
-    one_if_fine(derived_times::refused(slice, &need))
+    one_if_fine(DerivedTimes::new().fill(rows))
 }
 
 // 2,500,000,000 ms later, up to the last instant of a sheet.
@@ -147,16 +142,13 @@ fn once(rows: &TimedSheet, part: Part, out: &mut [i64]) -> usize {
 }
 
 // So many times, 0 where a refusal refuses the sheet.
-#[tactic(auto, using(model::proofs::Accepting::accepted))]
 fn timed(rows: &Sheet, part: Part, count: u64) -> usize {
-    let slice = rows.as_slice();
-    let owners = rows.owners();
-    let held = pieces::held_of(&rows.by_kind(), &owners);
-    let need = derived_times::needs_of(&MarkedRows::new(owners, &held));
-    let Ok(()) = derived_times::refused(slice, &need) else {
+    let mut times = DerivedTimes::new();
+    let Ok(()) = times.fill(rows) else {
         return 0;
     };
-    let sheet = TimedSheet::new(rows, &held, &need);
+    let sheet = TimedSheet::new(rows, &times);
+    // No heap: room for 1,024 findings.
     let mut out = [0i64; 4096];
     let mut n = 0;
     for _ in 0..count {
@@ -175,6 +167,7 @@ fn found_of(rows: &[i64], part: Part, count: u64) -> usize {
 
 // 0 where the text is refused.
 fn found_in(text: &[u8], part: Part, count: u64) -> usize {
+    // No heap: room for the 800 rows of the longest sheet.
     let mut rows = [0i64; 8000];
     match text::read_text(text, &mut rows) {
         Ok(n) if n <= 800 => found_of(&rows[..10 * n], part, count),
