@@ -105,16 +105,12 @@ fn list_windows(windows: &mut [TimeWindow]) {
 
 // Work of 4,000,000,000,000 ms over 800 windows: it never ends, which is known only after every start and end has been passed.
 fn end_work() -> usize {
-    let none = TimeWindow {
-        kind: WindowKind::Neither,
-        start: 0,
-        end: 0,
-    };
-    let mut windows = [none; 800];
+    // Room for as many windows as a sheet has rows: programs have no heap.
+    let mut windows = [window_rows::NO_WINDOW; 800];
     list_windows(&mut windows);
     let calendars = Calendars {
         windows: &windows,
-        places: &[Places { from: 0, to: 800 }],
+        places: &[Places::all(&windows)],
     };
     match calendars.joint_work_end(0, 4000000000000) {
         WorkEnd::Never => 1,
@@ -157,6 +153,7 @@ fn timed(rows: &Sheet, part: Part, count: u64) -> usize {
         return 0;
     };
     let sheet = TimedSheet::new(rows, &held, &need);
+    // Room for 1,024 findings: programs have no heap.
     let mut out = [0i64; 4096];
     let mut n = 0;
     for _ in 0..count {
@@ -175,6 +172,7 @@ fn found_of(rows: &[i64], part: Part, count: u64) -> usize {
 
 // 0 where the text is refused.
 fn found_in(text: &[u8], part: Part, count: u64) -> usize {
+    // Room for 800 rows: programs have no heap.
     let mut rows = [0i64; 8000];
     match text::read_text(text, &mut rows) {
         Ok(n) if n <= 800 => found_of(&rows[..10 * n], part, count),
