@@ -26,7 +26,7 @@ fn print_closures(text: &[u8], resource: i64, out: &mut [u8]) -> usize
     ensures upper_bound { result ≤ 84000 }
     ensures out_after { take result out.new ≡ printed_closures text.now resource }
 {
-    // Room for 800 rows.
+    // Room for 800 rows: programs have no heap.
     let mut rows = [0i64; 8000];
     let answer = freebusy::read_freebusy(text, resource, &mut rows);
     let rows = text_program::kept(rows);
@@ -50,7 +50,7 @@ fn main(rt: HostRuntime) {
         awaited: b"closures: a calendar is read from standard input, up to the end of input (Ctrl-D)",
         output: b"closures: standard output",
     };
-    // Room for what is printed of 800 rows: programs have no heap.
+    // Room for what is printed of them.
     let mut out = [0u8; 84000];
     text_program::run(
         &rt,

@@ -100,16 +100,12 @@ fn list_windows(windows: &mut [TimeWindow]) {
 
 // Work of 4,000,000,000,000 ms over 800 windows: it never ends, which is known only after every start and end has been passed.
 fn end_work() -> usize {
-    let none = TimeWindow {
-        kind: WindowKind::Neither,
-        start: 0,
-        end: 0,
-    };
-    let mut windows = [none; 800];
+    // Room for as many windows as a sheet has rows: programs have no heap.
+    let mut windows = [window_rows::NO_WINDOW; 800];
     list_windows(&mut windows);
     let calendars = Calendars {
         windows: &windows,
-        places: &[Places { from: 0, to: 800 }],
+        places: &[Places::all(&windows)],
     };
     match calendars.joint_work_end(0, 4000000000000) {
         WorkEnd::Never => 1,
