@@ -109,7 +109,8 @@ pub trait OwnerIndex: Rows {
     }
 
     // Whether a row of a kind that belongs to row o passes the test. Along the table itself, and the test before the kind: two kinds may share a chain, and a test
-    // that asks for one number tells most rows by it. The walk's `any` looks for the next row before it tests one: a fifth slower over 264 companions of 528 bookings.
+    // that asks for one number tells most rows by it. The walk's `any`, which looks for the next row before it tests one, took twice the time over 264 companions
+    // of 528 bookings.
     fn any_owned<F: Fn(usize) -> bool>(&self, o: usize, kind: Kind, test: F) -> bool
         requires row { o ≤ row_count (Self.rows self.now) }
         requires callable { F.IsAlwaysCallable test }
