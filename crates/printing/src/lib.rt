@@ -3,7 +3,7 @@
 #![tactic(auto)]
 
 ghost use Rattle.refusals.specs.Refusals.{number_of};
-ghost use Rattle.std.specs.Prelude.{◌≡◌, ◌+◌, ◌<◌, ◌≤◌, min, length, take};
+ghost use Rattle.std.specs.Prelude.{◌≡◌, ◌+◌, ◌<◌, ◌≤◌, min, length};
 ghost use Rattle.std.proofs.lemmas.List.Edits.{sets};
 ghost use Rattle.loops.specs.inner.Wrote.{Wrote};
 ghost use Rattle.printing.specs.Decimal.{decimal, spelling};
@@ -60,24 +60,14 @@ pub fn put_line(out: &mut [u8], from: usize, line: &[i64]) -> usize
     at
 }
 
-// The first w numbers, or all.
-fn first_line(numbers: &[i64], w: usize) -> &[i64]
-    ensures { result.now ≡ take w numbers.now }
-{
-    &numbers[..w.min(numbers.len())]
-}
-
-// The first n lines of w numbers each.
-fn put_lines(out: &mut [u8], from: usize, numbers: &[i64], w: usize, n: usize) -> usize
+// The first n findings, each a line of four numbers.
+fn put_findings(out: &mut [u8], from: usize, found: &[i64], n: usize) -> usize
     requires { from ≤ length out.old }
-    ensures { Wrote out.old from out.new result (number_lines w numbers.now n) }
+    ensures { Wrote out.old from out.new result (number_lines 4 found.now n) }
 {
     let mut at = from;
-    let mut rest = numbers;
-    for _k in 0..n {
-        let line = first_line(rest, w);
+    for line in found.chunks(4).take(n) {
         at = put_line(out, at, line);
-        rest = &rest[line.len()..];
     }
     at
 }
@@ -106,7 +96,7 @@ fn put_accepted(out: &mut [u8], found: &[i64], n: usize) -> usize
     let mut at = lent_room::put_all(out, 0, b"accepted,");
     at = put_decimal(out, at, n as u64);
     at = lent_room::put(out, at, b'\n');
-    put_lines(out, at, found, 4, n)
+    put_findings(out, at, found, n)
 }
 
 // What the program prints of an answer and of the findings that came with it, written to a buffer from its start. It answers how many bytes stand
