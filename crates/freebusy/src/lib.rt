@@ -20,7 +20,7 @@ use refusals::{Answer, Reason, Verdict};
 use rows::{Class, Kind};
 use text_fields::Parts;
 
-// The column `closed` of a window that is.
+// The column `closed` of a window that is, as a row holds it: its columns are numbers, and no other flag is written here.
 const CLOSED: i64 = 1;
 
 // What is lent: so many rows, for closures of a resource.

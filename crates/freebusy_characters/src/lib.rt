@@ -5,7 +5,8 @@ ghost use Rattle.std.specs.Prelude.{◌≡◌, ℕ, Bool, ◌<◌, ◌≤◌, le
 ghost use Rattle.freebusy_characters.specs.Utf8.{utf8_tail, utf8_2, starts_three, utf8_3, starts_four, utf8_4, non_us_ascii, characters};
 ghost use Rattle.freebusy_characters.specs.ParamValue.{qsafe_char, safe_char, quoted_string, param_value};
 
-const QUOTE: u8 = b'"';
+// DQUOTE of the RFC.
+pub const QUOTE: u8 = b'"';
 
 fn is_tail(x: u8) -> bool
     ensures { result ≡ utf8_tail x }
@@ -20,7 +21,8 @@ fn is_utf8_2(a: u8, b: u8) -> bool
     matches!(a, 0xc2..=0xdf) && is_tail(b)
 }
 
-// The first two bytes of three: no overlong form, no surrogate.
+// The first two bytes of three: no overlong form, no surrogate. This and `starts_four` are two rules of the RFC's grammar, which share no byte: one test of
+// both would be handed all that stands in each.
 #[tactic(auto, using(std::proofs::lemmas::Bool::Decides::nat_tests), unfolding(crate::specs::Utf8::starts_three))]
 fn starts_three(a: u8, b: u8) -> bool
     ensures { result ≡ starts_three a b }

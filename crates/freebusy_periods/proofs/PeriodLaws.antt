@@ -3,6 +3,7 @@ use Prim.Native.Nat.{ℕ, ◌+◌, ◌*◌, ◌-◌, ◌≤◌, ◌<◌}
 use mathlib.Core.Bool.{Bool, true, false, cond}
 use mathlib.Core.List.{List}
 use mathlib.Core.Logic.{inl, inr}
+use Rattle.std.specs.Bool.{then_some}
 use Rattle.std.specs.Prelude.{Option, None, Some, Ok, Err}
 use Rattle.std.proofs.lemmas.Option.{none-some, same_Some}
 use mathlib.Core.Path.{◌≡◌, refl, sym, ap, ap₂, ◌∙◌, subst}
@@ -52,15 +53,14 @@ module _ (a k n : ℕ) (b : Bool) (h : a ≤ 4000000000000) (p : k ≡ at_most n
   back_by {r = None} e l = let z : moved a b k ≡ None = rw (e, lt-leb (k * 1000) a (omega arith)) in sym z ∙ cut_is
   back_by {r = Some x} e l = let z : moved a b k ≡ Some (a - k * 1000) = rw (e, le-leb (k * 1000) a l.0) in ap (λ (x : ℕ). Some x) l.1 ∙ sym z ∙ cut_is
 
-  pub on_out : b ≡ false → 4000000000000 < a + k * 1000 → None ≡ moved a b n
+  -- as `then_some` has it
+  pub on_by : {r : Option ℕ} → b ≡ false → r ≡ then_some (leb (a + k * 1000) 4000000000000) (a + k * 1000) → r ≡ moved a b n
   unfolding moved
-  on_out e l = let z : moved a b k ≡ None = rw (e, lt-leb (a + k * 1000) 4000000000000 l) in sym z ∙ cut_is
-
-  pub on_in : b ≡ false → a + k * 1000 ≤ 4000000000000 → Some (a + k * 1000) ≡ moved a b n
-  unfolding moved
-  on_in e l = let z : moved a b k ≡ Some (a + k * 1000) = rw (e, le-leb (a + k * 1000) 4000000000000 l) in sym z ∙ cut_is
-
-pub ruleset moves = (rules, back_by, on_out, on_in)
+  on_by e q = q ∙ go (leb (a + k * 1000) 4000000000000) refl ∙ cut_is
+    where
+      go : (t : Bool) → leb (a + k * 1000) 4000000000000 ≡ t → then_some t (a + k * 1000) ≡ moved a b k
+      go true l = rw (e, l)
+      go false l = rw (e, l)
 
 -- ---- what stands after the slash, where m is what the code read of a duration
 

@@ -190,7 +190,7 @@ fn later(a: u64, n: u64) -> Option<u64>
     ensures { result ≡ moved a false n }
 {
     let end = a + cut(n) * 1000;
-    if end <= LAST_INSTANT { Some(end) } else { None }
+    (end <= LAST_INSTANT).then_some(end)
 }
 
 fn has_minus(s: &[u8]) -> bool

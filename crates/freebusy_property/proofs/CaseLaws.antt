@@ -4,7 +4,7 @@ use Prim.Native.Nat.{ℕ, ◌+◌, ◌<◌}
 use mathlib.Core.Bool.{Bool, true, false, cond, not, ◌&&◌, ◌||◌}
 use mathlib.Core.List.{List, [], ◌∷◌, map}
 use Rattle.std.specs.Prelude.{Option, None, Some, option_map}
-use mathlib.Core.Path.{◌≡◌, refl, sym, ap, ap₂, ◌∙◌}
+use mathlib.Core.Path.{◌≡◌, refl, ap, ap₂, ◌∙◌}
 use native.Mathlib.Omega.{arith}
 use lib.Dec.{eqb, ltb}
 use Rattle.loops.specs.Lists.{all_of, any_of, count_of, option}
@@ -34,9 +34,6 @@ parts_capitals b h (x ∷ s) = rw (byte_unseen b h x, parts_capitals b h s) (go 
     go : (t : Bool) → cond t ([] ∷ map capitals (parts b s)) (on_first (capital x) (map capitals (parts b s))) ≡ map capitals (cond t ([] ∷ parts b s) (on_first x (parts b s)))
     go true = refl
     go false = on_first_capitals x (parts b s)
-
-quoted_unseen : (q : Bool) (x : ℕ) → quoted_after q (capital x) ≡ quoted_after q x
-quoted_unseen q x = rw (byte_unseen 34 (omega arith) x)
 
 module _ (b : ℕ) (h : b < 65) where
   parts_in_capitals : (q : Bool) (s : List ℕ) → parts_in q b (capitals s) ≡ map capitals (parts_in q b s)
@@ -179,18 +176,3 @@ value_capitals l = ap (λ o. option o [] (λ v. v)) (after_in_capitals 58 (omega
 pub periods_capitals : (l : List ℕ) → periods_of (capitals l) ≡ map capitals (periods_of l)
 unfolding periods_of
 periods_capitals l = ap (parts 44) (value_capitals l) ∙ parts_capitals 44 (omega arith) (value_of l)
-
--- ---- two lines that differ in the case of their letters alone
-
-module _ (l m : List ℕ) (e : capitals l ≡ capitals m) where
-  pub same_freebusy : freebusy l ≡ freebusy m
-  same_freebusy = sym (freebusy_unseen l) ∙ ap freebusy e ∙ freebusy_unseen m
-
-  pub same_is_freebusy : is_freebusy l ≡ is_freebusy m
-  same_is_freebusy = sym (is_freebusy_unseen l) ∙ ap is_freebusy e ∙ is_freebusy_unseen m
-
-  pub same_is_free : is_free l ≡ is_free m
-  same_is_free = sym (is_free_unseen l) ∙ ap is_free e ∙ is_free_unseen m
-
-  pub same_periods : map capitals (periods_of l) ≡ map capitals (periods_of m)
-  same_periods = sym (periods_capitals l) ∙ ap periods_of e ∙ periods_capitals m

@@ -6,7 +6,7 @@ ghost use Rattle.freebusy_lines.specs.Bytes.{QUOTE};
 ghost use Rattle.freebusy_property.specs.Quotes.{until_unquoted, after_unquoted, unquoted_parts};
 ghost use Rattle.freebusy_property.specs.inner.Left.{unquoted_left};
 
-const QUOTE: u8 = b'"';
+use freebusy_characters::QUOTE;
 
 // What stands before the first `stop` outside quotes, and what follows it. Where there is none, all of the text stands before it.
 pub(crate) fn split_unquoted(s: &[u8], stop: u8) -> (&[u8], Option<&[u8]>)
