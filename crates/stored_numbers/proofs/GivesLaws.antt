@@ -5,7 +5,7 @@ use Rattle.loops.specs.inner.Wrote.{Wrote}
 use Prim.Native.Nat.{ℕ}
 use mathlib.Core.Bool.{Bool, true, false, cond}
 use mathlib.Core.List.{List, [], ◌∷◌, map}
-use mathlib.Core.Path.{◌≡◌, refl, ap, ◌∙◌}
+use mathlib.Core.Path.{◌≡◌, refl, ap}
 use Rattle.std.specs.Prelude.{Option, None, Some}
 use Rattle.loops.specs.Lists.{option, each}
 use lib.Dec.{eqb}
@@ -13,6 +13,8 @@ use Rattle.loops.proofs.ListLaws.{each_ext}
 use Rattle.text_line.specs.Line.{row_of}
 use Rattle.stored_lines.specs.inner.Line.{letter, count, piece}
 use Rattle.stored_numbers.specs.inner.Numbers.{times, numbers_in, numbers_of, expected_of}
+use Rattle.stored_numbers.specs.declared.Asked.{Asked}
+use Rattle.stored_numbers.specs.declared.Asked.TheVariants.{Input, Expected}
 use Rattle.stored_numbers.specs.declared.Piece.{Piece}
 use Rattle.stored_numbers.specs.declared.Piece.TheVariants.{Numbers, Row}
 use Rattle.stored_numbers.specs.inner.Gives.{piece_as, piece_by, line_gives}
@@ -33,19 +35,18 @@ module _ {B : Type 0} {l m : List B} {i j : ℕ} {all : List B} {ps : List (List
     each_none g y = yet_none (yet_as (ap (each g) e) y)
 
 -- what a line gives, by its pieces
-module _ (plain rows : ℕ) (l : List ℕ) {o : Option Piece} {x : ℕ} (e : o ≡ piece_by plain rows x) (f : x ≡ letter l) where
-  pub gives_some : {p : Piece} {n : ℕ} {s : List ℕ} → o ≡ Some p → n ≡ count l → s ≡ piece l → times n (piece_as p s) ≡ line_gives plain rows l
+module _ (asked : Asked) (l : List ℕ) {o : Option Piece} {x : ℕ} (e : o ≡ piece_by asked x) (f : x ≡ letter l) where
+  pub gives_some : {p : Piece} {n : ℕ} {s : List ℕ} → o ≡ Some p → n ≡ count l → s ≡ piece l → times n (piece_as p s) ≡ line_gives asked l
   unfolding line_gives
   gives_some t n s = rw (← f, ← e, t, n, s)
 
-  pub gives_none : o ≡ None → [] ≡ line_gives plain rows l
+  pub gives_none : o ≡ None → [] ≡ line_gives asked l
   unfolding line_gives
   gives_none t = rw (← f, ← e, t)
 
-by_letter : (plain rows : ℕ) (l : List ℕ)
-    → line_gives plain rows l ≡ cond (eqb (letter l) plain) (times (count l) (numbers_in (piece l))) (cond (eqb (letter l) rows) (times (count l) (row_of (piece l))) [])
-unfolding line_gives piece_by
-by_letter plain rows l = go (eqb (letter l) plain) (eqb (letter l) rows)
+plain_or_rows : (l : List ℕ) → line_gives Input l ≡ numbers_of l
+unfolding line_gives numbers_of
+plain_or_rows l = go (eqb (letter l) 110) (eqb (letter l) 114)
   where
     go : (a b : Bool) → option (cond a (Some Numbers) (cond b (Some Row) None)) [] (λ p. times (count l) (piece_as p (piece l)))
         ≡ cond a (times (count l) (numbers_in (piece l))) (cond b (times (count l) (row_of (piece l))) [])
@@ -53,20 +54,16 @@ by_letter plain rows l = go (eqb (letter l) plain) (eqb (letter l) rows)
     go false true = refl
     go false false = refl
 
-plain_or_rows : (l : List ℕ) → line_gives 110 114 l ≡ numbers_of l
-unfolding numbers_of
-plain_or_rows l = by_letter 110 114 l
+pub all_numbers : (ls : List (List ℕ)) → each (line_gives Input) ls ≡ each numbers_of ls
+all_numbers ls = each_ext (line_gives Input) numbers_of plain_or_rows ls
 
-pub all_numbers : (ls : List (List ℕ)) → each (line_gives 110 114) ls ≡ each numbers_of ls
-all_numbers ls = each_ext (line_gives 110 114) numbers_of plain_or_rows ls
+plain_only : (l : List ℕ) → line_gives Expected l ≡ expected_of l
+unfolding line_gives expected_of
+plain_only l = go (eqb (letter l) 101)
+  where
+    go : (a : Bool) → option (cond a (Some Numbers) None) [] (λ p. times (count l) (piece_as p (piece l))) ≡ cond a (times (count l) (numbers_in (piece l))) []
+    go true = refl
+    go false = refl
 
-once : {A : Type 0} (t : Bool) (a b c : A) → cond t a (cond t b c) ≡ cond t a c
-once true a b c = refl
-once false a b c = refl
-
-plain_only : (l : List ℕ) → line_gives 101 101 l ≡ expected_of l
-unfolding expected_of
-plain_only l = by_letter 101 101 l ∙ once (eqb (letter l) 101) (times (count l) (numbers_in (piece l))) (times (count l) (row_of (piece l))) []
-
-pub all_expected : (ls : List (List ℕ)) → each (line_gives 101 101) ls ≡ each expected_of ls
-all_expected ls = each_ext (line_gives 101 101) expected_of plain_only ls
+pub all_expected : (ls : List (List ℕ)) → each (line_gives Expected) ls ≡ each expected_of ls
+all_expected ls = each_ext (line_gives Expected) expected_of plain_only ls

@@ -72,17 +72,25 @@ impl Piece {
     }
 }
 
-// The pieces of a line that starts with that letter: plain numbers after the one, or else rows after the other.
-#[tactic(auto, unfolding(crate::specs::inner::Gives::piece_by))]
-fn piece_by(letter: u8, plain: u8, rows: u8) -> Option<Piece>
-    ensures { result ≡ piece_by plain rows letter }
-{
-    if letter == plain {
-        Some(Piece::Numbers)
-    } else if letter == rows {
-        Some(Piece::Row)
-    } else {
-        None
+// Which lines are asked for: those that give a case its numbers, or those with the numbers expected.
+#[derive(Clone, Copy)]
+enum Asked {
+    Input,
+    Expected,
+}
+
+impl Asked {
+    // The pieces of a line that starts with that letter, if it is one of those.
+    #[tactic(auto, using(std::proofs::lemmas::Bool::Decides::nat_tests))]
+    fn piece(self, letter: u8) -> Option<Piece>
+        ensures { result ≡ piece_by self letter }
+    {
+        match (self, letter) {
+            (Asked::Input, b'n') => Some(Piece::Numbers),
+            (Asked::Input, b'r') => Some(Piece::Row),
+            (Asked::Expected, b'e') => Some(Piece::Numbers),
+            _ => None,
+        }
     }
 }
 
@@ -97,24 +105,24 @@ fn put_pieces(out: &mut [i64], from: usize, n: u64, fields: &[u8], piece: Piece)
     at
 }
 
-// What a line gives, by the letters that are asked for.
-fn put_line(out: &mut [i64], at: usize, line: &[u8], plain: u8, rows: u8) -> usize
+// What a line gives, where it is one of those that are asked for.
+fn put_line(out: &mut [i64], at: usize, line: &[u8], asked: Asked) -> usize
     requires { at ≤ length out.old }
-    ensures { Wrote out.old at out.new result (line_gives plain rows line.now) }
+    ensures { Wrote out.old at out.new result (line_gives asked line.now) }
 {
-    let Some(piece) = piece_by(stored_lines::letter_of(line), plain, rows) else {
+    let Some(piece) = asked.piece(stored_lines::letter_of(line)) else {
         return at;
     };
     let n = stored_lines::count_of(line);
     put_pieces(out, at, n, stored_lines::piece_of(line), piece)
 }
 
-fn put_lines(out: &mut [i64], lines: &[u8], plain: u8, rows: u8) -> usize
-    ensures { Wrote out.old 0 out.new result (each (line_gives plain rows) (parts 10 lines.now)) }
+fn put_lines(out: &mut [i64], lines: &[u8], asked: Asked) -> usize
+    ensures { Wrote out.old 0 out.new result (each (line_gives asked) (parts 10 lines.now)) }
 {
     let mut at = 0;
     for line in Parts::new(lines, b'\n') {
-        at = put_line(out, at, line, plain, rows);
+        at = put_line(out, at, line, asked);
     }
     at
 }
@@ -124,7 +132,7 @@ pub fn gather_numbers(lines: &[u8], out: &mut [i64]) -> Option<usize>
     ensures value { result ≡ gathered (length (each numbers_of (parts 10 lines.now))) (length out.old) }
     ensures out_after { out.new ≡ sets out.old 0 (each numbers_of (parts 10 lines.now)) }
 {
-    let n = put_lines(out, lines, b'n', b'r');
+    let n = put_lines(out, lines, Asked::Input);
     told(n, out.len())
 }
 
@@ -133,7 +141,7 @@ pub fn gather_expected(lines: &[u8], out: &mut [i64]) -> Option<usize>
     ensures value { result ≡ gathered (length (each expected_of (parts 10 lines.now))) (length out.old) }
     ensures out_after { out.new ≡ sets out.old 0 (each expected_of (parts 10 lines.now)) }
 {
-    let n = put_lines(out, lines, b'e', b'e');
+    let n = put_lines(out, lines, Asked::Expected);
     told(n, out.len())
 }
 
