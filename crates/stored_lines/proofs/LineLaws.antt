@@ -69,14 +69,8 @@ module _ (list : List ℕ) (at line : ℕ) (f : List ℕ) (p : line ≡ judging_
       let k : length (drop line list) ≡ length list - line = simp length-drop in
       omega (arith, p, ap length (line_at list line f e), up_within 10 (drop line list), k)
 
-  case_found : (next : ℕ) → next ≡ min (line + length f + 1) (length list) → CaseAt list at (record { start = at; line = line; end = line + length f; next = next })
-  case_found next q = record { start = refl; line = p; end = ap (λ (g : List ℕ). line + length g) (line_at list line f e); next = q }
-
-  pub case_more : line + length f < length list → CaseAt list at (record { start = at; line = line; end = line + length f; next = line + length f + 1 })
-  case_more h = case_found (line + length f + 1) (omega arith)
-
-  pub case_last : length list ≤ line + length f → CaseAt list at (record { start = at; line = line; end = line + length f; next = line + length f })
-  case_last h = case_found (line + length f) (omega (arith, line_within))
+  pub case_found : {next : ℕ} → next ≡ min (line + length f + 1) (length list) → CaseAt list at (record { start = at; line = line; end = line + length f; next = next })
+  case_found q = record { start = refl; line = p; end = ap (λ (g : List ℕ). line + length g) (line_at list line f e); next = q }
 
 pub line_from : (list : List ℕ) (at line : ℕ) → line ≡ judging_at list at → at ≤ length list → at ≤ line
 line_from list at line p h = omega arith

@@ -2,7 +2,7 @@
 // (tools/cases/README.md has the form). Here are the fields of a line, whether lines are formed, and where a case ends.
 #![tactic(auto)]
 
-ghost use Rattle.std.specs.Prelude.{◌≡◌, ◌+◌, ◌-◌, ◌≤◌, ltb, length, take, drop};
+ghost use Rattle.std.specs.Prelude.{◌≡◌, ◌+◌, ◌-◌, ◌≤◌, ltb, length, take};
 ghost use Rattle.loops.specs.Lists.{all_of};
 ghost use Rattle.text_fields.specs.Parts.{parts};
 ghost use Rattle.text_line.specs.Line.{fields_of, value_of, spelled};
@@ -22,7 +22,7 @@ pub fn number_of(s: &[u8]) -> i64
     text_fields::read_number(s).unwrap_or(0)
 }
 
-// The letter that a line starts with, 0 where it is empty.
+// The letter that a line starts with, 0 where it is empty. No Option: it is only compared with letters, and 0 is none of them.
 pub fn letter_of(line: &[u8]) -> u8
     ensures { result ≡ letter line.now }
 {
@@ -154,12 +154,11 @@ pub fn case_at(list: &[u8], at: usize) -> Case
 {
     let line = judging_at(list, at);
     let end = line + text_fields::first_part(&list[line..], b'\n').len();
-    let next = if end < list.len() { end + 1 } else { end };
     Case {
         start: at,
         line,
         end,
-        next,
+        next: list.len().min(end + 1),
     }
 }
 

@@ -1,5 +1,5 @@
 -- How the iterator over a list's cases goes. Assumes nothing.
-use Rattle.std.specs.Prelude.{ℕ, Option, ◌≡◌, ◌≤◌, ◌<◌, length, MatchOption}
+use Rattle.std.specs.Prelude.{Option, ◌≡◌, ◌≤◌, ◌<◌, length, MatchOption}
 use Rattle.stored_lines.specs.declared.Case.{Case}
 use Rattle.stored_lines.specs.declared.Cases.{Cases}
 use Rattle.stored_lines.specs.inner.Case.{CaseAt}
