@@ -26,7 +26,7 @@ fn print_closures(text: &[u8], resource: i64, out: &mut [u8]) -> usize
     ensures upper_bound { result ≤ 84000 }
     ensures out_after { take result out.new ≡ printed_closures text.now resource }
 {
-    // Room for 800 rows.
+    // Room for 800 rows: programs have no heap.
     let mut rows = [0i64; 8000];
     let answer = freebusy::read_freebusy(text, resource, &mut rows);
     let rows = text_program::kept(rows);

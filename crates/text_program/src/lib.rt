@@ -25,7 +25,7 @@ pub fn print_text<F: FnOnce(&[i64], &mut [u8]) -> usize>(
     ensures upper_bound { result ≤ length out.old }
     ensures out_after { take result out.new ≡ printed_text of_rows text.now }
 {
-    // Room for 800 rows.
+    // Room for 800 rows: programs have no heap.
     let mut rows = [0i64; 8000];
     match text::read_text(text, &mut rows) {
         Ok(n) => print_rows(&rows[..10 * n], out),
