@@ -20,7 +20,7 @@ pub extern "C" fn sheet_read_text(text: &[u8], rows: &mut [i64]) -> Outcome
     ensures rows_after { rows.new ≡ rows_after (answer_of text.now (length rows.old / 10)) text.now rows.old }
 {
     let answer: Answer = text::read_text(text, rows);
-    outcomes::of_answer(answer)
+    Outcome::from(answer)
 }
 
 // Reads an office calendar's busy periods to the lent rows, as closed windows of the resource.
@@ -30,7 +30,7 @@ pub extern "C" fn sheet_read_freebusy(text: &[u8], resource: i64, rows: &mut [i6
     ensures rows_after { rows.new ≡ freebusy_after text.now resource rows.old }
 {
     let answer: Answer = freebusy::read_freebusy(text, resource, rows);
-    outcomes::of_answer(answer)
+    Outcome::from(answer)
 }
 
 // Refusals 1 to 5 on the rows.
@@ -39,7 +39,7 @@ pub extern "C" fn sheet_validate(rows: &[i64]) -> Outcome
     ensures { result ≡ of_refusal (refusal_of rows.now) }
 {
     let verdict: Verdict = validation::validate(rows);
-    outcomes::of_verdict(verdict)
+    Outcome::from(verdict)
 }
 
 // The work-end inquiry.
@@ -52,7 +52,7 @@ pub extern "C" fn sheet_work_end(
 ) -> WorkEndOutcome
     ensures { result ≡ of_inquiry (inquiry rows.now resource start work) }
 {
-    outcomes::of_inquiry(work_end_inquiry::work_end(rows, resource, start, work))
+    WorkEndOutcome::from(work_end_inquiry::work_end(rows, resource, start, work))
 }
 
 // The call: checks the rows, and writes the findings of an accepted sheet to the lent numbers.
@@ -62,7 +62,7 @@ pub extern "C" fn sheet_check_schedule(rows: &[i64], findings: &mut [i64]) -> Ou
     ensures findings_after { findings.new ≡ findings_after rows.now findings.old }
 {
     let answer: Answer = feasibility::check_schedule(rows, findings);
-    outcomes::of_answer(answer)
+    Outcome::from(answer)
 }
 
 // The margins of the tasks and of the booked resources, as lines of three lent numbers.
@@ -72,5 +72,5 @@ pub extern "C" fn sheet_margins(rows: &[i64], lines: &mut [i64]) -> Outcome
     ensures lines_after { lines.new ≡ margins_after rows.now lines.old }
 {
     let answer: Answer = margin_lines::margins(rows, lines);
-    outcomes::of_answer(answer)
+    Outcome::from(answer)
 }

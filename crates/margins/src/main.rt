@@ -10,7 +10,7 @@ ghost use Rattle.margins.specs.inner.Bytes.{line_bytes, lines_bytes};
 use margin_lines::MarginKind;
 use text_program::Words;
 
-// The word that a line begins with.
+// The word that a line begins with, by the number that stands in the lent buffer: a MarginKind made of it would need an answer for numbers of no kind.
 fn put_word(out: &mut [u8], at: usize, of: u64) -> usize
     requires { at ≤ length out.old }
     ensures { Wrote out.old at out.new result (word_of of) }
@@ -79,7 +79,7 @@ fn main(rt: HostRuntime) {
         awaited: b"margins: a sheet is read from standard input, up to the end of input (Ctrl-D)",
         output: b"margins: standard output",
     };
-    // Room for what is printed of them.
+    // Room for what is printed of them: programs have no heap.
     let mut out = [0u8; 40800];
     text_program::run(&rt, words, &mut out, print_text);
 }

@@ -23,21 +23,25 @@ fn numbered(number: u64, place: u64) -> Outcome
     Outcome { number, place }
 }
 
-pub fn of_answer(answer: Answer) -> Outcome
-    ensures { result ≡ of_answer answer }
-{
-    match answer {
-        Ok(n) => numbered(0, n as u64),
-        Err(e) => numbered(e.reason.number(), e.place as u64),
+impl From<Answer> for Outcome {
+    ghost from_gives = { λ answer r. r ≡ of_answer answer };
+
+    fn from(answer: Answer) -> Outcome {
+        match answer {
+            Ok(n) => numbered(0, n as u64),
+            Err(e) => numbered(e.reason.number(), e.place as u64),
+        }
     }
 }
 
-pub fn of_verdict(v: Verdict) -> Outcome
-    ensures { result ≡ of_refusal (verdict_of v) }
-{
-    match v {
-        Ok(()) => numbered(0, 0),
-        Err(refusal) => numbered(refusal.reason.number(), refusal.place as u64),
+impl From<Verdict> for Outcome {
+    ghost from_gives = { λ v r. r ≡ of_refusal (verdict_of v) };
+
+    fn from(v: Verdict) -> Outcome {
+        match v {
+            Ok(()) => numbered(0, 0),
+            Err(refusal) => numbered(refusal.reason.number(), refusal.place as u64),
+        }
     }
 }
 
@@ -62,18 +66,20 @@ fn accepted(outcome: u64, instant: u64) -> WorkEndOutcome
     }
 }
 
-pub fn of_inquiry(a: InquiryAnswer) -> WorkEndOutcome
-    ensures { result ≡ of_inquiry (outcome_of a) }
-{
-    match a {
-        Ok(InquiryEnd::End(e)) => accepted(0, e),
-        Ok(InquiryEnd::Pause) => accepted(1, 0),
-        Ok(InquiryEnd::Never) => accepted(2, 0),
-        Err(e) => WorkEndOutcome {
-            number: e.reason.number(),
-            place: e.place as u64,
-            outcome: 0,
-            instant: 0,
-        },
+impl From<InquiryAnswer> for WorkEndOutcome {
+    ghost from_gives = { λ a r. r ≡ of_inquiry (outcome_of a) };
+
+    fn from(a: InquiryAnswer) -> WorkEndOutcome {
+        match a {
+            Ok(InquiryEnd::End(e)) => accepted(0, e),
+            Ok(InquiryEnd::Pause) => accepted(1, 0),
+            Ok(InquiryEnd::Never) => accepted(2, 0),
+            Err(e) => WorkEndOutcome {
+                number: e.reason.number(),
+                place: e.place as u64,
+                outcome: 0,
+                instant: 0,
+            },
+        }
     }
 }

@@ -1,6 +1,6 @@
-// A program's arguments, its standard input and its standard output. A read that failed is never taken for the end of the input, and a write that failed is
-// never lost in silence: each is told in a line on standard error, as is what a file tells when it is asked to keep what was written. What the outside gives
-// and takes, no contract can say; what is made of each answer of the system, the page `Ending` says.
+// A program's arguments, its standard input and its standard output. A read that failed is never taken for the end of the input (but by `read_whole`), and a
+// write that failed is never lost in silence: each is told in a line on standard error, as is what a file tells when it is asked to keep what was written.
+// What the outside gives and takes, no contract can say; what is made of each answer of the system, the page `Ending` says.
 #![tactic(auto)]
 
 mod steps;
@@ -8,12 +8,14 @@ mod system;
 mod words;
 
 ghost use Rattle.std.specs.Prelude.{◌≡◌, ◌≢◌, ◌+◌, ◌^◌, ◌<◌, ◌≤◌, length, take, drop, MatchResult};
+ghost use Rattle.std.specs.Counts.{IsPrefixLen};
+ghost use Rattle.std.specs.Io.KnownBytes.{Consumes};
 ghost use Rattle.program_io.specs.Ending.{ToEnd, ReadToEnd, read_of};
 ghost use Rattle.program_io.specs.inner.Input.{Held};
 
 use std::env::FillError;
 use std::fs::{OpenFile, OpenOptions};
-use std::io::{ErrorKind, IsTerminal, Stdin, Stdout};
+use std::io::{ErrorKind, IsTerminal, Read, Stdin, Stdout};
 use std::ops::ControlFlow;
 use std::os::fd::AsFd;
 use std::rt::Env;
@@ -154,6 +156,22 @@ pub fn read_input(rt: &HostRuntime, input: &[u8], awaited: &[u8], buffer: &mut [
         tell_reason(rt, input, source.reason());
     }
     Reading { ended, input: read }
+}
+
+// Reads until the input ends, a read fails or the room is full, and gives how many bytes were read. For the programs of the gate and of measuring, which tell
+// no reason: here a read that fails ends the input. Steps of any length, and no index that counts them.
+pub fn read_whole<R: Read>(from: &mut R, room: &mut [u8]) -> usize
+    ensures within { IsPrefixLen result room.new }
+    ensures bytes { Consumes (R.remaining from.old) (R.remaining from.new) (take result room.new) }
+{
+    let mut n = 0;
+    while n < room.len() {
+        match from.read(&mut room[n..]) {
+            Ok(0) | Err(_) => return n,
+            Ok(more) => n += more,
+        }
+    }
+    n
 }
 
 // What is left to write after the first `done` bytes.

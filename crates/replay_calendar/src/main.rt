@@ -6,6 +6,7 @@
 use calendar::{Calendars, Places, TimeWindow, WindowKind, WorkEnd};
 use std::io;
 use stored_run::Gathered;
+use window_rows::NO_WINDOW;
 
 // An instant or an amount. The last four of 64 bits are spelled -4 to -1, for a list's numbers go only to 2^63 - 1.
 fn instant(z: i64) -> u64 {
@@ -20,12 +21,7 @@ fn instant(z: i64) -> u64 {
 
 // The numbers, three by three, as windows, in arrays since programs have no heap.
 fn windows_of(numbers: &[i64]) -> [TimeWindow; 800] {
-    let none = TimeWindow {
-        kind: WindowKind::Neither,
-        start: 0,
-        end: 0,
-    };
-    let mut windows = [none; 800];
+    let mut windows = [NO_WINDOW; 800];
     for (w, &[kind, start, end]) in windows.iter_mut().zip(numbers.as_chunks::<3>().0) {
         *w = TimeWindow {
             kind: WindowKind::from(instant(kind)),
@@ -36,7 +32,7 @@ fn windows_of(numbers: &[i64]) -> [TimeWindow; 800] {
     windows
 }
 
-// The numbers of a line that judges, two by two, as the places of calendars.
+// The numbers of a line that judges, two by two, as the places of calendars, in an array for the same reason.
 fn places_of(numbers: &[i64]) -> [Places; 8] {
     let mut places = [Places { from: 0, to: 0 }; 8];
     for (p, &[from, to]) in places.iter_mut().zip(numbers.as_chunks::<2>().0) {
@@ -90,13 +86,13 @@ fn is_answer(letter: u8, given: &[i64], calendars: Calendars) -> bool {
     }
 }
 
-// How many numbers a line has before its places.
-fn before_places(letter: u8) -> usize {
+// How many numbers a line has before its places, if its letter asks anything.
+fn before_places(letter: u8) -> Option<usize> {
     match letter {
-        b'W' | b'J' => 2,
-        b'F' | b'A' => 3,
-        b'E' | b'B' => 4,
-        _ => 16,
+        b'W' | b'J' => Some(2),
+        b'F' | b'A' => Some(3),
+        b'E' | b'B' => Some(4),
+        _ => None,
     }
 }
 
@@ -115,10 +111,9 @@ fn question_passes(letter: u8, given: &[i64], places: &[i64], numbers: &[i64]) -
 }
 
 fn passes(case: &Gathered) -> bool {
-    match case.judging.split_at_checked(before_places(case.letter)) {
-        Some((given, places)) => question_passes(case.letter, given, places, case.numbers),
-        None => false,
-    }
+    before_places(case.letter)
+        .and_then(|n| case.judging.split_at_checked(n))
+        .is_some_and(|(given, places)| question_passes(case.letter, given, places, case.numbers))
 }
 
 fn main(rt: HostRuntime) -> io::Result<()> {

@@ -6,13 +6,11 @@ use stored_run::Gathered;
 
 // A line `CROOM,NUMBER,PLACE` has the numbers checked as rows; a finding is four of the numbers expected.
 fn passes(case: &Gathered) -> bool {
-    case.letter == b'C'
-        && case.expects_lines_of(4)
-        && stored_run::call_passes(
-            case.judging,
-            case.expected,
-            |lent| feasibility::check_schedule(case.numbers, lent),
-        )
+    case.lines_pass(
+        b'C',
+        4,
+        |lent| feasibility::check_schedule(case.numbers, lent),
+    )
 }
 
 fn main(rt: HostRuntime) -> io::Result<()> {

@@ -6,13 +6,7 @@ use stored_run::Gathered;
 
 // A line `MROOM,NUMBER,PLACE` asks for the margins of the numbers as rows; a line of them is three of the numbers expected.
 fn passes(case: &Gathered) -> bool {
-    case.letter == b'M'
-        && case.expects_lines_of(3)
-        && stored_run::call_passes(
-            case.judging,
-            case.expected,
-            |lent| margin_lines::margins(case.numbers, lent),
-        )
+    case.lines_pass(b'M', 3, |lent| margin_lines::margins(case.numbers, lent))
 }
 
 fn main(rt: HostRuntime) -> io::Result<()> {

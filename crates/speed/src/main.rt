@@ -7,8 +7,6 @@
 // before, every time; part 100 does only that, and its time is to be taken off.
 #![tactic(auto)]
 
-ghost use Rattle.std.specs.Prelude.{◌≤◌, length};
-
 use calendar::{Calendars, Places, TimeWindow, WindowKind, WorkEnd};
 use check6_calendars::LackingSheet;
 use derived_times::{DerivedTimes, TimedSheet};
@@ -18,7 +16,6 @@ use pieces::HeldMarks;
 use refusals::Verdict;
 use sheet::Rows;
 use std::io;
-use std::io::Read;
 use text_fields::Parts;
 
 // The number that a line spells, 0 where it spells none.
@@ -191,26 +188,10 @@ fn found_by(texts: &[u8], number: u64, count: u64) -> usize {
     found
 }
 
-// Reads until the input ends, a read fails or the room is full, and gives how many bytes were read. Steps of any length, and no index that counts them. Not
-// program_io's reading: that tells why a read failed, and says at a terminal what is awaited, and this program does neither.
-fn read_whole(from: &mut impl Read, room: &mut [u8]) -> usize
-    ensures { result ≤ length room.new }
-{
-    let mut n = 0;
-    while n < room.len() {
-        match from.read(&mut room[n..]) {
-            Ok(0) => return n,
-            Ok(more) => n += more,
-            Err(_) => return n,
-        }
-    }
-    n
-}
-
 fn main(rt: HostRuntime) -> io::Result<()> {
     // Room for two lines and many texts: programs have no heap.
     let mut input = [0u8; 400000];
-    let n = read_whole(&mut rt.stdin(), &mut input);
+    let n = program_io::read_whole(&mut rt.stdin(), &mut input);
     let read = &input[..n];
     let part = text_fields::first_part(read, b'\n');
     let rest = read.get(part.len() + 1..).unwrap_or(&[]);

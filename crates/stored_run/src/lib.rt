@@ -1,8 +1,8 @@
 // The run over stored lists of cases: what a case gathers, whether it passes, and what is counted and told. The programs replay_.. judge.
 #![tactic(auto)]
 
-ghost use Rattle.std.specs.Prelude.{◌≡◌, ◌*◌, cond, true, pos, IsOk, is_ok, IfSome, ℕ, Some, ◌≢◌, ◌≤◌, length, get_or, take, drop, replicate, List, ◌++◌, ℤ, Result};
-ghost use Rattle.refusals.specs.declared.Refusal.{Refusal};
+ghost use Rattle.std.specs.Prelude.{◌≡◌, ◌*◌, cond, true, pos, IsOk, is_ok, IfSome, MatchOption, ⊤, Some, ◌≢◌, ◌≤◌, length, get_or, take, ℕ};
+ghost use Rattle.std.specs.Counts.{IsPrefixLen};
 ghost use Rattle.std.specs.Fn.{FnReturnsAt, FnOnceReturnsAtMut};
 ghost use Rattle.loops.specs.Lists.{all_of};
 ghost use Rattle.text_fields.specs.Parts.{parts};
@@ -10,11 +10,10 @@ ghost use Rattle.stored_lines.specs.inner.Line.{is_formed};
 ghost use Rattle.stored_run.specs.Cases.{Gathers};
 ghost use Rattle.stored_run.specs.declared.Gathered.{Gathered};
 ghost use Rattle.stored_run.specs.inner.Count.{more};
-ghost use Rattle.stored_run.specs.inner.Expected.{as_expected, passes, number_at, lines_expected, verdict_passes};
+ghost use Rattle.stored_run.specs.inner.Expected.{as_expected, passes, lines_expected, LentPasses, CallPasses, verdict_passes};
 
 use refusals::{Answer, Verdict};
 use std::fs::File;
-use std::io::Read;
 use std::rt::Files;
 use std::{io, str};
 use stored_lines::Cases;
@@ -33,6 +32,22 @@ pub struct Gathered<'a> {
 }
 
 impl Gathered<'_> {
+    // Whether the line that judges has that letter and the call comes out as expected, which gives lines of `width` numbers.
+    pub fn lines_pass<F: FnOnce(&mut [i64]) -> Answer>(
+        &self,
+        letter: u8,
+        width: u64,
+        call: F,
+    ) -> bool
+        requires { F.IsAlwaysCallable call }
+        ensures lines { result ≡ true → (self.now.letter ≡ letter) × (length self.now.expected.now ≡ lines_expected self.now.judging.now * width) }
+        ensures passes { result ≡ true → CallPasses (FnOnceReturnsAtMut F.FnOnce call) self.now.judging.now self.now.expected.now }
+    {
+        self.letter == letter
+            && self.expects_lines_of(width)
+            && call_passes(self.judging, self.expected, call)
+    }
+
     // Whether the numbers expected are `width` to each line that a call is to give; it gives none where it is to refuse.
     pub fn expects_lines_of(&self, width: u64) -> bool
         ensures { result ≡ true → length self.now.expected.now ≡ lines_expected self.now.judging.now * width }
@@ -70,7 +85,7 @@ fn is_passed<F: Fn(&Gathered) -> bool>(lines: &[u8], line: &[u8], passes: &F) ->
     requires { F.IsAlwaysCallable passes.now }
     ensures { IfSome result (λ yes. (c : Gathered) × Gathers lines.now line.now c × FnReturnsAt F.Fn passes.now c yes) }
 {
-    // What no line gathers to is still 7 among the numbers.
+    // Room for what a case gathers: programs have no heap. What no line gathers to is still 7 among the numbers.
     let mut judging = [0i64; 16];
     let mut numbers = [7i64; 8210];
     let mut bytes = [0u8; 70010];
@@ -229,10 +244,14 @@ fn replay_file<F: Fn(&Gathered) -> bool>(
 ) -> io::Result<Run>
     requires { F.IsAlwaysCallable passes.now }
 {
+    // Room for a list: programs have no heap.
     let mut list = [0u8; 262144];
-    let n = read_list(rt, name, &mut list);
-    name_unread(rt, name, &list, n)?;
-    replay_list(rt, name, &list[..n], before, passes)
+    let read = read_list(rt, name, &mut list);
+    name_unread(rt, name, &list, read)?;
+    match read {
+        Some(n) => replay_list(rt, name, &list[..n], before, passes),
+        None => Ok(before),
+    }
 }
 
 // Judges each case of the lists in files, names those that fail, and prints how many there were and how many came out as expected.
@@ -288,7 +307,7 @@ pub fn call_passes<F: FnOnce(&mut [i64]) -> Answer>(
     call: F,
 ) -> bool
     requires { F.IsAlwaysCallable call }
-    ensures { result ≡ true → (length judging.now ≡ 3) × (answer : Result ℕ Refusal) × (left : List ℤ) × FnOnceReturnsAtMut F.FnOnce call (take (number_at judging.now 0) (replicate 8210 (pos 7))) answer left × (passes answer (left ++ drop (number_at judging.now 0) (replicate 8210 (pos 7))) expected.now (number_at judging.now 1) (number_at judging.now 2) ≡ true) }
+    ensures { result ≡ true → CallPasses (FnOnceReturnsAtMut F.FnOnce call) judging.now expected.now }
 {
     match judging {
         &[lent, number, place] => {
@@ -309,8 +328,9 @@ fn lent_passes<F: FnOnce(&mut [i64]) -> Answer>(
 ) -> bool
     requires may_call { F.IsAlwaysCallable call }
     requires room { lent ≤ 8210 }
-    ensures { result ≡ true → (answer : Result ℕ Refusal) × (left : List ℤ) × FnOnceReturnsAtMut F.FnOnce call (take lent (replicate 8210 (pos 7))) answer left × (passes answer (left ++ drop lent (replicate 8210 (pos 7))) expected.now number place ≡ true) }
+    ensures { result ≡ true → LentPasses (FnOnceReturnsAtMut F.FnOnce call) lent expected.now number place }
 {
+    // Room for what the longest case lends: programs have no heap.
     let mut numbers = [7i64; 8210];
     let answer = call(&mut numbers[..lent]);
     came_out(answer, &numbers, expected, number, place)
@@ -336,40 +356,20 @@ pub fn verdict_passes(judging: &[i64], verdict: Verdict) -> bool
 
 // ---- the reading of a list
 
-// Reads from a file until its end, an error or the end of the room, and gives how many bytes were read. Steps of any length, and no index
-// that counts them. Not program_io's reading: that is of standard input, and keeps why a read failed, of which nothing is told here.
-fn read_whole(from: &mut impl Read, room: &mut [u8]) -> usize
-    ensures { result ≤ length room.new }
+// Reads the list in a file to the room lent, and gives how many bytes of it were read, if the file can be opened.
+pub fn read_list(rt: &impl Files, name: &[u8], list: &mut [u8]) -> Option<usize>
+    ensures { IfSome result (λ n. IsPrefixLen n list.new) }
 {
-    let mut n = 0;
-    while n < room.len() {
-        match from.read(&mut room[n..]) {
-            Ok(0) | Err(_) => return n,
-            Ok(more) => n += more,
-        }
-    }
-    n
-}
-
-// Reads the list in a file to the room lent, and gives how many bytes of it were read: none where the file cannot be opened.
-pub fn read_list(rt: &impl Files, name: &[u8], list: &mut [u8]) -> usize
-    ensures within { result ≤ length list.new }
-    ensures prefix { result ≡ length (take result list.new) }
-{
-    let Ok(path) = str::from_utf8(name) else {
-        return 0;
-    };
-    match File::open(rt, path) {
-        Ok(mut file) => read_whole(&mut file, list),
-        Err(_) => 0,
-    }
+    let path = str::from_utf8(name).ok()?;
+    let mut file = File::open(rt, path).ok()?;
+    Some(program_io::read_whole(&mut file, list))
 }
 
 // Tells of a list that could not be read or fills the room; what was not read is missed in the count of cases.
-pub fn name_unread(rt: &impl Print, name: &[u8], list: &[u8], n: usize) -> io::Result<()>
-    ensures { n ≢ 0 → n ≢ length list.now → IsOk result }
+pub fn name_unread(rt: &impl Print, name: &[u8], list: &[u8], read: Option<usize>) -> io::Result<()>
+    ensures { MatchOption read ⊤ (λ n. n ≢ 0 → n ≢ length list.now → IsOk result) }
 {
-    if n == 0 || n == list.len() {
+    if read.is_none_or(|n| n == 0 || n == list.len()) {
         rt.write_all(name)?;
         return rt.write_all(b": not read whole\n");
     }
