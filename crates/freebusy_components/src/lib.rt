@@ -15,14 +15,11 @@ struct Walked {
     wrong: Option<usize>,
 }
 
-// The lesser of two places. Not Option's own `min`: None is below every place there, and here it is no place.
+// The lesser of two places, where there is one. Not Option's own `min`: None is below every place there, and here it is no place.
 fn lesser(a: Option<usize>, b: Option<usize>) -> Option<usize>
     ensures { result ≡ least a b }
 {
-    match (a, b) {
-        (Some(x), Some(y)) => Some(x.min(y)),
-        _ => a.or(b),
-    }
+    a.into_iter().chain(b).min()
 }
 
 // What is open after a line.
