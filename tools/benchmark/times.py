@@ -1,5 +1,5 @@
 #!/usr/bin/env python3
-"""Times the derived times and refusal 6 (`pieces::held_of`, `derived_times::needs_of`, `derived_times::refused`) as they are built.
+"""Times the derived times and refusal 6 (`derived_times::DerivedTimes::fill`: who is held, what each booking needs, the refusal) as they are built.
 
     tools/benchmark/times.py [--more N] [--rounds N] [--drawn N] [NAME..]      (NAME: only sheets whose name has it)
 

@@ -5,7 +5,7 @@ ghost use Rattle.chains.specs.inner.Along.{Along, Rising, Means, Sought};
 
 use std::marker::Model;
 
-// N is 800 and the number of keys. Seen as the list of what is stored.
+// N is 800 and the number of keys. Seen as the list of what is stored. There is no heap: an array of 16-bit places.
 #[derive(Drop)]
 pub struct ChainTable<const N: usize> {
     places: [u16; N],
@@ -59,9 +59,9 @@ impl<const N: usize> ChainTable<N> {
         usize::from(self.places[i])
     }
 
-    // The first place below an end that passes the test, of those of a chain from one of its places on; a place from the end on where none does. A loop by hand, below
-    // the walks by name and by owner: an iterator along the table would be a type more, for this one function. Inlined before LLVM turns the loop: a test that reads a
-    // row at the place then needs no bounds check of its own, a half in a hundred of a validation.
+    // The first place below an end that passes the test, of those of a chain from one of its places on; a place from the end on where none does. A loop by
+    // hand, below the walks by name and by owner: an iterator along the table would be a type more, for this one function. Inlined before LLVM turns the loop:
+    // a test that reads a row at the place then needs no bounds check of its own, a half in a hundred of a validation.
     #[inline(always)]
     pub fn find_from<F: Fn(usize) -> bool>(&self, from: usize, end: usize, test: F) -> usize
         requires within { end ≤ N }

@@ -79,7 +79,8 @@ impl<'a> KnownBooking<'a> {
             || (!self.rows.is_none(self.row, 7) && !is_split(self.rows, self.activity))
     }
 
-    // Whether booking j takes a unit of its piece. It is not misplaced, so another booking of its piece is misplaced only where that names another task.
+    // Whether booking j takes a unit of its piece. It is not misplaced, so another booking of its piece is misplaced only where that names another task. This
+    // is a clause of `judge` and of its two steps: a second type would be made in `check` alone.
     #[tactic(auto, using(model::proofs::Accepting::accepted, crate::proofs::Counting::takes_told))]
     fn takes_unit(&self, j: usize) -> bool
         requires { (misplaced (sheet self.now.rows.now) (activity_of self.now.rows.now self.now.activity) (assignment_of self.now.rows.now self.now.row) ≡ false) × (j < row_count self.now.rows.now) }

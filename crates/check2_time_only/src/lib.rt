@@ -124,7 +124,8 @@ fn task_release(rows: &Sheet, a: usize) -> Option<u64>
     spans::instant_at(rows.as_slice(), rows.task_of(a)?, 3)
 }
 
-// The findings of the first known span, of row k, of the activity of row a, whose windows are laid out in the list.
+// The findings of the first known span, of row k, of the activity of row a, whose windows are laid out in the list. Activity and span go as two rows: only here
+// and in `is_short` something is asked of both; the others ask something of one alone, also where there is no span (`check_unplaced`).
 #[tactic(auto, using(sheet::proofs::Lookups::place_within, sheet::proofs::Lookups::place_kind))]
 fn check_first(rows: &Sheet, a: usize, k: usize, list: &mut WindowList, found: &mut Findings)
     requires { (is rows.now k 0 24 ≡ true) × (place_of rows.now 2 (num rows.now k 1) ≡ Some a) }

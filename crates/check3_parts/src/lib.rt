@@ -1,4 +1,5 @@
-// Check 3, `check_parts`: the parts that a split activity is booked in.
+// Check 3, `check_parts`: the parts that a split activity is booked in. The activity's row goes as a place, of which each function asks what a walk asks, that
+// it is no more than the number of rows: a struct of sheet and row would save that clause, and name the two fields in every other.
 #![tactic(auto)]
 
 ghost use Rattle.std.specs.Prelude.{◌≡◌, true, ◌&&◌, ◌||◌, [], ◌<◌, ◌≤◌, eqb, ℕ, pos};

@@ -15,7 +15,7 @@ use pieces::{HeldMarks, MarkedRows};
 use rows::Kind;
 use sheet::{Found, Rows};
 
-// True at each booking of the piece that may be claimed.
+// True at each booking of the piece that may be claimed. No heap: a mark for each of at most 800 rows.
 fn free_in(rows: &MarkedRows, piece: Piece) -> [bool; 800]
     requires { piece.row ≤ row_count rows.now }
     ensures { unclaimed_of rows.now piece.row result ≡ runs_on_in rows.now piece.row piece.key }
@@ -27,7 +27,8 @@ fn free_in(rows: &MarkedRows, piece: Piece) -> [bool; 800]
     free
 }
 
-// The row of booking k's resource, if it is a candidate of the requirement at row q.
+// The row of booking k's resource, if it is a candidate of the requirement at row q. What is known of the two rows stands in three steps of one loop, this and
+// the two that take it: a struct of them would be made in each turn of the loop and taken apart in each step.
 fn candidate(rows: &Owners, q: usize, k: usize) -> Option<usize>
     requires { (q < row_count rows.now) × (is rows.now q 0 5 ≡ true) × (k < row_count rows.now) × (is rows.now k 0 23 ≡ true) }
     ensures { result ≡ cond (candidate_of rows.now q (num rows.now k 3)) (resource_place rows.now (num rows.now k 3)) None }

@@ -71,7 +71,8 @@ fn check_activity(rows: &Sheet, a: usize, k: usize, found: &mut Findings)
     report_unfit(rows, a, Kind::ActivityWindow, k, outside, found);
 }
 
-// Booking k, that may not pause, of the activity of row a, on the resource of row o.
+// Booking k, that may not pause, of the activity of row a, on the resource of row o. Here its activity's place is known, of one that may pause also its kind,
+// which `lay_calendars` asks for: no one fact goes through both.
 fn check_plain(rows: &Sheet, a: usize, o: usize, k: usize, found: &mut Findings)
     requires { (place_of rows.now 2 (num rows.now k 1) ≡ Some a) × (place_of rows.now 11 (num rows.now k 3) ≡ Some o) }
     ensures { so_far found.new ≡ tell (so_far found.old) (check_plain clock (sheet rows.now) (assignment_of rows.now k) (Some (activity_of rows.now a))) }

@@ -39,7 +39,8 @@ fn starts_before(rows: &Owners, o: usize, k: usize, bound: u64) -> bool
         .any(|j| starts_at(rows.as_slice(), k, j, bound))
 }
 
-// Whether booking k's piece starts before the work, done at `from` by the activity before, is moved to booking k's resource.
+// Whether booking k's piece starts before the work, done at `from` by the activity before, is moved to booking k's resource. `from` has no bound by its type:
+// here and below it is asked, so that the sum with the move fits.
 #[tactic(auto, using(crate::proofs::Judged::unreached_told))]
 fn unreached_at(pair: &ActivityPair, from: u64, k: usize) -> bool
     requires { (from ≤ 4000000000000) × (owned_by pair.now.rows pair.now.after 23 k ≡ true) }

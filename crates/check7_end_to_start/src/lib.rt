@@ -29,8 +29,8 @@ pub fn is_before(start: u64, end: u64, delay: i64) -> bool
     (start as i64) < end as i64 + delay
 }
 
-// Whether `after` starts before `delay` after `before` ends. `Accepted` is asked here and below, and no `Sheet`, which has that by its type: a `Sheet` would ask for
-// the tables by owner too, of which an activity's span needs none.
+// Whether `after` starts before `delay` after `before` ends. `Accepted` is asked here and below, and no `Sheet`, which has that by its type: a `Sheet` would
+// ask for the tables by owner too, of which an activity's span needs none.
 #[tactic(auto, unfolding(crate::specs::inner::Early::starts_early))]
 fn starts_early(rows: &ByKind, before: u64, after: u64, delay: i64) -> bool
     requires { Accepted rows.now × (nat_abs delay ≤ 8000000000000) }
@@ -57,7 +57,7 @@ fn end_to_start(rows: &ByKind, before: u64, after: u64, delay: i64, found: &mut 
     );
 }
 
-// The activity of row o against its predecessors.
+// The activity of row o against its predecessors. Both indexes and no `Sheet`, here and below, as `ActivityPair` (check7_early_piece) says.
 #[tactic(auto, using(crate::proofs::Told::predecessors_told))]
 fn check_predecessors(rows: &ByKind, owners: &ByOwner, o: usize, found: &mut Findings)
     requires { (owners.now ≡ rows.now) × Accepted rows.now × (o < row_count rows.now) × (is rows.now o 0 2 ≡ true) }

@@ -85,7 +85,8 @@ fn check_pairs(rows: &ByKind, bookings: &[usize], f: Violation, found: &mut Find
     }
 }
 
-// The findings of the constraint in row k; place is the number of constraints above it.
+// The findings of the constraint in row k; place is the number of constraints above it. It goes beside the row, here and below: the loop counts it over rows of
+// all kinds, and members are asked for it.
 #[tactic(auto, using(crate::proofs::Pairs::overlaps_found))]
 fn check_overlaps(rows: &ByKind, k: usize, place: u64, found: &mut Findings)
     requires { (is rows.now k 0 20 ≡ true) × (place ≡ length (collect (constraint_at (sheet rows.now)) k)) }

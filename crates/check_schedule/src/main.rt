@@ -40,7 +40,7 @@ fn main(rt: HostRuntime) {
         awaited: b"check_schedule: a sheet is read from standard input, up to the end of input (Ctrl-D)",
         output: b"check_schedule: standard output",
     };
-    // Room for what is printed of them: programs have no heap.
+    // Room for what is printed of 2,000 findings: programs have no heap.
     let mut out = [0u8; 168030];
     text_program::run(&rt, words, &mut out, print_text);
 }

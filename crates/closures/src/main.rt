@@ -50,7 +50,7 @@ fn main(rt: HostRuntime) {
         awaited: b"closures: a calendar is read from standard input, up to the end of input (Ctrl-D)",
         output: b"closures: standard output",
     };
-    // Room for what is printed of them.
+    // Room for what is printed of 800 rows: programs have no heap.
     let mut out = [0u8; 84000];
     text_program::run(
         &rt,

@@ -269,11 +269,12 @@ pub fn refused(rows: &[i64], need: &[u64; 800]) -> Verdict
 
 // ---- the derived times of a sheet
 
-// Who is held and what each booking needs besides its own setup, as one value. The library has no heap: whoever asks for them has them on the stack.
+// Who is held and what each booking needs besides its own setup, as one value. The library has no heap: whoever asks for them has them on the stack. Two
+// arrays: check 4 asks who is held, of rows whose needs it does not know. The fields are public: who has the two otherwise may put them together.
 #[derive(Drop)]
 pub struct DerivedTimes {
-    held: [bool; 800],
-    need: [u64; 800],
+    pub held: [bool; 800],
+    pub need: [u64; 800],
 }
 
 impl DerivedTimes {

@@ -1,22 +1,21 @@
 -- Laws of `emit`, those of lines of four numbers. A function that reports findings ensures `sink out' r ≡ emit (sink out n) findings`; two calls in a row
 -- are `emit_then`. Assumes nothing.
-use Prim.Native.Nat.{ℕ, ◌*◌, ◌^◌, ◌<◌}
+use Prim.Native.Nat.{◌*◌, ◌^◌, ◌<◌}
 use mathlib.Core.Path.{◌≡◌, refl, sym, ◌∙◌}
 use mathlib.Core.Bool.{Bool, true, false}
 use mathlib.Core.List.{List, [], ◌∷◌, ◌++◌}
 use native.Mathlib.Omega.{arith}
 use lib.ListN.{length}
-use lib.IntN.{ℤ}
 use mir.Syntax.{w64}
 use mir.Val.{to_z}
 use mir.Facts.{to_z_pos}
 use Rattle.loops.specs.Lists.{given}
 use Rattle.line_buffer.specs.inner.Sink.{put_line}
-use Rattle.line_buffer.proofs.LineLaws.{lines_one, lines_none, lines_then, lines_kept}
+use Rattle.line_buffer.proofs.LineLaws.{lines_one, lines_none, lines_then}
 use Rattle.line_buffer.proofs.Whole as whole
 use Rattle.findings.specs.declared.Violation.{Violation}
 use Rattle.findings.specs.Findings.{four, flat}
-use Rattle.findings.specs.inner.Sink.{Sink, sink, put1, emit}
+use Rattle.findings.specs.inner.Sink.{Sink, put1, emit}
 
 pub emit_one : (s : Sink) (f : Violation) → emit s (f ∷ []) ≡ put1 s f
 unfolding emit put1
@@ -43,11 +42,6 @@ module _ (s : Sink) (f : Violation) {yes : Bool} where
 pub emit_then : (a b : List Violation) (s₀ : Sink) {s s' : Sink} → s ≡ emit s₀ a → s' ≡ emit s b → s' ≡ emit s₀ (a ++ b)
 unfolding emit
 emit_then a b s₀ p q = lines_then 4 four a b s₀ p q
-
--- the buffer keeps its length
-pub kept : {o : List ℤ} (o₀ : List ℤ) {n : ℕ} (n₀ : ℕ) (fs : List Violation) → sink o n ≡ emit (sink o₀ n₀) fs → length o ≡ length o₀
-unfolding emit
-kept o₀ n₀ fs e = lines_kept 4 four o₀ n₀ fs e
 
 -- ---- a whole run, from count 0
 

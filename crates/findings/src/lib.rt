@@ -61,8 +61,9 @@ impl ViolationKind {
     }
 }
 
-// A violation: the check that reports it, its type's number, the entity that it is of, and its severity. Type and severity are numbers: this is the record of the
-// definition's lists, whose fields are a line's four numbers. Who reports one names a `ViolationKind`.
+// A violation: the check that reports it, its type's number, the entity that it is of, and its severity. Type and severity are numbers: this is the record of
+// the definition's lists, whose fields are a line's four numbers. Who reports one names a `ViolationKind`. That the entity is below 2^63 is asked where one is
+// told: a ghost field would be asked of the definition's lists too.
 #[derive(Clone, Copy, PartialEq, Eq)]
 pub struct Violation {
     pub check: u8,

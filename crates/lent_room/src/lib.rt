@@ -1,5 +1,6 @@
 // Room that is lent: elements are put to it from a place on, as far as it goes, and the place after them is told, or the room's end; or it is a list, which
-// knows how many elements it has.
+// knows how many elements it has. Room and place travel as two, and the answer is the next place: a struct of both would have to tell in each clause whose room
+// it is, as `findings::Findings` does, where `Wrote` says all in one.
 #![tactic(auto)]
 
 ghost use Rattle.std.specs.Prelude.{[], ◌∷◌, ◌≤◌, length};

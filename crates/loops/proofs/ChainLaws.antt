@@ -1,7 +1,5 @@
 -- Laws of chains: how they are filled, and how a loop over a chain passes over the other rows. Assumes nothing.
 use Prim.Native.Nat.{ℕ, suc, ◌+◌, ◌-◌, ◌<◌, ◌≤◌}
-use mir.Syntax.{w64}
-use mir.Val.{Fits}
 use mathlib.Core.Path.{◌≡◌, refl, sym, ap, ◌∙◌}
 use mathlib.Core.Bool.{Bool, true, false}
 use mathlib.Core.List.{List}
@@ -84,6 +82,3 @@ module _ (key : ℕ → ℕ) (m n : ℕ) where
 pub links_next : (key : ℕ → ℕ) (m n : ℕ) (t : List ℕ) (k i : ℕ) → Links key m 0 n t → same key k i ≡ true → i < n → First (same key k) (suc i) n (get_or t i 0)
 unfolding same
 links_next key m n t k i h e l = let q : key i ≡ k = eqb-true (key i) k e in rw (q, add-one) at (h.next i (omega arith) l)
-
-pub fits : (p : ℕ → Bool) (i n j : ℕ) → First p i n j → n ≤ 800 → Fits w64 j
-fits p i n j f l = record { fits = omega (arith, f.high) }

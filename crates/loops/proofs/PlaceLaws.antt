@@ -1,5 +1,5 @@
 -- What a search that found a place says of it, what one that found none says of every place, and searches that agree. Assumes nothing.
-use Prim.Native.Nat.{ℕ, zero, suc, ◌+◌, ◌-◌, ◌<◌, ◌≤◌}
+use Prim.Native.Nat.{ℕ, zero, suc, ◌+◌, ◌-◌, ◌<◌}
 use mathlib.Core.Path.{◌≡◌, refl, ap, ap₂, sym, ◌∙◌}
 use mathlib.Core.Bool.{Bool, true, false, ◌||◌, true≢false}
 use Rattle.std.specs.Prelude.{Option, None, Some}
@@ -7,7 +7,6 @@ use mathlib.Core.Logic.{◌⊎◌, inl, inr, ⊎_elim}
 use native.Mathlib.Omega.{arith}
 use native.Mathlib.Nat.{add-zero, add-suc, eq-or-lt_of_le, le_of_suc-le-suc, not-suc-le-zero}
 use Rattle.loops.specs.Search.{or_else, some_if, first, first_place, any_below}
-use Rattle.loops.proofs.SearchLaws.{any_none}
 
 -- ---- a place that was found
 
@@ -90,11 +89,6 @@ module _ (p : ℕ → Bool) where
       go : (x : Option ℕ) → first_place p n ≡ x → first_place p n ≡ Some k
       go None q = absurd (true≢false (sym e ∙ place_none n q k l))
       go (Some j) q = let f = found_at p n j q in q ∙ ap Some (h j f.0 f.1)
-
-  pub any_less : (n k : ℕ) → any_below p n ≡ false → k ≤ n → any_below p k ≡ false
-  unfolding any_below
-  any_less n zero e l = refl
-  any_less n (suc k) e l = rw (any_less n k e (omega arith), any_none p n k e (omega arith))
 
 -- ---- before the place that was found
 

@@ -79,7 +79,7 @@ fn main(rt: HostRuntime) {
         awaited: b"margins: a sheet is read from standard input, up to the end of input (Ctrl-D)",
         output: b"margins: standard output",
     };
-    // Room for what is printed of them: programs have no heap.
+    // Room for what is printed of 800 lines: programs have no heap.
     let mut out = [0u8; 40800];
     text_program::run(&rt, words, &mut out, print_text);
 }

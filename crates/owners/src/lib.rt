@@ -133,7 +133,8 @@ fn res_place(rows: &ByKind, k: usize) -> usize
     rows.row_count()
 }
 
-// The row that each row belongs to, and the row of each booking's resource. 16-bit places, where the number of rows stands for none.
+// The row that each row belongs to, and the row of each booking's resource. No heap: 16-bit places for at most 800 rows, where the number of rows stands for
+// none. Two arrays, not one of pairs: whoever reads one asks for nothing of the other.
 #[derive(Drop)]
 pub struct RowLinks {
     owners: [u16; 800],
@@ -178,6 +179,7 @@ pub fn links_into(rows: &ByKind, t: &mut RowLinks)
 {
     let cells = rows.as_slice();
     let n = rows::row_count(cells);
+    // No heap: a place for each of at most 800 rows.
     let mut numbers = [n as u16; 800];
     number_rows(cells, &mut numbers);
     t.clear(n);

@@ -7,11 +7,13 @@ use crate::{ByOwner, OwnerLinks, Owners, RowLinks};
 use chains::ChainTable;
 use sheet::{ByKind, KindTable};
 
+// It has no reference to its rows, which are asked to be those that it was filled for; the two as one value are `model::Sheet`, which also says that the rows
+// are accepted. The fields are public: who has the three tables otherwise may put them together.
 #[derive(Drop)]
 pub struct SheetIndex {
-    kinds: KindTable,
-    links: RowLinks,
-    owned: ChainTable<8810>,
+    pub kinds: KindTable,
+    pub links: RowLinks,
+    pub owned: ChainTable<8810>,
 }
 
 impl SheetIndex {

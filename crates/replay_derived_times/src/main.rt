@@ -50,7 +50,8 @@ fn numbers_of(k: usize, d: Derived) -> [i64; 4] {
     }
 }
 
-// The derived duration of row k, where it is a booking of a known activity.
+// The derived duration of row k, where it is a booking of a known activity. `Accepted` is asked in a clause, as `Bookings::new` asks it: these are rows by
+// owner.
 #[tactic(auto, using(owners::proofs::Links::books))]
 fn derived_at(rows: &MarkedRows, bookings: &Bookings<'_>, k: usize) -> Option<Derived>
     requires { Accepted rows.now × (bookings.now.rows.now ≡ rows.now) × (k < row_count rows.now) }

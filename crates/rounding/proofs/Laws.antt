@@ -1,5 +1,5 @@
 -- A float times 2 is exact below 2 ^ 53, and its whole part, plus one, halved, is the float to the nearest whole number. Assumes nothing.
-use Rattle.std.proofs.Common.{◌≡◌, ℕ, zero, suc, ◌+◌, ◌-◌, ◌*◌, ◌/◌, ◌%◌, ◌^◌, ◌<◌, ◌≤◌, Bool, true, false, cond, not, ◌&&◌, ◌||◌, T, eqb, ltb, leb, ℤ, pos, negsuc, sym, refl, ap, ◌∙◌, subst, true≢false, le_of_eq, lt_of_lt_of_le, le_of_suc-le-suc, mul-le-mul_right, zero-lt-suc, mul_assoc, mul_comm, div-lt_iff_lt-mul, lt_of_mul-lt-mul_right, mul-lt-mul_of_pos_right, mul-pos, one-mul, pow-suc, lt_of_not-le, le-div_iff_mul-le, zero-mul, mul-one, not-le_of_lt, mul_left_comm, arith, lit≤, eqb→eq, ltb→lt, lt→ltb, leb→le, pow_pos, pow_mono, pow-add, w64, Fits, ltb-false, ltb-true, le-ltb, lt-ltb}
+use Rattle.std.proofs.Common.{◌≡◌, ℕ, zero, suc, ◌+◌, ◌-◌, ◌*◌, ◌/◌, ◌%◌, ◌^◌, ◌<◌, ◌≤◌, Bool, true, false, not, ◌&&◌, ◌||◌, T, eqb, ltb, leb, ℤ, pos, negsuc, sym, refl, ap, ◌∙◌, subst, true≢false, le_of_eq, lt_of_lt_of_le, le_of_suc-le-suc, mul-le-mul_right, zero-lt-suc, mul_assoc, mul_comm, div-lt_iff_lt-mul, lt_of_mul-lt-mul_right, mul-lt-mul_of_pos_right, mul-pos, one-mul, pow-suc, lt_of_not-le, le-div_iff_mul-le, zero-mul, mul-one, not-le_of_lt, mul_left_comm, arith, lit≤, eqb→eq, ltb→lt, lt→ltb, leb→le, pow_pos, pow_mono, pow-add, w64, Fits, ltb-false, ltb-true, le-ltb, lt-ltb}
 use native.Mathlib.Nat.{add-div_right, div-div-eq-div-mul, div-eq_of_lt, eq_of_mul-eq-mul_right, zero-div}
 use lib.Pow.{pow-lt}
 use lib.Ieee.{Float, nan, inf, fin, Format, binary64, low, prec, emax, up, down, round, mul, div, of_int, lt, le, fits, to_unsigned, of_bits, is_nan, nan_bits}
@@ -145,15 +145,6 @@ limit_within n h = rw (lt-ltb n (2 ^ 53) h)
 pub limit_beyond : (n : ℕ) → 2 ^ 53 ≤ n → too_large ≡ limited (Some n)
 unfolding limited
 limit_beyond n h = rw (le-ltb n (2 ^ 53) h)
-
--- what a limited time tells of the time
-pub limited_below : (n m : ℕ) → Ok m ≡ limited (Some n) → (m ≡ n) × (n < 2 ^ 53)
-unfolding limited
-limited_below n m e = go (ltb n (2 ^ 53)) (ltb-true n (2 ^ 53)) e
-  where
-    go : (b : Bool) → (b ≡ true → n < 2 ^ 53) → Ok m ≡ cond b (Ok n) too_large → (m ≡ n) × (n < 2 ^ 53)
-    go true k h = (cc, k refl)
-    go false k h = absurd cc
 
 -- ---- what `rounded` is, by the tests of the code
 

@@ -23,7 +23,8 @@ fn number_of(s: &[u8]) -> u64 {
     rows::nat(text_fields::read_number(s).unwrap_or(0))
 }
 
-// What is timed.
+// What is timed. An enum, not a closure: the step is chosen by a number of the input, and a closure chosen so would be a dyn value or a function pointer that
+// is handed out.
 #[derive(Clone, Copy)]
 enum Part {
     Assignments,
