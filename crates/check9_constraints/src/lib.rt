@@ -166,6 +166,7 @@ fn place_after(rows: &ByKind, k: usize, place: u64) -> u64
     place
 }
 
+// The findings of all rows. Counted beside the for: the definition has a place for each row, the number of constraints above it, also for a row that is none.
 pub fn check_constraints(rows: &ByKind, found: &mut Findings)
     ensures { so_far found.new ≡ tell (so_far found.old) (check_constraints clock (sheet rows.now)) }
 {
