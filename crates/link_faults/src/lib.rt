@@ -45,7 +45,7 @@ fn is_unowned(rows: &OwnerLinks, k: usize) -> bool
     }
 }
 
-// Refusal 4 of row k. It and refusal 5 are two lines with a test of its own each, which is the contract: handed the test, one function of both would be these again.
+// Refusal 4 of row k. As refusal 5 below, two lines with a test of its own, which is the contract: handed the test, one function of both would be these lines again.
 #[tactic(auto, unfolding(sheet::specs::Refusals::owner_fault))]
 pub fn owner_fault(rows: &OwnerLinks, k: usize) -> Verdict
     requires { k < row_count rows.now }

@@ -25,8 +25,8 @@ fn find_requirement(rows: &ByKind, activity: u64, m: u64) -> Option<usize>
     rows.named(Kind::Requirement, activity).nth(m as usize)
 }
 
-// The row of constraint place m at place m. The table is lent: one that is returned stands twice in the caller's frame. Counted beside the for: the invariant has
-// both, the row and how many constraints lie above it.
+// The row of constraint place m at place m. The table is lent: one that is returned stands twice in the caller's frame. Counted beside the for: the invariant
+// has both, the row and how many constraints lie above it.
 #[tactic(auto, using(crate::proofs::Tables::numbering_low))]
 fn number_rows(rows: &[i64], t: &mut [u16; 800])
     requires { (row_count rows.now ≤ 800) × (t.old ≡ replicate 800 (row_count rows.now)) }
