@@ -1,9 +1,11 @@
 -- What a constraint's row gives, by its kind; how many constraints stand above a row. Assumes nothing.
 use Prim.Native.Nat.{ℕ, ◌+◌, ◌<◌, ◌≤◌}
 use mathlib.Core.Path.{◌≡◌, refl, ap, sym, ◌∙◌}
-use mathlib.Core.Bool.{Bool, true, false, ◌||◌, true≢false}
+use mathlib.Core.Bool.{Bool, true, false, cond, ◌&&◌, ◌||◌, true≢false}
 use mathlib.Core.List.{List, [], ◌++◌, append-nil}
-use Rattle.std.specs.Prelude.{Option, None, Some}
+use Rattle.std.specs.Prelude.{Option, None, Some, leb, ◌⊎◌}
+use Rattle.std.proofs.Common.{inl, inr}
+use Rattle.std.proofs.lemmas.Bool.Decides.{leb_tells}
 use native.Mathlib.Omega.{arith}
 use native.Mathlib.Decide.{ℕ_discrete}
 use lib.IntN.{ℤ, pos}
@@ -17,6 +19,7 @@ use Rattle.rows.specs.Cells.{row_count, num, is}
 use Rattle.findings.specs.declared.Violation.{Violation}
 use Rattle.findings.specs.inner.Told.{Told, tell}
 use Rattle.findings.proofs.Reporting.{tell_none, tell_append}
+use Rattle.sheet.specs.Places.{is_constraint}
 use Rattle.model.specs.Sheet.{sheet}
 use Rattle.model.specs.Constraint.{constraint_at}
 use Rattle.model.specs.Schedule.{time_window_violation}
@@ -50,19 +53,19 @@ module _ (rows : List ℤ) (k : ℕ) where
 
   -- ---- how many
 
-  pub count_low : num rows k 0 < 17 → length (constraint_at (sheet rows) k) ≡ 0
+  count_low : num rows k 0 < 17 → length (constraint_at (sheet rows) k) ≡ 0
   unfolding constraint_at
   count_low l =
       rw
       (ne_eqb (num rows k 0) 17 (λ z. omega arith), ne_eqb (num rows k 0) 18 (λ z. omega arith), ne_eqb (num rows k 0) 19 (λ z. omega arith), ne_eqb (num rows k 0) 20 (λ z. omega arith), ne_eqb (num rows k 0) 21 (λ z. omega arith))
 
-  pub count_high : 21 < num rows k 0 → length (constraint_at (sheet rows) k) ≡ 0
+  count_high : 21 < num rows k 0 → length (constraint_at (sheet rows) k) ≡ 0
   unfolding constraint_at
   count_high l =
       rw
       (ne_eqb (num rows k 0) 17 (λ z. omega arith), ne_eqb (num rows k 0) 18 (λ z. omega arith), ne_eqb (num rows k 0) 19 (λ z. omega arith), ne_eqb (num rows k 0) 20 (λ z. omega arith), ne_eqb (num rows k 0) 21 (λ z. omega arith))
 
-  pub count_one : 17 ≤ num rows k 0 → num rows k 0 ≤ 21 → length (constraint_at (sheet rows) k) ≡ 1
+  count_one : 17 ≤ num rows k 0 → num rows k 0 ≤ 21 → length (constraint_at (sheet rows) k) ≡ 1
   unfolding constraint_at
   count_one l h =
       go (ℕ_discrete (num rows k 0) 17) (ℕ_discrete (num rows k 0) 18) (ℕ_discrete (num rows k 0) 19) (ℕ_discrete (num rows k 0) 20)
@@ -76,6 +79,24 @@ module _ (rows : List ℤ) (k : ℕ) where
       go (no d) (no f) (no g) (yes e) w = rw e
       go (no d) (no f) (no g) (no i) (yes e) = rw e
       go (no d) (no f) (no g) (no i) (no j) = absurd (omega arith)
+
+  count_is : length (constraint_at (sheet rows) k) ≡ cond (is_constraint rows k) 1 0
+  unfolding is_constraint
+  count_is = go (leb_tells 17 (num rows k 0)) (leb_tells (num rows k 0) 21)
+    where
+      go : ((leb 17 (num rows k 0) ≡ true) × (17 ≤ num rows k 0)) ⊎ ((leb 17 (num rows k 0) ≡ false) × (num rows k 0 < 17))
+          → ((leb (num rows k 0) 21 ≡ true) × (num rows k 0 ≤ 21)) ⊎ ((leb (num rows k 0) 21 ≡ false) × (21 < num rows k 0))
+          → length (constraint_at (sheet rows) k) ≡ cond (leb 17 (num rows k 0) && leb (num rows k 0) 21) 1 0
+      go (inl (e, l)) (inl (f, h)) = rw (e, f) (count_one l h)
+      go (inl (e, l)) (inr (f, h)) = rw (e, f) (count_high h)
+      go (inr (e, l)) z = rw e (count_low l)
+
+  -- a row that is a constraint is one more, another row none
+  pub count_one_more : {b : Bool} → b ≡ is_constraint rows k → b ≡ true → length (constraint_at (sheet rows) k) ≡ 1
+  count_one_more e f = count_is ∙ ap (λ x. cond x 1 0) (sym e ∙ f)
+
+  pub count_no_more : {b : Bool} → b ≡ is_constraint rows k → b ≡ false → length (constraint_at (sheet rows) k) ≡ 0
+  count_no_more e f = count_is ∙ ap (λ x. cond x 1 0) (sym e ∙ f)
 
   count_most : length (constraint_at (sheet rows) k) ≤ 1
   count_most = by_constraint rows k (λ l. length l ≤ 1) (omega arith) (λ e. omega arith) (λ e. omega arith) (λ e. omega arith) (λ e. omega arith) (λ e. omega arith)

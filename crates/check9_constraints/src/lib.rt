@@ -156,19 +156,18 @@ fn check_constraint(rows: &ByKind, k: usize, place: u64, found: &mut Findings)
 }
 
 // The number of constraints above the row after row k.
-#[tactic(auto, using(crate::proofs::ConstraintRows::count_low, crate::proofs::ConstraintRows::count_high, crate::proofs::ConstraintRows::count_one))]
+#[tactic(auto, using(crate::proofs::ConstraintRows::count_one_more, crate::proofs::ConstraintRows::count_no_more))]
 fn place_after(rows: &ByKind, k: usize, place: u64) -> u64
     requires { place < 9223372036854775808 }
     ensures { result ≡ place + length (constraint_at (sheet rows.now) k) }
 {
-    // The kinds of constraints follow one another: two comparisons tell all five, which a match would have to list.
-    let kind = rows.num(k, 0);
-    if kind < Kind::Precedence.number() || Kind::Synchronize.number() < kind {
-        return place;
+    if sheet::is_constraint(rows.as_slice(), k) {
+        return place + 1;
     }
-    place + 1
+    place
 }
 
+// The findings of all rows. Counted beside the for: the definition has a place for each row, the number of constraints above it, also for a row that is none.
 pub fn check_constraints(rows: &ByKind, found: &mut Findings)
     ensures { so_far found.new ≡ tell (so_far found.old) (check_constraints clock (sheet rows.now)) }
 {

@@ -25,6 +25,7 @@ fn has_bad_cell(rows: &[i64], k: usize) -> bool
     (0..10).any(|c| is_bad_cell(rows, k, c))
 }
 
+// As `is_none` of sheet's `Rows`, of rows that have no index yet.
 fn is_none_at(rows: &[i64], k: usize, c: usize) -> bool
     ensures { result ≡ is_none (cell rows.now k c) }
 {

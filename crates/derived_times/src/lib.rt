@@ -41,7 +41,8 @@ const REFUSED: u64 = 9007199254740992;
 
 // ---- timings
 
-// The earlier of two places, where there is one. Not Option's own `min`: None is below every place there, and here it is no place.
+// The earlier of two places, where there is one. Not Option's own `min`: None is below every place there, and here it is no place. The same line of the library
+// stands in freebusy_components (`lesser`): a crate below both layers for one line would be more.
 fn earlier(x: Option<usize>, y: Option<usize>) -> Option<usize>
     ensures { result ≡ earlier_of x y }
 {
@@ -93,7 +94,7 @@ fn duration_at(rows: &[i64], k: usize, c: usize) -> ActivityDuration
     }
 }
 
-// The timing of row i, of kind 9 or 10.
+// The timing of row i, a speed or a fixed timing.
 #[tactic(auto, unfolding(crate::specs::inner::Rows::timing_of))]
 fn timing_at(rows: &[i64], i: usize) -> ResourceTiming
     ensures { result ≡ timing_of rows.now i }
@@ -231,6 +232,7 @@ impl<'a> Bookings<'a> {
 }
 
 // What each booking of a known activity needs besides its own setup, into a table that is lent: a number for each of at most 800 rows, since there is no heap.
+// A loop of its own: `mark_into` of pieces puts at each row what a test says of it, and this is a number.
 #[tactic(auto, using(loops::proofs::StoreLaws::filled_start, crate::proofs::Parts::times_next, crate::proofs::Parts::times_end))]
 pub fn needs_into(rows: &MarkedRows, need: &mut [u64; 800])
     requires { Accepted rows.now }
@@ -253,7 +255,8 @@ fn is_too_large(rows: &[i64], need: &[u64; 800], k: usize) -> bool
     REFUSED <= need[k]
 }
 
-// The first booking of a known activity whose derived time is not finite, or 2^53 or more.
+// The first booking of a known activity whose derived time is not finite, or 2^53 or more. A loop of its own: `first_fault` of validation is handed the verdict on
+// each row, which would be a function more here, as long as this loop.
 #[tactic(auto, using(loops::proofs::SearchLaws::first_miss, crate::proofs::Refusing::refused_at, crate::proofs::Refusing::fault_some, crate::proofs::Refusing::fault_none, crate::proofs::Refusing::not_refused))]
 pub fn refused(rows: &[i64], need: &[u64; 800]) -> Verdict
     requires { Times rows.now need.now }

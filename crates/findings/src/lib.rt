@@ -7,20 +7,20 @@ ghost use Rattle.findings.specs.Kinds.{number_of, severity_of, violation_of};
 ghost use Rattle.findings.specs.inner.Sink.{sink, put1, emit};
 ghost use Rattle.findings.specs.inner.Told.{so_far, tell};
 
-// The types of violations, by the source's names.
+// The types of violations, by the source's names, each with its number.
 #[derive(Clone, Copy, PartialEq, Eq)]
 pub enum ViolationKind {
-    DeadlineMiss,
-    CapacityExceeded,
-    PrecedenceViolation,
-    ResourceUnavailable,
-    SkillMismatch,
-    RequirementUnfilled,
-    TimeWindowViolation,
-    SynchronizeViolation,
-    UnknownActivity,
-    DurationTooShort,
-    EarlyStart,
+    DeadlineMiss = 1,
+    CapacityExceeded = 2,
+    PrecedenceViolation = 3,
+    ResourceUnavailable = 4,
+    SkillMismatch = 5,
+    RequirementUnfilled = 6,
+    TimeWindowViolation = 7,
+    SynchronizeViolation = 8,
+    UnknownActivity = 9,
+    DurationTooShort = 10,
+    EarlyStart = 11,
 }
 
 impl ViolationKind {
@@ -28,19 +28,7 @@ impl ViolationKind {
     pub fn number(self) -> u8
         ensures { result ≡ number_of self }
     {
-        match self {
-            ViolationKind::DeadlineMiss => 1,
-            ViolationKind::CapacityExceeded => 2,
-            ViolationKind::PrecedenceViolation => 3,
-            ViolationKind::ResourceUnavailable => 4,
-            ViolationKind::SkillMismatch => 5,
-            ViolationKind::RequirementUnfilled => 6,
-            ViolationKind::TimeWindowViolation => 7,
-            ViolationKind::SynchronizeViolation => 8,
-            ViolationKind::UnknownActivity => 9,
-            ViolationKind::DurationTooShort => 10,
-            ViolationKind::EarlyStart => 11,
-        }
+        self as u8
     }
 
     pub fn severity(self) -> u8

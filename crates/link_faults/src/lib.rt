@@ -30,23 +30,22 @@ fn is_unowned(rows: &OwnerLinks, k: usize) -> bool
     ensures { result ≡ unowned rows.now k }
 {
     let kind = rows.num(k, 0);
-    let n = rows.row_count();
-    let o = rows.owner_of(k);
-    if n <= o {
-        // Bookings and time-only spans, the last two kinds, may name what is not in the sheet.
+    let Some(o) = rows.find_owner(k) else {
+        // Bookings and time-only spans, the last two kinds, may name what is not in the sheet. By the number: `owner_kind` asks for it, and one comparison tells the
+        // two, which a match would list.
         return kind < Kind::Booking.number() && owners::owner_kind(kind).is_some();
-    }
+    };
     let Some(owner) = owners::owner_kind(kind) else {
         return false;
     };
     match owner {
-        Owner::RequirementRow => n <= rows.owner_of(o),
+        Owner::RequirementRow => rows.find_owner(o).is_none(),
         Owner::ConstraintRow => !has_members(rows, o),
         _ => false,
     }
 }
 
-// Refusal 4 of row k.
+// Refusal 4 of row k. As refusal 5 below, two lines with a test of its own, which is the contract: handed the test, one function of both would be these lines again.
 #[tactic(auto, unfolding(sheet::specs::Refusals::owner_fault))]
 pub fn owner_fault(rows: &OwnerLinks, k: usize) -> Verdict
     requires { k < row_count rows.now }

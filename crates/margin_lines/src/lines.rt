@@ -2,11 +2,11 @@
 ghost use Rattle.std.specs.Prelude.{◌≡◌, ◌<◌, [], ◌∷◌};
 ghost use Rattle.margin_lines.specs.inner.Sink.{sink, emit_margins};
 
-// What a margin is of.
+// What a margin is of, each with its number.
 #[derive(Clone, Copy, PartialEq, Eq)]
 pub enum MarginKind {
-    Task,
-    Resource,
+    Task = 1,
+    Resource = 2,
 }
 
 impl MarginKind {
@@ -16,10 +16,7 @@ impl MarginKind {
     pub fn number(self) -> u8
         ensures { result ≡ number_of self }
     {
-        match self {
-            MarginKind::Task => 1,
-            MarginKind::Resource => 2,
-        }
+        self as u8
     }
 }
 

@@ -8,10 +8,9 @@ use Rattle.std.specs.Prelude.{Option, None, Some}
 use Rattle.std.specs.Option.{is_some}
 use native.Mathlib.Omega.{arith}
 use native.Mathlib.Decide.{dec_lt}
-use lib.Dec.{leb}
 use lib.IntN.{ℤ}
 use lib.ListN.{get_or-eq_default}
-use borrow.Author.Tests.{le-leb, lt-leb, not-false}
+use borrow.Author.Tests.{not-false}
 use Rattle.loops.specs.Search.{any_below}
 use Rattle.loops.proofs.BoolLaws.{and_left, and_right}
 use Rattle.loops.proofs.SearchLaws.{any_none}
@@ -24,13 +23,11 @@ use Rattle.rows.specs.Cells.{row_count, num, is}
 use Rattle.rows.specs.Table.{columns, class_of}
 use Rattle.rows.proofs.KindNumbers.{kind_there, kind_number_is, kind_past}
 use Rattle.sheet.specs.Places.{named, activity_place, nth_place}
-use Rattle.sheet.specs.inner.Index.{or_end}
 use Rattle.sheet.specs.Refusals.{is_absent, has_members, lacks, absent_at, unowned}
 use Rattle.sheet.proofs.Lookups.{is_num, nth_at}
 use Rattle.owners.specs.declared.Owner.{Owner}
 use Rattle.owners.specs.declared.Owner.TheVariants.{TaskRow, ActivityRow, RequirementRow, ResourceRow, ConstraintRow}
-use Rattle.owners.specs.inner.Owners.{owner_kind, owner_of_kind, owner_of, own_place}
-use Rattle.owners.proofs.Tables.{own_at, owner_within}
+use Rattle.owners.specs.inner.Owners.{owner_kind, owner_of_kind, owner_of, owner_place}
 
 -- ---- the columns that name an owner
 
@@ -74,22 +71,12 @@ any_ten : (p : ℕ → Bool) → p 0 ≡ false → ((c : ℕ) → c < 7 → p (s
 unfolding any_below
 any_ten p a h = rw (a, h 0 (omega arith), h 1 (omega arith), h 2 (omega arith), h 3 (omega arith), h 4 (omega arith), h 5 (omega arith), h 6 (omega arith)) (simp or-false)
 
--- ---- a place and the number it stands for
-
-pub end_absent : (rows : List ℤ) (y : Option ℕ) → ((j : ℕ) → y ≡ Some j → j < row_count rows) → leb (row_count rows) (or_end rows y) ≡ is_absent y
-unfolding or_end
-end_absent rows None h = le-leb (row_count rows) (row_count rows) (omega arith)
-end_absent rows (Some j) h = lt-leb (row_count rows) j (h j refl)
-
-pub end_none : (rows : List ℤ) (y : Option ℕ) → ((j : ℕ) → y ≡ Some j → j < row_count rows) → row_count rows ≤ or_end rows y → y ≡ None
-unfolding or_end
-end_none rows None h l = refl
-end_none rows (Some j) h l = absurd (omega (arith, h j refl))
-
-pub end_some : (rows : List ℤ) (y : Option ℕ) (o : ℕ) → o ≡ or_end rows y → o < row_count rows → y ≡ Some o
-unfolding or_end
-end_some rows None o e l = absurd (omega arith)
-end_some rows (Some j) o e l = ap Some (sym e)
+-- a lookup that found nothing
+absent_not : (u : Option ℕ) (b : Bool) → is_some u ≡ not b → b ≡ is_absent u
+absent_not None true h = refl
+absent_not None false h = absurd (false≢true h)
+absent_not (Some j) true h = absurd (false≢true (sym h))
+absent_not (Some j) false h = refl
 
 module _ (rows : List ℤ) (k : ℕ) where
   -- only columns 1 and 2 name owners
@@ -155,17 +142,12 @@ module _ (rows : List ℤ) (k : ℕ) where
       pub ownerless : x ≡ None → false ≡ unowned rows k
       ownerless w = sym (by_owner None w)
 
-      -- ---- what the place of the owner says
+      -- ---- what the lookup of the owner says
 
-      module _ (o n : ℕ) (p : o ≡ own_place rows k) (z : n ≡ row_count rows) where
-        place_is : (y : Option Owner) → x ≡ y → o ≡ or_end rows (owner_of rows y k)
-        place_is y w = p ∙ sym (own_at rows k e q y w)
-
-        gone_is : (y : Option Owner) → x ≡ y → n ≤ o → owner_of rows y k ≡ None
-        gone_is y w m = end_none rows (owner_of rows y k) (owner_within rows y k) (omega (arith, place_is y w))
-
-        there_is : (y : Option Owner) → x ≡ y → o < n → owner_of rows y k ≡ Some o
-        there_is y w m = end_some rows (owner_of rows y k) o (place_is y w) (omega arith)
+      module _ {v : Option ℕ} (p : v ≡ owner_place rows k) where
+        place_is : (y : Option Owner) → x ≡ y → owner_of rows y k ≡ v
+        unfolding owner_place
+        place_is y w = ap (λ z. owner_of rows z k) (sym w ∙ q ∙ ap owner_kind e) ∙ sym p
 
         absent_gone : (y : Owner) → owner_of rows (Some y) k ≡ None → absent (Some y) ≡ true
         unfolding has_members
@@ -176,30 +158,30 @@ module _ (rows : List ℤ) (k : ℕ) where
         absent_gone ConstraintRow g = ap (λ y. not (has_members rows y)) g
 
         -- it has none
-        pub gone : (y : Owner) → x ≡ Some y → n ≤ o → true ≡ unowned rows k
-        gone y w m = sym (by_owner (Some y) w ∙ absent_gone y (gone_is (Some y) w m))
+        pub gone : (y : Owner) → x ≡ Some y → v ≡ None → true ≡ unowned rows k
+        gone y w m = sym (by_owner (Some y) w ∙ absent_gone y (place_is (Some y) w ∙ m))
 
         -- the requirement is there: is its activity?
-        pub of_requirement : (r : ℕ) → x ≡ Some RequirementRow → o < n → r ≡ own_place rows o → leb n r ≡ unowned rows k
-        unfolding owner_of named
-        of_requirement r w m s =
-            let t : nth_place (named rows 5 (num rows k 1)) (num rows k 2) (row_count rows) ≡ Some o = there_is (Some RequirementRow) w m in
+        pub of_requirement : (o : ℕ) {u : Option ℕ} {b : Bool} → x ≡ Some RequirementRow → v ≡ Some o → u ≡ owner_place rows o → is_some u ≡ not b → b ≡ unowned rows k
+        unfolding owner_place owner_of owner_kind named
+        of_requirement o {u = u} w m s h =
+            let t : nth_place (named rows 5 (num rows k 1)) (num rows k 2) (row_count rows) ≡ Some o = place_is (Some RequirementRow) w ∙ m in
             let f = nth_at (named rows 5 (num rows k 1)) (num rows k 2) (row_count rows) o t in
             let a : num rows o 0 ≡ 5 = is_num rows o 0 5 (and_left (is rows o 0 5) (is rows o 1 (num rows k 1)) f.1) in
-            let b : num rows o 1 ≡ num rows k 1 = is_num rows o 1 (num rows k 1) (and_right (is rows o 0 5) (is rows o 1 (num rows k 1)) f.1) in
-            let c : r ≡ or_end rows (activity_place rows (num rows k 1)) = s ∙ sym (own_at rows o {kind = 5} {x = Some ActivityRow} (sym a) (unfold owner_kind in refl) (Some ActivityRow) refl) ∙ ap (λ y. or_end rows (activity_place rows y)) b in
-            rw (z, c, end_absent rows (activity_place rows (num rows k 1)) (owner_within rows (Some ActivityRow) k))
-            (sym (by_owner (Some RequirementRow) w ∙ ap (λ y. is_absent (activity_place rows (num rows k 1)) || is_absent y) (there_is (Some RequirementRow) w m) ∙ or-false (is_absent (activity_place rows (num rows k 1)))))
+            let d : num rows o 1 ≡ num rows k 1 = is_num rows o 1 (num rows k 1) (and_right (is rows o 0 5) (is rows o 1 (num rows k 1)) f.1) in
+            let c : u ≡ activity_place rows (num rows k 1) = s ∙ ap (λ z. owner_of rows (owner_kind z) o) a ∙ ap (activity_place rows) d in
+            absent_not _ _ h ∙ ap is_absent c ∙ sym (or-false (is_absent (activity_place rows (num rows k 1))))
+            ∙ sym (by_owner (Some RequirementRow) w ∙ ap (λ y. is_absent (activity_place rows (num rows k 1)) || is_absent y) (place_is (Some RequirementRow) w ∙ m))
 
-        pub of_constraint : {r : Bool} → x ≡ Some ConstraintRow → o < n → r ≡ has_members rows (Some o) → not r ≡ unowned rows k
-        of_constraint w m s = ap not s ∙ sym (by_owner (Some ConstraintRow) w ∙ ap (λ y. not (has_members rows y)) (there_is (Some ConstraintRow) w m))
+        pub of_constraint : (o : ℕ) {r : Bool} → x ≡ Some ConstraintRow → v ≡ Some o → r ≡ has_members rows (Some o) → not r ≡ unowned rows k
+        of_constraint o w m s = ap not s ∙ sym (by_owner (Some ConstraintRow) w ∙ ap (λ y. not (has_members rows y)) (place_is (Some ConstraintRow) w ∙ m))
 
-        pub found : (y : Owner) → x ≡ Some y → (y ≡ RequirementRow → ⊥) → (y ≡ ConstraintRow → ⊥) → o < n → false ≡ unowned rows k
-        found TaskRow w a b m = sym (by_owner (Some TaskRow) w ∙ ap is_absent (there_is (Some TaskRow) w m))
-        found ActivityRow w a b m = sym (by_owner (Some ActivityRow) w ∙ ap is_absent (there_is (Some ActivityRow) w m))
-        found ResourceRow w a b m = sym (by_owner (Some ResourceRow) w ∙ ap is_absent (there_is (Some ResourceRow) w m))
-        found RequirementRow w a b m = absurd (a refl)
-        found ConstraintRow w a b m = absurd (b refl)
+        pub found : (y : Owner) (o : ℕ) → x ≡ Some y → (y ≡ RequirementRow → ⊥) → (y ≡ ConstraintRow → ⊥) → v ≡ Some o → false ≡ unowned rows k
+        found TaskRow o w a b m = sym (by_owner (Some TaskRow) w ∙ ap is_absent (place_is (Some TaskRow) w ∙ m))
+        found ActivityRow o w a b m = sym (by_owner (Some ActivityRow) w ∙ ap is_absent (place_is (Some ActivityRow) w ∙ m))
+        found ResourceRow o w a b m = sym (by_owner (Some ResourceRow) w ∙ ap is_absent (place_is (Some ResourceRow) w ∙ m))
+        found RequirementRow o w a b m = absurd (a refl)
+        found ConstraintRow o w a b m = absurd (b refl)
 
     abbrev of_activity : Owner → Bool
     of_activity ActivityRow = true
@@ -230,18 +212,18 @@ module _ (rows : List ℤ) (k : ℕ) where
           go (yes h) = booked h
           go (no h) = ownerless q (omega arith) w
 
-      module _ (o n : ℕ) (p : o ≡ own_place rows k) (z : n ≡ row_count rows) where
+      module _ {v : Option ℕ} (p : v ≡ owner_place rows k) where
         -- what belongs to something that is not there
-        pub lost : kind ≤ 22 → n ≤ o → is_some x ≡ unowned rows k
+        pub lost : kind ≤ 22 → v ≡ None → is_some x ≡ unowned rows k
         lost l m = go x refl
           where
             go : (y : Option Owner) → x ≡ y → is_some y ≡ unowned rows k
             go None w = ownerless q l w
-            go (Some y) w = gone q l o n p z y w m
+            go (Some y) w = gone q l p y w m
 
-        pub standing : (y : Owner) → x ≡ Some y → (y ≡ RequirementRow → ⊥) → (y ≡ ConstraintRow → ⊥) → o < n → false ≡ unowned rows k
-        standing y w a b m = go (dec_lt 22 kind)
+        pub standing : (y : Owner) (o : ℕ) → x ≡ Some y → (y ≡ RequirementRow → ⊥) → (y ≡ ConstraintRow → ⊥) → v ≡ Some o → false ≡ unowned rows k
+        standing y o w a b m = go (dec_lt 22 kind)
           where
             go : Dec (22 < kind) → false ≡ unowned rows k
             go (yes h) = booked h
-            go (no h) = found q (omega arith) o n p z y w a b m
+            go (no h) = found q (omega arith) p y o w a b m

@@ -42,6 +42,10 @@ owner_within rows (Some ResourceRow) k j e = (placed rows 11 (num rows k 1) j e)
 owner_within rows (Some ConstraintRow) k j e = (nth_at (is_constraint rows) (num rows k 1) (row_count rows) j e).0
 owner_within rows None k j e = absurd (none_not_some e)
 
+pub found_within : (rows : List ℤ) (k o : ℕ) {v : Option ℕ} → v ≡ owner_place rows k → v ≡ Some o → o < row_count rows
+unfolding owner_place
+found_within rows k o e f = owner_within rows (owner_kind (num rows k 0)) k o (sym e ∙ f)
+
 pub own_below : (rows : List ℤ) (k : ℕ) → own_place rows k ≤ row_count rows
 unfolding own_place owner_place
 own_below rows k = below rows (owner_place rows k) (owner_within rows (owner_kind (num rows k 0)) k)

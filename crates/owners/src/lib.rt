@@ -4,7 +4,7 @@
 
 ghost use Rattle.std.specs.Prelude.{Some, ◌≡◌, ◌+◌, ◌*◌, ◌%◌, ◌<◌, ◌≤◌, set, replicate};
 ghost use Rattle.rows.specs.Cells.{row_count, num};
-ghost use Rattle.sheet.specs.Places.{requirement_place, is_constraint, constraint_place};
+ghost use Rattle.sheet.specs.Places.{requirement_place, constraint_place};
 ghost use Rattle.owners.specs.inner.Owners.{owner_kind, owner_place, own_place, res_place, owned_key, Numbered, Linked, Owned};
 
 pub mod by_owner;
@@ -25,15 +25,8 @@ fn find_requirement(rows: &ByKind, activity: u64, m: u64) -> Option<usize>
     rows.named(Kind::Requirement, activity).nth(m as usize)
 }
 
-#[tactic(auto, unfolding(sheet::specs::Places::is_constraint))]
-fn is_constraint(rows: &[i64], k: usize) -> bool
-    ensures { result ≡ is_constraint rows.now k }
-{
-    let constraints = Kind::Precedence.number()..=Kind::Synchronize.number();
-    constraints.contains(&rows::num_at(rows, k, 0))
-}
-
-// The row of constraint place m at place m. The table is lent: one that is returned stands twice in the caller's frame.
+// The row of constraint place m at place m. The table is lent: one that is returned stands twice in the caller's frame. Counted beside the for: the invariant
+// has both, the row and how many constraints lie above it.
 #[tactic(auto, using(crate::proofs::Tables::numbering_low))]
 fn number_rows(rows: &[i64], t: &mut [u16; 800])
     requires { (row_count rows.now ≤ 800) × (t.old ≡ replicate 800 (row_count rows.now)) }
@@ -42,7 +35,7 @@ fn number_rows(rows: &[i64], t: &mut [u16; 800])
     let n = rows::row_count(rows);
     let mut next = 0;
     for k in 0..n {
-        if is_constraint(rows, k) {
+        if sheet::is_constraint(rows, k) {
             t[next] = k as u16;
             next += 1;
         }
@@ -122,6 +115,7 @@ fn own_place(rows: &ByKind, numbers: &[u16; 800], k: usize) -> usize
     sheet::or_end(rows.as_slice(), owner_place(rows, numbers, k))
 }
 
+// The row of the resource of row k, a booking: a number too, the number of rows for none and for other rows, as the table holds it.
 #[tactic(auto, unfolding(crate::specs::inner::Owners::res_place))]
 fn res_place(rows: &ByKind, k: usize) -> usize
     ensures { result ≡ res_place rows.now k }

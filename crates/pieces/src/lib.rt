@@ -224,7 +224,7 @@ pub fn held_into(rows: &ByKind, owners: &Owners, held: &mut [bool; 800])
     }
 }
 
-// Whether booking k is held, by the marks.
+// Whether booking k is held, by the marks. Of rows as a slice; `HeldMarks::is_held` is the same of rows that carry their marks.
 #[tactic(auto, using(crate::proofs::Marks::mark_is))]
 pub fn is_marked(rows: &[i64], held: &[bool; 800], k: usize) -> bool
     requires { Held rows.now held.now × (k < row_count rows.now) }

@@ -209,7 +209,7 @@ pub fn has_width(kind: u64, n: usize) -> bool
     n == columns_of(kind).len()
 }
 
-// Whether a number stands for none.
+// Whether a number stands for none. No Option: a cell is a number, by the C interface, and this one lies in the range of no column behind the kind.
 #[tactic(auto, unfolding(crate::specs::Ranges::is_none, crate::specs::Ranges::between))]
 pub fn is_none(x: i64) -> bool
     ensures { result ≡ is_none x }
@@ -266,7 +266,7 @@ pub fn row_count(rows: &[i64]) -> usize
     rows.len() / 10
 }
 
-// Column c of row k, 0 past the end. Whole rows come first: where several cells of one are read, the compiler asks that once.
+// Column c of row k, 0 past the end as the definition's `cell`. Whole rows come first: where several cells of one are read, the compiler asks that once.
 #[tactic(auto, unfolding(crate::specs::Cells::cell))]
 pub fn cell_at(rows: &[i64], k: usize, c: usize) -> i64
     ensures { result ≡ cell rows.now k c }

@@ -148,6 +148,7 @@ pub trait KindIndex: Rows {
         NamedChain::new(self.as_slice(), self.kinds(), kind, id).find_first()
     }
 
+    // The source's lookups by id. Two of them answer the enum that the project's paper asks for (docs/DECISIONS.md, 26).
     fn find_task(&self, id: u64) -> Option<usize>
         ensures place { result ≡ task_place (Self.rows self.now) id }
         ensures known { Self.known (Self.rows self.now) }

@@ -3,6 +3,7 @@
 
 ghost use Rattle.std.specs.Prelude.{◌≡◌, ◌<◌, ◌≤◌, get_or, set, replicate};
 ghost use Rattle.rows.specs.Cells.{row_count};
+ghost use Rattle.sheet.specs.Places.{is_constraint};
 ghost use Rattle.sheet.specs.inner.Found.{found_of};
 ghost use Rattle.sheet.specs.inner.Kept.{IsRow};
 ghost use Rattle.sheet.specs.inner.Index.{name_hash, name_key, or_end, stored_place, Shaped, Kinds};
@@ -44,6 +45,15 @@ impl Found {
             Found::Nothing => None,
         }
     }
+}
+
+// Whether row k is a constraint. The kinds of constraints follow one another: a range of their numbers tells all five, which a match would have to list.
+#[tactic(auto, unfolding(crate::specs::Places::is_constraint))]
+pub fn is_constraint(rows: &[i64], k: usize) -> bool
+    ensures { result ≡ is_constraint rows.now k }
+{
+    let constraints = Kind::Precedence.number()..=Kind::Synchronize.number();
+    constraints.contains(&rows::num_at(rows, k, 0))
 }
 
 // ---- tables of places
