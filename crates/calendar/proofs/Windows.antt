@@ -21,7 +21,7 @@ use Rattle.calendar.specs.inner.Scan.{nearer, next_stop}
 any_more : (p : Window ℤ → Bool) (l : Calendar ℤ) (x : Window ℤ) → any_of p (l ++ x ∷ []) ≡ (any_of p l || p x)
 any_more p l x = any_append p l (x ∷ []) ∙ ap (λ b. any_of p l || b) (unfold any_of in or-false (p x))
 
-pub standing_more : (o h : Window ℤ → Bool) (l : Calendar ℤ) (x : Window ℤ) {s r : Standing} {v w : Bool} → s ≡ standing_of o h l → v ≡ o x → w ≡ h x
+standing_more : (o h : Window ℤ → Bool) (l : Calendar ℤ) (x : Window ℤ) {s r : Standing} {v w : Bool} → s ≡ standing_of o h l → v ≡ o x → w ≡ h x
     → r ≡ record { listed = s.listed || opens x.kind; held = s.held || (opens x.kind && v); hit = s.hit || (closes x.kind && w) }
     → r ≡ standing_of o h (l ++ x ∷ [])
 unfolding standing_of

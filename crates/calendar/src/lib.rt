@@ -100,6 +100,7 @@ impl Places {
 }
 
 // When work ends: at an instant; or the start is no working time; or too little working time follows; or at an instant that is no u64.
+// No Option or Result: that the work pauses at its start, or never ends, are answers of their own, and no refusal.
 #[derive(Clone, Copy)]
 pub enum WorkEnd {
     End(u64),
@@ -178,9 +179,8 @@ impl Fit {
         let holds = x.covers(self.start, self.end);
         let hits = x.hits(self.start, self.end);
         Fit {
-            start: self.start,
-            end: self.end,
             standing: self.standing.add(x.kind, holds, hits),
+            ..self
         }
     }
 

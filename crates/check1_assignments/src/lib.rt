@@ -2,11 +2,11 @@
 // the activity's requirements, lasts as long as its work, and starts no earlier than the releases.
 #![tactic(auto)]
 
-ghost use Rattle.std.specs.Prelude.{◌≡◌, ◌+◌, ◌<◌, ◌≤◌, true, false, ltb, pos, Some};
+ghost use Rattle.std.specs.Prelude.{◌≡◌, ◌+◌, ◌<◌, ◌≤◌, true, false, ltb, pos};
 ghost use Rattle.std.specs.Int.Signed.{lt_z};
 ghost use Rattle.loops.specs.Lists.{option, is_some};
 ghost use Rattle.rows.specs.Cells.{row_count, num, is};
-ghost use Rattle.sheet.specs.Places.{place_of, task_place};
+ghost use Rattle.sheet.specs.Places.{task_place};
 ghost use Rattle.calendar.specs.Clock.{clock};
 ghost use Rattle.findings.specs.inner.Told.{so_far, tell};
 ghost use Rattle.model.specs.Sheet.{sheet};
@@ -25,39 +25,6 @@ use pieces::HeldMarks;
 use rows::Kind;
 use sheet::{Found, KindIndex, Rows};
 
-// ---- the activity of a booking
-
-// Whether the activity of row a is split.
-#[tactic(auto, using(sheet::proofs::Lookups::place_low, crate::proofs::Finding::split_told))]
-fn is_split(rows: &TimedSheet, a: usize) -> bool
-    requires { place_of rows.now 2 (num rows.now a 1) ≡ Some a }
-    ensures { result ≡ is_some (split (sheet rows.now) (num rows.now a 1)) }
-{
-    rows.has_owned(a, Kind::Split)
-}
-
-// What the requirements of the activity of row a take; a quantity may be negative.
-#[tactic(auto, using(sheet::proofs::Lookups::place_low, chains::proofs::PlaceLaws::left_all, crate::proofs::Summing::sum_left))]
-fn quantity_of(rows: &TimedSheet, a: usize) -> i64
-    requires { place_of rows.now 2 (num rows.now a 1) ≡ Some a }
-    ensures { result ≡ quantities rows.now a }
-{
-    let mut sum = 0;
-    for q in rows.owned_by(a, Kind::Requirement) {
-        sum += rows.cell(q, 3);
-    }
-    sum
-}
-
-// Whether so many bookings are more than the units of the activity of row a, which are at least 1.
-#[tactic(auto, using(crate::proofs::Summing::over_told))]
-fn is_over(rows: &TimedSheet, a: usize, used: u64) -> bool
-    requires { (place_of rows.now 2 (num rows.now a 1) ≡ Some a) × (used ≤ 801) }
-    ensures { result ≡ lt_z (units (sheet rows.now) (num rows.now a 1)) (pos used) }
-{
-    1 < used && quantity_of(rows, a) < used as i64
-}
-
 // ---- a booking of an activity of the sheet
 
 // By the rows of the two.
@@ -70,13 +37,42 @@ struct KnownBooking<'a> {
 }
 
 impl<'a> KnownBooking<'a> {
+    // Whether its activity is split.
+    #[tactic(auto, using(crate::proofs::Placing::activity_most, crate::proofs::Placing::activity_place_lem, crate::proofs::Finding::split_told))]
+    fn is_split(&self) -> bool
+        ensures { result ≡ is_some (split (sheet self.now.rows.now) (num self.now.rows.now self.now.activity 1)) }
+    {
+        self.rows.has_owned(self.activity, Kind::Split)
+    }
+
+    // What its activity's requirements take; a quantity may be negative.
+    #[tactic(auto, using(crate::proofs::Placing::activity_most, crate::proofs::Placing::activity_place_lem, chains::proofs::PlaceLaws::left_all, crate::proofs::Summing::sum_left))]
+    fn quantity(&self) -> i64
+        ensures { result ≡ quantities self.now.rows.now self.now.activity }
+    {
+        let mut sum = 0;
+        for q in self.rows.owned_by(self.activity, Kind::Requirement) {
+            sum += self.rows.cell(q, 3);
+        }
+        sum
+    }
+
+    // Whether so many bookings are more than its activity's units, which are at least 1.
+    #[tactic(auto, using(crate::proofs::Summing::over_told))]
+    fn is_over(&self, used: u64) -> bool
+        requires { used ≤ 801 }
+        ensures { result ≡ lt_z (units (sheet self.now.rows.now) (num self.now.rows.now self.now.activity 1)) (pos used) }
+    {
+        1 < used && self.quantity() < used as i64
+    }
+
     // Whether it names another task than its activity's, or a part where that is not split.
-    #[tactic(auto, using(model::proofs::Accepting::accepted, crate::proofs::Placing::misplaced_told, crate::proofs::Placing::activity_place_lem))]
+    #[tactic(auto, using(model::proofs::Accepting::accepted, crate::proofs::Placing::misplaced_told))]
     fn is_misplaced(&self) -> bool
         ensures { result ≡ misplaced (sheet self.now.rows.now) (activity_of self.now.rows.now self.now.activity) (assignment_of self.now.rows.now self.now.row) }
     {
         !self.rows.has(self.row, 2, self.rows.num(self.activity, 2))
-            || (!self.rows.is_none(self.row, 7) && !is_split(self.rows, self.activity))
+            || (!self.rows.is_none(self.row, 7) && !self.is_split())
     }
 
     // Whether booking j takes a unit of its piece. It is not misplaced, so another booking of its piece is misplaced only where that names another task. This
@@ -118,7 +114,8 @@ impl<'a> KnownBooking<'a> {
         self.rows.num(self.row, 5) < self.rows.num(self.row, 4) + (setup + rest)
     }
 
-    // Whether it starts before the release in column c of row r; a release that is none counts as 0, before every start.
+    // Whether it starts before the release in column c of row r; a release that is none counts as 0, before every start. By its place, and no Option
+    // as in `check2_time_only::is_early`: that a task is not in the sheet, and so has no place, is answered before.
     fn is_early(&self, r: usize, c: usize) -> bool
         ensures { result ≡ ltb (num self.now.rows.now self.now.row 4) (num self.now.rows.now r c) }
     {
@@ -144,7 +141,7 @@ impl<'a> KnownBooking<'a> {
     {
         let id = self.rows.num(self.row, 1);
         let used = self.uses_before();
-        let over = is_over(self.rows, self.activity, used + 1);
+        let over = self.is_over(used + 1);
         found.report(over, Violation::of(1, ViolationKind::UnknownActivity, id));
         let short = self.is_short();
         found.report(short, Violation::of(1, ViolationKind::DurationTooShort, id));

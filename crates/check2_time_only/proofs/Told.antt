@@ -206,7 +206,7 @@ module _ (rows : List ℤ) (t : ℕ) (q : place_of rows 1 (num rows t 1) ≡ Som
       go true h = rw (h, activity_row rows k h) (here (eqb (num rows k 2) (num rows t 1)))
       go false h = rw (h, activity_none rows k h)
 
-  pub task_are : each (unplaced_at rows) (places (owned_by rows t 2) (row_count rows)) ≡ task_at_row rows t
+  task_are : each (unplaced_at rows) (places (owned_by rows t 2) (row_count rows)) ≡ task_at_row rows t
   unfolding places activities_of activities told_if
   task_are =
       each_collect (unplaced_at rows) (λ k. given (owned_by rows t 2 k) k) (row_count rows)

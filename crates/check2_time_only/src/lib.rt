@@ -60,7 +60,7 @@ fn is_seen(rows: &Sheet, a: usize, k: usize) -> bool
         .any(|i| rows.has(i, 2, task))
 }
 
-// What the activity of row a needs.
+// What the activity of row a needs. Not by `ActivityDuration::total_ms`, which may refuse: the times of a row are bounded, and so is their sum.
 #[tactic(auto, using(crate::proofs::Told::part_fits, crate::proofs::Told::work_fits, crate::proofs::Told::work_most))]
 fn work_of(rows: &Sheet, a: usize) -> u64
     requires { is rows.now a 0 2 ≡ true }
@@ -106,7 +106,8 @@ fn is_outside(rows: &Sheet, a: usize, k: usize, windows: &[TimeWindow]) -> bool
     !calendar::interval_fits(windows, start, end)
 }
 
-// Whether the span of row k starts before a release.
+// Whether the span of row k starts before a release: an Option, and no place as in `check1_assignments::KnownBooking::is_early`, since it is none too
+// where the activity's task is not in the sheet.
 #[tactic(auto, unfolding(crate::specs::inner::Tests::starts_before))]
 fn is_early(rows: &Sheet, k: usize, release: Option<u64>) -> bool
     ensures { result ≡ starts_before rows.now k (meant release) }
@@ -186,7 +187,7 @@ fn check_unplaced(rows: &Sheet, a: usize, found: &mut Findings)
     );
 }
 
-// The activities of the task of row t.
+// The activities of the task of row t: by task in two functions, as `check4_requirements::check_task` says.
 #[tactic(auto, using(chains::proofs::PlaceLaws::left_all, crate::proofs::Told::task_told, crate::proofs::Told::activity_itself), unfolding(owners::specs::inner::Owners::owned_by))]
 fn check_task(rows: &Sheet, t: usize, found: &mut Findings)
     requires { (t < row_count rows.now) × (is rows.now t 0 1 ≡ true) }

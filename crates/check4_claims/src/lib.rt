@@ -50,7 +50,8 @@ fn has_skill(rows: &Owners, r: usize, skill: u64) -> bool
     candidates::lists(&rows.by_owner(), r, Kind::Skill, 2, skill)
 }
 
-// The skills that the requirement at row q asks for and the resource x, of row r, lacks.
+// The skills that the requirement at row q asks for and the resource x, of row r, lacks. Like `check4_pieces::report_missing` it is a walk with a test
+// of its own, which is the contract: handed the test, one function of both would be these lines again.
 #[tactic(auto, using(chains::proofs::PlaceLaws::left_all, findings::proofs::Reporting::tell_only, sheet::proofs::Lookups::place_low), unfolding(crate::specs::inner::Claims::lacking_for))]
 fn report_lacking(rows: &Owners, q: usize, r: usize, x: u64, found: &mut Findings)
     requires { (q < row_count rows.now) × (resource_place rows.now x ≡ Some r) × (x < 9223372036854775808) }

@@ -13,11 +13,11 @@ use load::{Bookings, NO_BOOKING};
 use model::Sheet;
 use sheet::Rows;
 
-// Whether a load is above a limit.
+// Whether a load is above a limit; one below zero is below every load.
 fn exceeds(load: u64, cap: i64) -> bool
     ensures { result ≡ lt_z cap (pos load) }
 {
-    cap < 0 || (cap as u64) < load
+    u64::try_from(cap).ok().is_none_or(|c| c < load)
 }
 
 // The finding of the resource x.

@@ -53,6 +53,8 @@ fn report_unfit(
     found.report(!fits, violation);
 }
 
+// Booking k against the windows of its resource, at row o. `report_unfit` is what this and `check_activity` both do: whose windows they are, and which
+// violation, is all that each adds.
 #[tactic(auto, using(check6_joint_calendars::proofs::Whole::resource_holder, sheet::proofs::Lookups::place_low, crate::proofs::Plain::resource_fits))]
 fn check_resource(rows: &Sheet, o: usize, k: usize, found: &mut Findings)
     requires { place_of rows.now 11 (num rows.now k 3) ≡ Some o }
@@ -62,6 +64,7 @@ fn check_resource(rows: &Sheet, o: usize, k: usize, found: &mut Findings)
     report_unfit(rows, o, Kind::ResourceWindow, k, unavailable, found);
 }
 
+// Booking k against the windows of its activity, at row a.
 #[tactic(auto, using(check6_joint_calendars::proofs::Whole::activity_holder, sheet::proofs::Lookups::place_low))]
 fn check_activity(rows: &Sheet, a: usize, k: usize, found: &mut Findings)
     requires { place_of rows.now 2 (num rows.now k 1) ≡ Some a }

@@ -60,6 +60,8 @@ fn ends_early(pair: &ActivityPair, earliest: i64) -> bool
     check7_end_to_start::is_before(span.end, moved, earliest)
 }
 
+// The one finding of the activity after where it ends before `earliest` and the move. Like `report_early` it is a report with a test of its own, which
+// is the contract: handed the test, one function of both would be these lines again.
 fn report_end(pair: &ActivityPair, earliest: i64, found: &mut Findings)
     requires { nat_abs earliest ≤ 8000000000000 }
     ensures { so_far found.new ≡ tell (so_far found.old) (given (ends_early pair.now.rows (num pair.now.rows pair.now.before 1) (num pair.now.rows pair.now.after 1) earliest) (precedence_violation 7 (num pair.now.rows pair.now.after 1))) }

@@ -1,15 +1,16 @@
 -- First bookings, row by row. Assumes nothing.
 use Prim.Native.Nat.{ℕ, ◌<◌}
 use mathlib.Core.Path.{◌≡◌, refl, ap, sym, ◌∙◌}
-use mathlib.Core.Bool.{Bool, true, false, cond, not, ◌&&◌, or-false, true≢false}
-use mathlib.Core.List.{List, [], ◌∷◌, ◌++◌, append-nil}
+use mathlib.Core.Bool.{Bool, true, false, not, ◌&&◌, or-false, true≢false}
+use mathlib.Core.List.{List, [], ◌∷◌, append-nil}
 use Rattle.std.specs.Prelude.{Option, None, Some}
+use Rattle.std.specs.Option.{option_eq}
 use native.Mathlib.Decide.{dec_lt}
 use borrow.Author.Tests.{eq-eqb, ne_eqb}
 use native.Mathlib.Omega.{arith}
 use lib.Dec.{eqb}
 use lib.IntN.{ℤ}
-use Rattle.loops.specs.Lists.{given, keep, head, option, any_of, each}
+use Rattle.loops.specs.Lists.{given, keep, head, any_of, each}
 use Rattle.loops.specs.Search.{first_place, any_below}
 use Rattle.loops.proofs.ListLaws.{any_collect}
 use Rattle.loops.proofs.PlaceLaws.{any_same, place_none, found_at, none_before}
@@ -45,22 +46,7 @@ module _ (rows : List ℤ) (x : ℕ) where
 
 -- ---- the walk
 
--- the first of these bookings of the resource x is the one of row k
-unfoldable pub leads : List ℤ → ℕ → ℕ → List ℕ → Bool
-leads rows k x [] = false
-leads rows k x (i ∷ l) = cond (is rows i 3 x) (eqb i k) (leads rows k x l)
-
 module _ (rows : List ℤ) (k : ℕ) where
-  leads_kept : (x : ℕ) (l : List ℕ) → leads rows k x l ≡ option (head (keep (λ i. is rows i 3 x) l)) false (λ i. eqb i k)
-  unfolding leads keep
-  leads_kept x [] = refl
-  leads_kept x (i ∷ l) = go (is rows i 3 x) (leads_kept x l)
-    where
-      go : (b : Bool) → leads rows k x l ≡ option (head (keep (λ i. is rows i 3 x) l)) false (λ i. eqb i k)
-          → cond b (eqb i k) (leads rows k x l) ≡ option (head (given b i ++ keep (λ i. is rows i 3 x) l)) false (λ i. eqb i k)
-      go true e = refl
-      go false e = e
-
   module _ (l : k < row_count rows) (h : is rows k 0 23 ≡ true) where
     itself : booked rows (num rows k 3) k ≡ true
     unfolding booked
@@ -68,7 +54,7 @@ module _ (rows : List ℤ) (k : ℕ) where
 
     -- the first booking of its resource, where that is looked for
     leading : (x : Option ℕ) → first_place (booked rows (num rows k 3)) (row_count rows) ≡ x
-        → option x false (λ i. eqb i k) ≡ not (any_below (booked rows (num rows k 3)) k)
+        → option_eq eqb x (Some k) ≡ not (any_below (booked rows (num rows k 3)) k)
     leading None e = absurd (let z : ◌≡◌ {A = Bool} true false = sym itself ∙ place_none (booked rows (num rows k 3)) (row_count rows) e k l in true≢false z)
     leading (Some i) e = go (dec_lt i k) (dec_lt k i)
       where
@@ -79,13 +65,14 @@ module _ (rows : List ℤ) (k : ℕ) where
             let z : i ≡ k = omega arith in
             rw (none_below (booked rows (num rows k 3)) k (λ j c. none_before (booked rows (num rows k 3)) (row_count rows) i e j (omega arith))) (eq-eqb i k z)
 
-    pub first_told : (x : ℕ) → x ≡ num rows k 3 → leads rows k x (places (of_kind rows 23) (row_count rows)) ≡ is_first rows k
+    pub first_told : (x : ℕ) {o : Option ℕ} {r : Bool} → x ≡ num rows k 3 → o ≡ head (keep (λ i. is rows i 3 x) (places (of_kind rows 23) (row_count rows)))
+        → r ≡ option_eq eqb o (Some k) → r ≡ is_first rows k
     unfolding is_first of_kind booked
-    first_told x e =
-        leads_kept x (places (of_kind rows 23) (row_count rows))
-        ∙ ap (λ y. option y false (λ i. eqb i k))
-        (ap head (keep_places (of_kind rows 23) (λ i. is rows i 3 x) (row_count rows)) ∙ head_places (booked rows x) (row_count rows))
-        ∙ ap (λ x. option (first_place (booked rows x) (row_count rows)) false (λ i. eqb i k)) e
+    first_told x e f g =
+        g
+        ∙ ap (λ y. option_eq eqb y (Some k))
+        (f ∙ ap head (keep_places (of_kind rows 23) (λ i. is rows i 3 x) (row_count rows)) ∙ head_places (booked rows x) (row_count rows))
+        ∙ ap (λ x. option_eq eqb (first_place (booked rows x) (row_count rows)) (Some k)) e
         ∙ leading (first_place (booked rows (num rows k 3)) (row_count rows)) refl
         ∙ rw h (ap not (booked_are rows (num rows k 3) k))
 

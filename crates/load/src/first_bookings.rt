@@ -11,18 +11,13 @@ use sheet::{ByKind, KindIndex, Rows};
 use std::marker::Model;
 
 // Whether the booking of row k is the first of its resource.
-#[tactic(auto, using(crate::proofs::Firsts::first_told), unfolding(crate::proofs::Firsts::leads))]
+#[tactic(auto, using(crate::proofs::Firsts::first_told))]
 fn is_first(rows: &ByKind, k: usize) -> bool
     requires { (k < row_count rows.now) × (is rows.now k 0 23 ≡ true) }
     ensures { result ≡ is_first rows.now k }
 {
     let x = rows.num(k, 3);
-    for i in rows.of_kind(Kind::Booking) {
-        if rows.has(i, 3, x) {
-            return i == k;
-        }
-    }
-    false
+    rows.of_kind(Kind::Booking).find(|&i| rows.has(i, 3, x)) == Some(k)
 }
 
 // The bookings that are left; seen as the list of those that are the first of their resources.

@@ -19,7 +19,8 @@ use rows::{Class, Kind};
 use sheet::{Found, KindIndex, Rows};
 use window_rows::WindowList;
 
-// The work ends at an instant; or the start is no working time; or too little working time follows.
+// The work ends at an instant; or the start is no working time; or too little working time follows. No Option or Result, as with `calendar::WorkEnd`: the
+// last two are answers of their own, and no refusal.
 #[derive(Clone, Copy, PartialEq, Eq)]
 pub enum InquiryEnd {
     End(u64),
