@@ -124,7 +124,8 @@ pub fn unfold_into(s: &[u8], to: &mut [u8]) -> usize
     n
 }
 
-// The bytes spell the word, which is given in capitals, letters in either case.
+// The bytes spell the word, which is given in capitals, letters in either case. Not by `eq_ignore_ascii_case`: that takes a small letter in the word as well,
+// and the definition's `spells` does not.
 pub fn is_word(word: &[u8], s: &[u8]) -> bool
     ensures { result ≡ spells word.now s.now }
 {

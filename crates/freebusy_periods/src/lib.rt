@@ -176,7 +176,7 @@ pub fn is_period(s: &[u8]) -> bool
     dates::is_date_time(start) && n < s.len() && is_end(&s[n + 1..])
 }
 
-// So many seconds before an instant.
+// So many seconds before an instant, none where that is before 1970: the library's `checked_sub`, under the definition's `moved`.
 fn earlier(a: u64, n: u64) -> Option<u64>
     requires { a ≤ 4000000000000 }
     ensures { result ≡ moved a true n }
