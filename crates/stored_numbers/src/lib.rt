@@ -18,7 +18,7 @@ use text_fields::Parts;
 pub fn told(n: usize, room: usize) -> Option<usize>
     ensures { result ≡ gathered n room }
 {
-    if n < room { Some(n) } else { None }
+    (n < room).then_some(n)
 }
 
 // The numbers of a line's fields.
