@@ -221,15 +221,9 @@ pub fn window_of(s: &[u8]) -> Result<Span, Reason>
 {
     let f = text_fields::first_part(s, b'/');
     let n = f.len();
-    let Some(start) = dates::read_instant(f) else {
-        return Err(Reason::Undated);
-    };
-    if s.len() <= n {
-        return Err(Reason::Undated);
-    }
-    let Some(end) = end_from(start, &s[n + 1..]) else {
-        return Err(Reason::Undated);
-    };
+    let start = dates::read_instant(f).ok_or(Reason::Undated)?;
+    let e = s.get(n + 1..).ok_or(Reason::Undated)?;
+    let end = end_from(start, e).ok_or(Reason::Undated)?;
     if start < end {
         Ok(Span { start, end })
     } else {
