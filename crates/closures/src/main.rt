@@ -8,7 +8,8 @@ ghost use Rattle.closures.specs.inner.Bytes.{rows_bytes};
 
 use text_program::Words;
 
-// The first five numbers of each of the first n rows.
+// The first five numbers of each of the first n rows. A loop of its own, as printing `put_findings` and margins `put_margins`: each puts another part of a
+// line, so that one function would take a closure that writes.
 fn put_rows(out: &mut [u8], rows: &[i64], n: usize) -> usize
     requires { (n ≤ 800) × (length rows.now ≡ 8000) }
     ensures { Wrote out.old 0 out.new result (rows_bytes rows.now n) }
@@ -20,7 +21,8 @@ fn put_rows(out: &mut [u8], rows: &[i64], n: usize) -> usize
     at
 }
 
-// Reads the calendar, and puts what is printed of it into out. It answers how many bytes that are.
+// Reads the calendar, and puts what is printed of it into out. It answers how many bytes that are. margins `print_margins` has the same steps over another
+// call: one function would take the call and the printing as closures, each with a clause.
 fn print_closures(text: &[u8], resource: i64, out: &mut [u8]) -> usize
     requires { length out.old ≡ 84000 }
     ensures upper_bound { result ≤ 84000 }

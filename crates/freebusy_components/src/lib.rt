@@ -15,7 +15,8 @@ struct Walked {
     wrong: Option<usize>,
 }
 
-// The lesser of two places, where there is one. Not Option's own `min`: None is below every place there, and here it is no place.
+// The lesser of two places, where there is one. Not Option's own `min`: None is below every place there, and here it is no place. derived_times `earlier` is
+// the same line of the library; a crate below both layers for one line would be more.
 fn lesser(a: Option<usize>, b: Option<usize>) -> Option<usize>
     ensures { result ≡ least a b }
 {

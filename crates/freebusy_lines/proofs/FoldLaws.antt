@@ -2,18 +2,22 @@
 use Prim.Native.Nat.{ℕ, suc, ◌+◌, ◌-◌, ◌≤◌, ◌<◌}
 use mathlib.Core.Bool.{Bool, true, false, ◌&&◌, ◌||◌, true≢false}
 use mathlib.Core.List.{List, [], ◌∷◌, ◌++◌, append-nil, append_assoc}
-use mathlib.Core.Path.{◌≡◌, refl, sym, ap, ◌∙◌}
+use mathlib.Core.Path.{◌≡◌, refl, sym, ap, ap₂, ◌∙◌}
 use native.Mathlib.Omega.{arith}
 use native.Mathlib.Numerals.{add-one}
 use lib.Dec.{leb}
-use lib.ListN.{length, get_or, drop, take, set, drop_of_length-le, length-drop, length-set, take-append-drop}
+use lib.ListN.{length, get_or, drop, take, set, length-drop, length-set, take-append-drop}
 use lib.Seq.{drop-cons, drop-drop, drop-set-lt, length-take-le, take-suc-set}
-use borrow.Author.Rules.{rules}
 use borrow.Author.Tests.{le-leb}
 use Rattle.freebusy_lines.specs.Lines.{is_blank, is_crlf, unfolded}
 use Rattle.freebusy_lines.specs.inner.Reading.{fold_first, is_folded}
 use Rattle.loops.proofs.ListLaws.{rest_is}
 use Rattle.std.proofs.lemmas.List.{nil_from_length}
+use Rattle.std.specs.List.{list_any}
+use Rattle.std.specs.Iterator.{AlwaysYields}
+use Rattle.std.specs.Slice.Iter.{windows_steps}
+use Rattle.std.specs.declared.slice.Windows.{Windows}
+use Rattle.std.proofs.lemmas.Iterator.{YieldsList}
 
 -- a test that came out both ways
 pub clash : {X : Type 0} {b : Bool} → b ≡ true → b ≡ false → X
@@ -40,34 +44,30 @@ unfolded_byte x [] h = refl
 unfolded_byte x (y ∷ []) h = refl
 unfolded_byte x (y ∷ z ∷ s) h = rw h
 
--- ---- looking for a fold: none begins before i
+-- ---- looking for a fold: the windows of three bytes
 
-pub record Plain (s : List ℕ) (i : ℕ) : Type 0 where
-  pub same : is_folded (drop i s) ≡ is_folded s
+abbrev pub slides : List ℕ → List (List ℕ)
+slides [] = []
+slides (x ∷ []) = []
+slides (x ∷ y ∷ []) = []
+slides (x ∷ y ∷ z ∷ xs) = (x ∷ y ∷ z ∷ []) ∷ slides (y ∷ z ∷ xs)
 
-module _ {s : List ℕ} where
-  pub plain_start : Plain s 0
-  plain_start = record { same = refl }
+slid : (xs : List ℕ) (s : Windows ℕ) → s.size ≡ 3 → s.rest.now ≡ xs → AlwaysYields windows_steps (λ y. y.now) s (slides xs)
+slid [] s n e = λ v j h. absurd (omega (arith, n, ap length e, h.1.0))
+slid (x ∷ []) s n e = λ v j h. absurd (omega (arith, n, ap length e, h.1.0))
+slid (x ∷ y ∷ []) s n e = λ v j h. absurd (omega (arith, n, ap length e, h.1.0))
+slid (x ∷ y ∷ z ∷ xs) s n e =
+    (λ j h. absurd (omega (arith, n, ap length e, h.1.0)), λ v j h. (h.1.1 ∙ ap₂ take n e, slid (y ∷ z ∷ xs) j (h.0 ∙ n) (h.1.2 ∙ ap (drop 1) e)))
 
-  module _ {i : ℕ} {r : Bool} (c : Plain s i) (k : i < length s) (e : r ≡ fold_first (take (length s - i) (drop i s))) where
-    seen : is_folded (drop i s) ≡ (r || is_folded (drop (i + 1) s))
-    unfolding is_folded
-    seen =
-        let d : drop i s ≡ get_or s i 0 ∷ drop (i + 1) s = rw (add-one i) (drop-cons s i 0 k) in
-        let f : fold_first (get_or s i 0 ∷ drop (i + 1) s) ≡ r = ap fold_first (sym d) ∙ sym (e ∙ ap fold_first (rest_is i s)) in
-        ap is_folded d ∙ ap (λ (b : Bool). b || is_folded (drop (i + 1) s)) f
+pub windows_yield : {s : Windows ℕ} (xs : List ℕ) → s.size ≡ 3 → s.rest.now ≡ xs → YieldsList windows_steps (λ y. y.now) s (slides xs)
+windows_yield {s} xs n e = record { runs = slid xs s n e }
 
-    pub plain_turn : r ≡ false → Plain s (i + 1)
-    plain_turn t = record { same = sym (rw t at seen) ∙ c.same }
-
-    pub plain_found : r ≡ true → true ≡ is_folded s
-    plain_found t = sym (rw t at seen) ∙ c.same
-
-  pub plain_end : {i : ℕ} → Plain s i → length s ≤ i → false ≡ is_folded s
-  unfolding is_folded
-  plain_end {i} c h = sym (ap is_folded (drop_of_length-le s {i = i} h)) ∙ c.same
-
-pub ruleset plain = (rules, plain_start, plain_turn, plain_found, plain_end)
+pub any_window : (xs : List ℕ) → list_any fold_first (slides xs) ≡ is_folded xs
+unfolding is_folded
+any_window [] = refl
+any_window (x ∷ []) = refl
+any_window (x ∷ y ∷ []) = refl
+any_window (x ∷ y ∷ z ∷ xs) = ap (λ (b : Bool). fold_first (x ∷ y ∷ z ∷ xs) || b) (any_window (y ∷ z ∷ xs))
 
 -- ---- copying: n bytes went to `to`, which are the bytes before rest without their folds
 

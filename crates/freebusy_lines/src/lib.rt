@@ -38,7 +38,7 @@ fn is_line_end(s: &[u8]) -> bool
     }
 }
 
-// The first line of a text as it is sent, without its end.
+// The first line of a text as it is sent, without its end. By place, and not by `windows`: a line may end with the text, two bytes from its end.
 pub fn first_line(s: &[u8]) -> &[u8]
     ensures { result.now ≡ first_sent s.now }
 {
@@ -94,12 +94,7 @@ impl<'a> Iterator for SentLines<'a> {
 pub fn has_fold(s: &[u8]) -> bool
     ensures { result ≡ is_folded s.now }
 {
-    for i in 0..s.len() {
-        if is_fold(&s[i..]) {
-            return true;
-        }
-    }
-    false
+    s.windows(3).any(is_fold)
 }
 
 // The line without its folds goes to the front of `to`, and leaves what lies after it; how many bytes it has.
@@ -124,7 +119,8 @@ pub fn unfold_into(s: &[u8], to: &mut [u8]) -> usize
     n
 }
 
-// The bytes spell the word, which is given in capitals, letters in either case.
+// The bytes spell the word, which is given in capitals, letters in either case. Not by `eq_ignore_ascii_case`: that takes a small letter in the word as well,
+// and the definition's `spells` does not.
 pub fn is_word(word: &[u8], s: &[u8]) -> bool
     ensures { result ≡ spells word.now s.now }
 {

@@ -4,7 +4,7 @@ use mathlib.Core.Bool.{Bool, true, false, cond}
 use mathlib.Core.List.{List}
 use mathlib.Core.Logic.{inl, inr}
 use Rattle.std.specs.Bool.{then_some}
-use Rattle.std.specs.Prelude.{Option, None, Some, Ok, Err}
+use Rattle.std.specs.Prelude.{Option, None, Some, Result, Ok, Err}
 use Rattle.std.proofs.lemmas.Option.{none-some, same_Some}
 use mathlib.Core.Path.{◌≡◌, refl, sym, ap, ap₂, ◌∙◌, subst}
 use native.Mathlib.Omega.{arith}
@@ -14,10 +14,13 @@ use borrow.Author.Rules.{rules}
 use borrow.Author.Tests.{lt-leb, le-leb, lt-ltb, le-ltb, leb-true, ltb-true}
 use Rattle.loops.specs.Search.{some_if}
 use Rattle.loops.specs.Lists.{option, is_some}
-use Rattle.std.specs.Option.{SomeIff, is_some as std_is_some}
+use Rattle.std.specs.Option.{SomeIff, is_some as std_is_some, ok_or}
+use Rattle.std.specs.Slice.{IsGetRangeResult}
+use denote.Ref.{Bor}
 use Rattle.text_fields.specs.Parts.{until_byte}
 use Rattle.dates.specs.DateTime.{instant, date_time, last_instant}
 use Rattle.dates.proofs.InstantLaws.{instant_most}
+use Rattle.refusals.specs.declared.Reason.{Reason}
 use Rattle.refusals.specs.declared.Reason.TheVariants.{Malformed, Undated}
 use Rattle.freebusy_lines.specs.Bytes.{SLASH, after}
 use Rattle.freebusy_lines.proofs.AfterLaws.{nothing_after, rest_after}
@@ -162,6 +165,26 @@ module _ (s : List ℕ) {f : List ℕ} (e : f ≡ until_byte SLASH s) where
           pub window_not : b ≤ a → Err Malformed ≡ window_of s
           unfolding window_of
           window_not h = rw (started, rest_after SLASH s e l, sym (sym y ∙ g), le-ltb a b h)
+
+-- what `ok_or` was asked of, by its answer
+pub had : {A : Type 0} (o : Option A) {r : Result A Reason} {v : A} → r ≡ ok_or o Undated → r ≡ Ok v → o ≡ Some v
+had None {r} {v} e q = let z : Err Undated ≡ Ok v = sym e ∙ q in cc
+had (Some x) {r} {v} e q = let z : Ok x ≡ Ok v = sym e ∙ q in cc
+
+pub lacked : {A : Type 0} (o : Option A) {r : Result A Reason} {x : Reason} → r ≡ ok_or o Undated → r ≡ Err x → (o ≡ None) × (x ≡ Undated)
+lacked None {r} {x} e q = let z : Err Undated ≡ Err x = sym e ∙ q in (refl, cc)
+lacked (Some y) {r} {x} e q = let z : Ok y ≡ Err x = sym e ∙ q in (cc, cc)
+
+-- what follows the slash, as `get` gives it
+module _ (s f : List ℕ) where
+  pub not_got : (r : Option (Bor (List ℕ))) → IsGetRangeResult s (length f + 1) (length s) r → r ≡ None → length s ≤ length f
+  not_got None (inl h, _) z = omega arith
+  not_got None (inr h, _) z = absurd (omega arith)
+  not_got (Some y) g z = absurd (none-some _ (sym z))
+
+  pub got : (r : Option (Bor (List ℕ))) (y : Bor (List ℕ)) → IsGetRangeResult s (length f + 1) (length s) r → r ≡ Some y → (length f < length s) × (y.now ≡ rest s f)
+  got None y g z = absurd (none-some _ z)
+  got (Some x) y (h, _) z = (omega (arith, h.0), ap (λ (b : Bor (List ℕ)). b.now) (sym (same_Some _ _ z)) ∙ h.2)
 
 -- a start is in the range
 pub start_most : {i : Option ℕ} (f : List ℕ) {a : ℕ} → i ≡ instant f → i ≡ Some a → a ≤ 4000000000000

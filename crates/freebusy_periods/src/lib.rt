@@ -176,7 +176,7 @@ pub fn is_period(s: &[u8]) -> bool
     dates::is_date_time(start) && n < s.len() && is_end(&s[n + 1..])
 }
 
-// So many seconds before an instant.
+// So many seconds before an instant, none where that is before 1970: the library's `checked_sub`, under the definition's `moved`.
 fn earlier(a: u64, n: u64) -> Option<u64>
     requires { a ≤ 4000000000000 }
     ensures { result ≡ moved a true n }
@@ -221,15 +221,9 @@ pub fn window_of(s: &[u8]) -> Result<Span, Reason>
 {
     let f = text_fields::first_part(s, b'/');
     let n = f.len();
-    let Some(start) = dates::read_instant(f) else {
-        return Err(Reason::Undated);
-    };
-    if s.len() <= n {
-        return Err(Reason::Undated);
-    }
-    let Some(end) = end_from(start, &s[n + 1..]) else {
-        return Err(Reason::Undated);
-    };
+    let start = dates::read_instant(f).ok_or(Reason::Undated)?;
+    let e = s.get(n + 1..).ok_or(Reason::Undated)?;
+    let end = end_from(start, e).ok_or(Reason::Undated)?;
     if start < end {
         Ok(Span { start, end })
     } else {

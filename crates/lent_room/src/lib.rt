@@ -10,6 +10,8 @@ mod lent_list;
 
 pub use lent_list::LentList;
 
+// Whoever puts several has a `for` of its own (stored_numbers `put_zeros`, `put_pieces`, `put_lines`, stored_bytes `put_copies`, `put_texts`): one for all
+// would take a closure that writes, and its contract would have to say what each writes.
 pub fn put<T: Copy>(out: &mut [T], at: usize, x: T) -> usize
     requires { at ≤ length out.old }
     ensures { Wrote out.old at out.new result (x ∷ []) }

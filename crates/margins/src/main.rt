@@ -30,7 +30,8 @@ fn put_margin(out: &mut [u8], at: usize, line: &[i64]) -> usize
     printing::put_line(out, next, &line[1..])
 }
 
-// The first n lines.
+// The first n lines. A loop of its own, as printing `put_findings` and closures `put_rows`: each puts another part of a line, so that one function would take a
+// closure that writes.
 fn put_margins(out: &mut [u8], lines: &[i64], n: usize) -> usize
     requires { (n ≤ 800) × (length lines.now ≡ 2400) }
     ensures { Wrote out.old 0 out.new result (lines_bytes lines.now n) }
@@ -42,7 +43,8 @@ fn put_margins(out: &mut [u8], lines: &[i64], n: usize) -> usize
     at
 }
 
-// Puts what is printed of the rows into out. It answers how many bytes that are.
+// Puts what is printed of the rows into out. It answers how many bytes that are. closures `print_closures` has the same steps over another call: one function
+// would take the call and the printing as closures, each with a clause.
 fn print_margins(rows: &[i64], out: &mut [u8]) -> usize
     requires { length out.old ≡ 40800 }
     ensures upper_bound { result ≤ 40800 }

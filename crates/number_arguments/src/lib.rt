@@ -10,7 +10,7 @@ use std::rt::Env;
 fn number_of(argument: &[u8]) -> Option<i64>
     ensures { result ≡ argument_number argument.now }
 {
-    if argument.len() == 0 {
+    if argument.is_empty() {
         return None;
     }
     text_fields::read_number(argument)

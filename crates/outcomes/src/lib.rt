@@ -2,11 +2,11 @@
 #![tactic(auto)]
 
 ghost use Rattle.std.specs.Prelude.{◌≡◌};
-ghost use Rattle.refusals.specs.Refusals.{verdict_of};
+ghost use Rattle.refusals.specs.Refusals.{number_of, verdict_of};
 ghost use Rattle.work_end_inquiry.specs.Inquiry.{outcome_of};
 ghost use Rattle.outcomes.specs.Outcome.{of_answer, of_refusal, of_inquiry};
 
-use refusals::{Answer, Verdict};
+use refusals::{Answer, Refusal, Verdict};
 use work_end_inquiry::{InquiryAnswer, InquiryEnd};
 
 // A refusal by number and place, or, with number 0, acceptance and a count in the place.
@@ -23,13 +23,21 @@ fn numbered(number: u64, place: u64) -> Outcome
     Outcome { number, place }
 }
 
+impl From<Refusal> for Outcome {
+    ghost from_gives = { λ e r. r ≡ record { number = number_of e.reason; place = e.place } };
+
+    fn from(e: Refusal) -> Outcome {
+        numbered(e.reason.number(), e.place as u64)
+    }
+}
+
 impl From<Answer> for Outcome {
     ghost from_gives = { λ answer r. r ≡ of_answer answer };
 
     fn from(answer: Answer) -> Outcome {
         match answer {
             Ok(n) => numbered(0, n as u64),
-            Err(e) => numbered(e.reason.number(), e.place as u64),
+            Err(e) => Outcome::from(e),
         }
     }
 }
@@ -40,7 +48,7 @@ impl From<Verdict> for Outcome {
     fn from(v: Verdict) -> Outcome {
         match v {
             Ok(()) => numbered(0, 0),
-            Err(refusal) => numbered(refusal.reason.number(), refusal.place as u64),
+            Err(refusal) => Outcome::from(refusal),
         }
     }
 }

@@ -48,7 +48,7 @@ fn put_field(out: &mut [u8], at: usize, line: &[i64], c: usize) -> usize
     lent_room::put(out, next, b'\n')
 }
 
-// A line of numbers.
+// A line of numbers. By place, and not over the numbers: the last has another byte behind it, and the definition's `field` is by place.
 pub fn put_line(out: &mut [u8], from: usize, line: &[i64]) -> usize
     requires { from ≤ length out.old }
     ensures { Wrote out.old from out.new result (number_line line.now) }
@@ -60,7 +60,8 @@ pub fn put_line(out: &mut [u8], from: usize, line: &[i64]) -> usize
     at
 }
 
-// The first n findings, each a line of four numbers.
+// The first n findings, each a line of four numbers. A loop of its own, as closures `put_rows` and margins `put_margins`: each puts another part of a line, so
+// that one function would take a closure that writes.
 fn put_findings(out: &mut [u8], from: usize, found: &[i64], n: usize) -> usize
     requires { from ≤ length out.old }
     ensures { Wrote out.old from out.new result (number_lines 4 found.now n) }
@@ -72,7 +73,8 @@ fn put_findings(out: &mut [u8], from: usize, found: &[i64], n: usize) -> usize
     at
 }
 
-// A refusal by its number and place, from the start of the buffer on.
+// A refusal by its number and place, from the start of the buffer on. Of any number, since a Reason would ask more of a caller; whoever has a reason calls
+// `put_refusal`.
 pub fn put_refused(out: &mut [u8], number: u64, place: u64) -> usize
     ensures { Wrote out.old 0 out.new result (printed_refused number place) }
 {

@@ -159,7 +159,7 @@ pub fn read_input(rt: &HostRuntime, input: &[u8], awaited: &[u8], buffer: &mut [
 }
 
 // Reads until the input ends, a read fails or the room is full, and gives how many bytes were read. For the programs of the gate and of measuring, which tell
-// no reason: here a read that fails ends the input. Steps of any length, and no index that counts them.
+// no reason: here a read that fails ends the input. A loop by hand: a step has any length, and how many bytes were read is the answer.
 pub fn read_whole<R: Read>(from: &mut R, room: &mut [u8]) -> usize
     ensures within { IsPrefixLen result room.new }
     ensures bytes { Consumes (R.remaining from.old) (R.remaining from.new) (take result room.new) }

@@ -74,8 +74,8 @@ fn try_again(place: Place) -> ControlFlow<End, Place>
         return ControlFlow::Break(End::Failed);
     }
     ControlFlow::Continue(Place {
-        done: place.done,
         left: place.left - 1,
+        ..place
     })
 }
 

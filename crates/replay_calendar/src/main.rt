@@ -32,9 +32,11 @@ fn windows_of(numbers: &[i64]) -> [TimeWindow; 800] {
     windows
 }
 
+const NO_PLACES: Places = Places { from: 0, to: 0 };
+
 // The numbers of a line that judges, two by two, as the places of calendars, in an array for the same reason.
 fn places_of(numbers: &[i64]) -> [Places; 8] {
-    let mut places = [Places { from: 0, to: 0 }; 8];
+    let mut places = [NO_PLACES; 8];
     for (p, &[from, to]) in places.iter_mut().zip(numbers.as_chunks::<2>().0) {
         *p = Places {
             from: rows::nat(from) as usize,
@@ -61,8 +63,7 @@ fn is_end(found: WorkEnd, outcome: i64, end: i64) -> bool {
 // The windows from place FROM to place TO of the one calendar, or the calendars as pairs of places, stand last in a line:
 // `FX,Y,YES,FROM,TO`, `WX,YES,FROM,TO`, `JX,YES,PLACE..`, `AX,Y,MS,PLACE..`, `EX,WORK,OUTCOME,END,PLACE..`, `BX,WORK,OUTCOME,END,PLACE..`.
 fn is_answer(letter: u8, given: &[i64], calendars: Calendars) -> bool {
-    let none = Places { from: 0, to: 0 };
-    let one = calendars.places.first().copied().unwrap_or(none);
+    let one = calendars.places.first().copied().unwrap_or(NO_PLACES);
     let windows = one.windows_in(calendars.windows);
     match (letter, given) {
         (b'F', &[x, y, yes]) => {

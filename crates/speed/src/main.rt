@@ -135,7 +135,7 @@ fn once(rows: &TimedSheet, part: Part, out: &mut [i64]) -> usize {
     found.len()
 }
 
-// So many times, 0 where a refusal refuses the sheet.
+// So many times; 0 where a refusal refuses the sheet, as it is printed.
 fn timed(rows: &Sheet, part: Part, count: u64) -> usize {
     let mut times = DerivedTimes::new();
     let Ok(()) = times.fill(rows) else {
@@ -159,7 +159,7 @@ fn found_of(rows: &[i64], part: Part, count: u64) -> usize {
     timed(&Sheet::new(rows, &index), part, count)
 }
 
-// 0 where the text is refused.
+// 0 where the text is refused, as it is printed.
 fn found_in(text: &[u8], part: Part, count: u64) -> usize {
     // No heap: room for the 800 rows of the longest sheet.
     let mut rows = [0i64; 8000];

@@ -15,7 +15,7 @@ use text_fields::Parts;
 
 // ---- the fields of a line
 
-// The number that a field spells, 0 where it is misspelt.
+// The number that a field spells, 0 where it is misspelt. No Option: lines are asked before whether they are formed.
 pub fn number_of(s: &[u8]) -> i64
     ensures { result ≡ value_of s.now }
 {
@@ -130,7 +130,7 @@ pub struct Case {
     pub next: usize,
 }
 
-// Where the first line from a place on starts that judges, or the list's end.
+// Where the first line from a place on starts that judges, or the list's end. Counted beside the `for`: the place is the answer, and `Parts` gives no places.
 fn judging_at(list: &[u8], from: usize) -> usize
     ensures { result ≡ judging_at list.now from }
 {

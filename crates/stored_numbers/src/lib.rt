@@ -18,7 +18,7 @@ use text_fields::Parts;
 pub fn told(n: usize, room: usize) -> Option<usize>
     ensures { result ≡ gathered n room }
 {
-    if n < room { Some(n) } else { None }
+    (n < room).then_some(n)
 }
 
 // The numbers of a line's fields.
@@ -127,7 +127,8 @@ fn put_lines(out: &mut [i64], lines: &[u8], asked: Asked) -> usize
     at
 }
 
-// The numbers that lines gather, put to the room lent from its start on.
+// The numbers that lines gather, put to the room lent from its start on. Two names over `put_lines`: of one, stored_run's contract (`Gathers`) would have to
+// name what was asked for.
 pub fn gather_numbers(lines: &[u8], out: &mut [i64]) -> Option<usize>
     ensures value { result ≡ gathered (length (each numbers_of (parts 10 lines.now))) (length out.old) }
     ensures out_after { out.new ≡ sets out.old 0 (each numbers_of (parts 10 lines.now)) }
@@ -136,7 +137,7 @@ pub fn gather_numbers(lines: &[u8], out: &mut [i64]) -> Option<usize>
     told(n, out.len())
 }
 
-// The numbers expected that lines gather.
+// The numbers expected that lines gather, in the same way.
 pub fn gather_expected(lines: &[u8], out: &mut [i64]) -> Option<usize>
     ensures value { result ≡ gathered (length (each expected_of (parts 10 lines.now))) (length out.old) }
     ensures out_after { out.new ≡ sets out.old 0 (each expected_of (parts 10 lines.now)) }

@@ -138,7 +138,8 @@ pub struct Run {
     pub passed: u64,
 }
 
-// Not `saturating_add`: the count stops at a million, far below what a number holds, and no number above is cut.
+// Not `saturating_add`: the count stops at a million, far below what a number holds, and no number above is cut. `line_buffer::next` is the same up to 2^60, in
+// the library, on which this run does not lean for it.
 fn one_more(n: u64) -> u64
     ensures { result ≡ more n }
 {

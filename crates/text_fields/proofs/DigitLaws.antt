@@ -2,6 +2,7 @@
 use Prim.Native.Nat.{ℕ, suc, ◌+◌, ◌*◌, ◌-◌, ◌^◌, ◌≤◌, ◌<◌}
 use mathlib.Core.Bool.{Bool, true, false, cond, ◌&&◌, not, and-false}
 use Rattle.std.specs.Prelude.{Option, None, Some}
+use Rattle.std.specs.Bool.{then_some}
 use mathlib.Core.List.{List, [], ◌∷◌}
 use mathlib.Core.Path.{◌≡◌, refl, sym, ap, ◌∙◌}
 use native.Mathlib.Omega.{arith}
@@ -36,6 +37,10 @@ unfolding digits_from
 too_large_lem n [] h = rw (le-ltb n (2 ^ 63))
 too_large_lem n (x ∷ xs) h = none_chosen (is_digit x) (digits_from (n * 10 + (x - 48)) xs) (too_large_lem (n * 10 + (x - 48)) xs (omega arith))
 
+chosen : (b : Bool) (n : ℕ) → then_some b n ≡ cond b (Some n) None
+chosen true n = refl
+chosen false n = refl
+
 -- where the digits from i on are read on from n: what comes of a byte there; r is what comes of all the digits
 module _ {r : Option ℕ} (s : List ℕ) (i n : ℕ) (now : limited (digits_from n (drop i s)) ≡ r) where
   module _ (h : i < length s) where
@@ -52,15 +57,12 @@ module _ {r : Option ℕ} (s : List ℕ) (i n : ℕ) (now : limited (digits_from
     one_digit {t} e q k = rw k (rw (sym e ∙ not-false t q) at here)
 
   module _ (h : length s ≤ i) where
-    pub end_small : n < 2 ^ 63 → Some n ≡ r
+    -- what is below 2^63 is the number
+    pub at_end : {d : Option ℕ} → d ≡ then_some (ltb n (2 ^ 63)) n → d ≡ r
     unfolding digits_from
-    end_small k = rw (drop_of_length-le s {i = i} h, lt-ltb n (2 ^ 63)) at now
+    at_end e = let w : limited (Some n) ≡ r = rw (drop_of_length-le s {i = i} h) at now in e ∙ chosen (ltb n (2 ^ 63)) n ∙ w
 
-    pub end_large : 2 ^ 63 ≤ n → None ≡ r
-    unfolding digits_from
-    end_large k = rw (drop_of_length-le s {i = i} h, le-ltb n (2 ^ 63)) at now
-
-pub ruleset digits = (rules, no_digit, too_large, one_digit, end_small, end_large)
+pub ruleset digits = (rules, no_digit, too_large, one_digit, at_end)
 
 limited_below : (d : Option ℕ) (n : ℕ) → limited d ≡ Some n → n < 2 ^ 63
 limited_below (Some m) n e = go (ltb m (2 ^ 63)) refl e

@@ -48,10 +48,11 @@ impl<'a> Iterator for Parts<'a> {
     }
 }
 
-// What an empty field holds.
+// What an empty field holds: a row's number for none (`rows::is_none`).
 const NONE: i64 = i64::MIN;
 
-// The value of the digits, where all are digits and it is below 2^63.
+// The value of the digits, where all are digits and it is below 2^63. Not by `parse`: it takes a plus in front, and a `&str`, for which the bytes would be gone
+// through once more.
 fn digits_value(s: &[u8]) -> Option<u64>
     ensures { result ≡ limited (digits_from 0 s.now) }
 {
@@ -62,7 +63,7 @@ fn digits_value(s: &[u8]) -> Option<u64>
         }
         n = n.checked_mul(10)?.checked_add(u64::from(*x - b'0'))?;
     }
-    if n < 1 << 63 { Some(n) } else { None }
+    (n < 1 << 63).then_some(n)
 }
 
 // At least one digit, and no zero in front of another.

@@ -47,7 +47,7 @@ fn read_fields(line: &[u8], rows: &mut [i64], base: usize) -> Fields
 fn judge_line(kind: &[u8], good: bool, n: usize) -> Result<(), Reason>
     ensures { result ≡ by_fields good kind.now n }
 {
-    if !good || kind.len() == 0 {
+    if !good || kind.is_empty() {
         return Err(Reason::Misspelt);
     }
     let number = rows::nat(text_fields::read_number(kind).unwrap_or(0));
@@ -61,7 +61,7 @@ fn judge_line(kind: &[u8], good: bool, n: usize) -> Result<(), Reason>
     }
 }
 
-// Zeros from one place of the rows to another.
+// Zeros from one place of the rows to another. Not by `fill`: what of the rows lies between the two places would have to be cut out first.
 fn fill_zeros(rows: &mut [i64], from: usize, to: usize)
     ensures { rows.new ≡ sets rows.old from (replicate (to - from) (pos 0)) }
 {

@@ -1,11 +1,10 @@
-use Rattle.freebusy_lines.proofs.FoldLaws.{plain}
+use Rattle.std.proofs.Common.{◌∙◌, rules}
+use Rattle.std.proofs.lemmas.Iterator.Search.{any_from_yields_List}
+use Rattle.freebusy_lines.specs.inner.Reading.{fold_first}
+use Rattle.freebusy_lines.proofs.FoldLaws.{windows_yield, any_window}
 use Rattle.freebusy_lines.proofs.has_fold.Goals as goal
 
-pub returns-then-is_fold : goal.returns-then-is_fold
-returns-then-is_fold c = search plain
-
-pub loop-i-preserved : goal.loop-i-preserved
-loop-i-preserved c = search plain
-
 pub returns : goal.returns
-returns c = search plain
+returns c =
+    any_from_yields_List fold_first _ _ _ c.any.ensures.ran (windows_yield c.args.s.now c.windows.ensures.size c.windows.ensures.rest) (λ x b q k. search rules)
+    ∙ any_window c.args.s.now

@@ -14,8 +14,5 @@ returns-in_err-n c = c.from_residual-in_err-n.ensures ∙ too_large c.args.s.now
 pub loop-x-preserved : goal.loop-x-preserved
 loop-x-preserved c = search digits
 
-pub returns-then-n : goal.returns-then-n
-returns-then-n c = search digits
-
-pub returns-else-n : goal.returns-else-n
-returns-else-n c = search digits
+pub returns : goal.returns
+returns c = search digits
