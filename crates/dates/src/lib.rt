@@ -73,6 +73,7 @@ pub fn is_date_time(s: &[u8]) -> bool
 }
 
 // The number of the two digits from i on.
+#[tactic(auto, using(crate::proofs::FieldLaws::numbers))]
 fn two_at(s: &[u8], i: usize) -> u64
     requires { i + 2 ≤ length s.now }
     ensures { (result ≡ digits_on 0 (field i 2 s.now)) × (result < 3000) }
@@ -80,6 +81,7 @@ fn two_at(s: &[u8], i: usize) -> u64
     letters::digit_of(s[i]) * 10 + letters::digit_of(s[i + 1])
 }
 
+#[tactic(auto, using(crate::proofs::FieldLaws::numbers))]
 fn year_of(s: &[u8]) -> u64
     requires { 4 ≤ length s.now }
     ensures { (result ≡ year s.now) × (result < 400000) }
@@ -112,6 +114,7 @@ fn is_real(s: &[u8]) -> bool
 }
 
 // The milliseconds from 1 January of the year 0.
+#[tactic(auto, using(crate::proofs::FieldLaws::sums))]
 fn milliseconds_of(s: &[u8]) -> u64
     requires { length s.now ≡ 16 }
     ensures { result ≡ milliseconds s.now }

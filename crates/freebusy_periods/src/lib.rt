@@ -36,6 +36,7 @@ fn cut(n: u64) -> u64
 }
 
 // Digits and a letter at the front.
+#[tactic(auto, using(crate::proofs::CapLaws::readings))]
 fn read_amount(s: &[u8]) -> Option<Amount<'_>>
     ensures counted { option_map counted_by result ≡ capped_count (counted s.now) }
     ensures small { IfSome result (λ a. a.count ≤ 4000000001) }
@@ -110,6 +111,7 @@ fn after_t(s: &[u8]) -> Option<u64>
 }
 
 // What follows a letter, which is given as a capital, where it comes first.
+#[tactic(auto, using(crate::proofs::DurationLaws::letter_none, crate::proofs::DurationLaws::letter_other, crate::proofs::DurationLaws::letter_here))]
 fn after_letter(c: u8, s: &[u8]) -> Option<&[u8]>
     ensures { MatchOption result (after_letter c s.now ≡ None) (λ rest. after_letter c s.now ≡ Some rest.now) }
 {
@@ -123,6 +125,7 @@ fn after_letter(c: u8, s: &[u8]) -> Option<&[u8]>
 }
 
 // dur-time = "T" (dur-hour / dur-minute / dur-second)
+#[tactic(auto, using(crate::proofs::DurationLaws::lettered))]
 fn dur_time(s: &[u8]) -> Option<u64>
     ensures { result ≡ capped (dur_time s.now) }
 {
@@ -144,6 +147,7 @@ fn after_p(s: &[u8]) -> Option<u64>
 }
 
 // "P" (dur-date / dur-time / dur-week)
+#[tactic(auto, using(crate::proofs::DurationLaws::lettered))]
 fn dur_unsigned(s: &[u8]) -> Option<u64>
     ensures { result ≡ capped (dur_unsigned s.now) }
 {
@@ -161,6 +165,7 @@ fn dur_value(s: &[u8]) -> Option<u64>
 }
 
 // What may follow the slash: a date and time, or a duration.
+#[tactic(auto, using(crate::proofs::PeriodLaws::endings))]
 fn is_end(e: &[u8]) -> bool
     ensures { result ≡ ends_period e.now }
 {

@@ -29,6 +29,7 @@ fn is_held(length: usize, n: usize, w: usize) -> bool
 }
 
 // One line more: written where the buffer holds it, and counted in any case.
+#[tactic(auto, using(crate::proofs::LineLaws::held_fits, crate::proofs::LineLaws::held_room, crate::proofs::LineLaws::put_held, crate::proofs::LineLaws::put_past))]
 pub fn put(out: &mut [i64], n: usize, line: &[i64]) -> usize
     ensures { sink out.new result ≡ put_line (length line.now) (sink out.old n) line.now }
 {

@@ -47,6 +47,7 @@ fn put_copies(out: &mut [u8], from: usize, n: u64, s: &[u8]) -> usize
     at
 }
 
+#[tactic(auto, using(loops::proofs::StoreLaws::wrote_as, crate::proofs::ByteLaws::gives_bytes, crate::proofs::ByteLaws::gives_no_bytes, loops::proofs::StoreLaws::wrote_none))]
 fn put_text(out: &mut [u8], at: usize, line: &[u8]) -> usize
     requires { at ≤ length out.old }
     ensures { Wrote out.old at out.new result (bytes_of line.now) }

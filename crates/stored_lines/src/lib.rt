@@ -83,6 +83,7 @@ fn has_count(line: &[u8]) -> bool
 }
 
 // Whether a line has a count and then numbers.
+#[tactic(auto, using(loops::proofs::BranchLaws::both_told, crate::proofs::FormLaws::body_spelled, loops::proofs::BranchLaws::one_told), unfolding(crate::specs::inner::Line::has_numbers))]
 fn has_numbers(line: &[u8]) -> bool
     ensures { result ≡ has_numbers line.now }
 {
@@ -90,6 +91,7 @@ fn has_numbers(line: &[u8]) -> bool
 }
 
 // The same of a row's at most ten numbers.
+#[tactic(auto, using(loops::proofs::BranchLaws::both_told, crate::proofs::FormLaws::body_short, loops::proofs::BranchLaws::one_told), unfolding(crate::specs::inner::Line::has_row))]
 fn has_row(line: &[u8]) -> bool
     ensures { result ≡ has_row line.now }
 {

@@ -106,6 +106,7 @@ fn put_pieces(out: &mut [i64], from: usize, n: u64, fields: &[u8], piece: Piece)
 }
 
 // What a line gives, where it is one of those that are asked for.
+#[tactic(auto, using(loops::proofs::StoreLaws::wrote_as, crate::proofs::GivesLaws::gives_none, loops::proofs::StoreLaws::wrote_none, crate::proofs::GivesLaws::gives_some))]
 fn put_line(out: &mut [i64], at: usize, line: &[u8], asked: Asked) -> usize
     requires { at ≤ length out.old }
     ensures { Wrote out.old at out.new result (line_gives asked line.now) }

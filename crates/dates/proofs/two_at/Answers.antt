@@ -1,5 +1,0 @@
-use Rattle.dates.proofs.FieldLaws.{numbers}
-use Rattle.dates.proofs.two_at.Goals as goal
-
-pub returns : goal.returns
-returns c = search numbers

@@ -1,5 +1,0 @@
-use Rattle.dates.proofs.FieldLaws.{numbers}
-use Rattle.dates.proofs.year_of.Goals as goal
-
-pub returns : goal.returns
-returns c = search numbers
