@@ -2,8 +2,10 @@
 use Prim.Native.Nat.{ℕ, suc, ◌+◌, ◌-◌, ◌≤◌, ◌<◌}
 use mathlib.Core.Bool.{Bool, true, false, cond}
 use mathlib.Core.List.{List, [], ◌∷◌}
-use Rattle.std.specs.Prelude.{None, Some}
-use mathlib.Core.Path.{◌≡◌, refl}
+use Rattle.std.specs.Prelude.{Option, None, Some}
+use Rattle.std.specs.Option.{MatchOption}
+use denote.Ref.{Bor}
+use mathlib.Core.Path.{◌≡◌, refl, ◌∙◌}
 use native.Mathlib.Omega.{arith}
 use native.Mathlib.Numerals.{add-one}
 use lib.Dec.{eqb}
@@ -38,3 +40,9 @@ module _ (b : ℕ) (s : List ℕ) {p : List ℕ} (e : p ≡ until_byte b s) wher
 
   pub rest_after : length p < length s → after b s ≡ Some (take (length s - (length p + 1)) (drop (length p + 1) s))
   rest_after h = rw (rest_is (length p + 1) s, e) (after_some b s (rw e at h))
+
+-- what follows the byte, as `split_at_first` gives it
+pub value_after : (b : ℕ) (s n : List ℕ) (r : Option (Bor (List ℕ))) → n ≡ until_byte b s
+    → MatchOption r (length s ≤ length n) (λ v. (length n < length s) × (v.now ≡ drop (length n + 1) s)) → MatchOption r (after b s ≡ None) (λ v. after b s ≡ Some v.now)
+value_after b s n None e h = nothing_after b s e h
+value_after b s n (Some v) e h = rw h.1 (rest_after b s e h.0 ∙ rw (rest_is (length n + 1) s))

@@ -9,13 +9,12 @@ use Rattle.std.proofs.lemmas.Option.{none-some, same_Some}
 use mathlib.Core.Path.{◌≡◌, refl, sym, ap, ap₂, ◌∙◌, subst}
 use native.Mathlib.Omega.{arith}
 use lib.Dec.{ltb, leb}
-use lib.ListN.{length, drop, take}
+use lib.ListN.{length, drop}
 use borrow.Author.Rules.{rules}
 use borrow.Author.Tests.{lt-leb, le-leb, lt-ltb, le-ltb, leb-true, ltb-true}
 use Rattle.loops.specs.Search.{some_if}
 use Rattle.loops.specs.Lists.{option, is_some}
-use Rattle.std.specs.Option.{SomeIff, is_some as std_is_some, ok_or}
-use Rattle.std.specs.Slice.{IsGetRangeResult}
+use Rattle.std.specs.Option.{SomeIff, MatchOption, is_some as std_is_some, ok_or}
 use denote.Ref.{Bor}
 use Rattle.text_fields.specs.Parts.{until_byte}
 use Rattle.dates.specs.DateTime.{instant, date_time, last_instant}
@@ -23,7 +22,7 @@ use Rattle.dates.proofs.InstantLaws.{instant_most}
 use Rattle.refusals.specs.declared.Reason.{Reason}
 use Rattle.refusals.specs.declared.Reason.TheVariants.{Malformed, Undated}
 use Rattle.freebusy_lines.specs.Bytes.{SLASH, after}
-use Rattle.freebusy_lines.proofs.AfterLaws.{nothing_after, rest_after}
+use Rattle.freebusy_lines.proofs.AfterLaws.{value_after}
 use Rattle.freebusy_periods.specs.Duration.{dur_value, is_back}
 use Rattle.freebusy_periods.specs.Period.{period_explicit, period_start, period, moved, end_from, span, window_of}
 use Rattle.freebusy_periods.specs.declared.Span.{Span}
@@ -116,55 +115,67 @@ module _ (e : List ℕ) {r : Bool} (p : r ≡ date_time e) where
 
 pub ruleset endings = (rules, ends_date, ends_duration, end_date, end_none, end_moved)
 
--- ---- a period, where f is what stands before the slash
-
--- what follows the slash, as the code hands it on
-abbrev rest : List ℕ → List ℕ → List ℕ
-rest s f = take (length s - (length f + 1)) (drop (length f + 1) s)
+-- ---- a period, where f is what stands before the slash, and g what follows it
 
 module _ (s : List ℕ) {f : List ℕ} (e : f ≡ until_byte SLASH s) where
   module _ {r : Bool} (p : r ≡ date_time f) where
     dated : date_time (until_byte SLASH s) ≡ r
     dated = sym (p ∙ ap date_time e)
 
-    pub period_undated : {o : Bool} → o ≡ false → r ≡ false → o ≡ period s
+    pub period_undated : r ≡ false → r ≡ period s
     unfolding period period_explicit period_start
-    period_undated z t = rw (dated ∙ t) z
+    period_undated t = rw (dated ∙ t) t
 
-    pub period_alone : {o : Bool} → o ≡ false → r ≡ true → length s ≤ length f → o ≡ period s
-    unfolding period period_explicit period_start
-    period_alone z t l = rw (dated ∙ t, nothing_after SLASH s e l) z
+  module _ {i : Option ℕ} (q : i ≡ instant f) {a : ℕ} (z : i ≡ Some a) where
+    started : instant (until_byte SLASH s) ≡ Some a
+    started = sym (sym z ∙ q ∙ ap instant e)
 
-    pub period_ends : {o : Bool} → r ≡ true → length f < length s → o ≡ ends_period (rest s f) → o ≡ period s
-    unfolding period period_explicit period_start ends_period
-    period_ends t l q = rw (dated ∙ t, rest_after SLASH s e l) q
+  -- what `split_at_first` gives behind it
+  module _ (g : Option (Bor (List ℕ))) (m : MatchOption g (length s ≤ length f) (λ v. (length f < length s) × (v.now ≡ drop (length f + 1) s))) where
+    none_behind : g ≡ None → after SLASH s ≡ None
+    none_behind y = rw y at (value_after SLASH s f g e m)
 
-  module _ {i : Option ℕ} (q : i ≡ instant f) where
-    pub window_early : i ≡ None → Err Undated ≡ window_of s
-    unfolding window_of
-    window_early z = let h : instant (until_byte SLASH s) ≡ None = sym (sym z ∙ q ∙ ap instant e) in rw h
+    some_behind : {v : Bor (List ℕ)} → g ≡ Some v → after SLASH s ≡ Some v.now
+    some_behind y = rw y at (value_after SLASH s f g e m)
 
-    module _ {a : ℕ} (z : i ≡ Some a) where
-      started : instant (until_byte SLASH s) ≡ Some a
-      started = sym (sym z ∙ q ∙ ap instant e)
+    module _ {r : Bool} (p : r ≡ date_time f) (t : r ≡ true) where
+      period_alone : {o : Bool} → g ≡ None → o ≡ false → o ≡ period s
+      unfolding period period_explicit period_start
+      period_alone y z = rw (dated p ∙ t, none_behind y) z
 
-      pub window_alone : length s ≤ length f → Err Undated ≡ window_of s
+      period_ends : {v : Bor (List ℕ)} {o : Bool} → g ≡ Some v → o ≡ ends_period v.now → o ≡ period s
+      unfolding period period_explicit period_start ends_period
+      period_ends y q = rw (dated p ∙ t, some_behind y) q
+
+      pub period_rest : {o : Bool} {P : Bor (List ℕ) → Type 0} → MatchOption g (o ≡ false) P → ((v : Bor (List ℕ)) → P v → o ≡ ends_period v.now) → o ≡ period s
+      period_rest {o} {P} h k = go g refl h
+        where
+          go : (w : Option (Bor (List ℕ))) → g ≡ w → MatchOption w (o ≡ false) P → o ≡ period s
+          go None y z = period_alone y z
+          go (Some v) y z = period_ends y (k v z)
+
+    module _ {i : Option ℕ} (q : i ≡ instant f) {a : ℕ} (z : i ≡ Some a) where
+      pub window_alone : g ≡ None → Err Undated ≡ window_of s
       unfolding window_of
-      window_alone l = rw (started, nothing_after SLASH s e l)
+      window_alone y = rw (started q z, none_behind y)
 
-      module _ (l : length f < length s) {j : Option ℕ} (g : j ≡ end_from a (rest s f)) where
+      module _ {v : Bor (List ℕ)} (y : g ≡ Some v) {j : Option ℕ} (k : j ≡ end_from a v.now) where
         pub window_late : j ≡ None → Err Undated ≡ window_of s
         unfolding window_of
-        window_late y = rw (started, rest_after SLASH s e l, sym (sym y ∙ g))
+        window_late l = rw (started q z, some_behind y, sym (sym l ∙ k))
 
-        module _ {b : ℕ} (y : j ≡ Some b) where
+        module _ {b : ℕ} (l : j ≡ Some b) where
           pub window_span : a < b → Ok (span a b) ≡ window_of s
           unfolding window_of
-          window_span h = rw (started, rest_after SLASH s e l, sym (sym y ∙ g), lt-ltb a b h)
+          window_span h = rw (started q z, some_behind y, sym (sym l ∙ k), lt-ltb a b h)
 
           pub window_not : b ≤ a → Err Malformed ≡ window_of s
           unfolding window_of
-          window_not h = rw (started, rest_after SLASH s e l, sym (sym y ∙ g), le-ltb a b h)
+          window_not h = rw (started q z, some_behind y, sym (sym l ∙ k), le-ltb a b h)
+
+  pub window_early : {i : Option ℕ} → i ≡ instant f → i ≡ None → Err Undated ≡ window_of s
+  unfolding window_of
+  window_early q z = let h : instant (until_byte SLASH s) ≡ None = sym (sym z ∙ q ∙ ap instant e) in rw h
 
 -- what `ok_or` was asked of, by its answer
 pub had : {A : Type 0} (o : Option A) {r : Result A Reason} {v : A} → r ≡ ok_or o Undated → r ≡ Ok v → o ≡ Some v
@@ -175,24 +186,9 @@ pub lacked : {A : Type 0} (o : Option A) {r : Result A Reason} {x : Reason} → 
 lacked None {r} {x} e q = let z : Err Undated ≡ Err x = sym e ∙ q in (refl, cc)
 lacked (Some y) {r} {x} e q = let z : Ok y ≡ Err x = sym e ∙ q in (cc, cc)
 
--- what follows the slash, as `get` gives it
-module _ (s f : List ℕ) where
-  pub not_got : (r : Option (Bor (List ℕ))) → IsGetRangeResult s (length f + 1) (length s) r → r ≡ None → length s ≤ length f
-  not_got None (inl h, _) z = omega arith
-  not_got None (inr h, _) z = absurd (omega arith)
-  not_got (Some y) g z = absurd (none-some _ (sym z))
-
-  pub got : (r : Option (Bor (List ℕ))) (y : Bor (List ℕ)) → IsGetRangeResult s (length f + 1) (length s) r → r ≡ Some y → (length f < length s) × (y.now ≡ rest s f)
-  got None y g z = absurd (none-some _ z)
-  got (Some x) y (h, _) z = (omega (arith, h.0), ap (λ (b : Bor (List ℕ)). b.now) (sym (same_Some _ _ z)) ∙ h.2)
-
 -- a start is in the range
 pub start_most : {i : Option ℕ} (f : List ℕ) {a : ℕ} → i ≡ instant f → i ≡ Some a → a ≤ 4000000000000
 start_most f {a} q z = instant_most f a (sym z ∙ q)
-
-pub ruleset periods = (rules, period_undated, period_alone, period_ends)
-
-pub ruleset windows = (rules, start_most, window_early, window_alone, window_late, window_span, window_not)
 
 -- ---- a window lies in the range of instants, and ends after its start
 

@@ -176,9 +176,8 @@ fn is_end(e: &[u8]) -> bool
 pub fn is_period(s: &[u8]) -> bool
     ensures { result ≡ period s.now }
 {
-    let start = text_fields::first_part(s, b'/');
-    let n = start.len();
-    dates::is_date_time(start) && n < s.len() && is_end(&s[n + 1..])
+    let (start, end) = text_fields::split_at_first(s, b'/');
+    dates::is_date_time(start) && end.is_some_and(is_end)
 }
 
 // So many seconds before an instant, none where that is before 1970: the library's `checked_sub`, under the definition's `moved`.
@@ -224,11 +223,9 @@ fn end_from(a: u64, e: &[u8]) -> Option<u64>
 pub fn window_of(s: &[u8]) -> Result<Span, Reason>
     ensures { result ≡ window_of s.now }
 {
-    let f = text_fields::first_part(s, b'/');
-    let n = f.len();
+    let (f, e) = text_fields::split_at_first(s, b'/');
     let start = dates::read_instant(f).ok_or(Reason::Undated)?;
-    let e = s.get(n + 1..).ok_or(Reason::Undated)?;
-    let end = end_from(start, e).ok_or(Reason::Undated)?;
+    let end = end_from(start, e.ok_or(Reason::Undated)?).ok_or(Reason::Undated)?;
     if start < end {
         Ok(Span { start, end })
     } else {

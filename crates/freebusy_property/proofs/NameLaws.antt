@@ -1,28 +1,13 @@
 -- Laws of names: what stands before a byte or while a test passes, and what follows it. Assumes nothing.
-use Rattle.std.proofs.Common.{◌≡◌, refl, sym, ◌∙◌, ap, ℕ, ◌+◌, ◌<◌, ◌≤◌, Bool, true, false, cond, not, List, [], ◌∷◌, Option, None, Some, Bor, MatchOption, length, take, drop, arith}
+use Rattle.std.proofs.Common.{◌≡◌, refl, sym, ◌∙◌, ap, ℕ, ◌+◌, Bool, true, false, cond, not, List, [], ◌∷◌, Option, None, Some, length, take, arith}
 use native.Mathlib.Numerals.{one-add}
 use lib.Dec.{eqb, ltb}
 use lib.Seq.{take_all}
 use borrow.Author.Tests.{ltb-false, ne_eqb}
 use Rattle.std.specs.List.{position_or_len, position}
 use Rattle.std.specs.Option.{unwrap_or}
-use Rattle.std.specs.Slice.{IsGetRangeResult}
 use Rattle.loops.specs.Lists.{is_empty}
-use Rattle.loops.proofs.ListLaws.{rest_is}
-use Rattle.text_fields.specs.Parts.{until_byte}
-use Rattle.text_fields.proofs.PartLaws.{got_after}
-use Rattle.freebusy_lines.specs.Bytes.{leading, after}
-use Rattle.freebusy_lines.proofs.AfterLaws.{nothing_after, rest_after}
-
--- what follows the byte, as `get` gives it
-pub value_after : (b : ℕ) (s n : List ℕ) (r : Option (Bor (List ℕ))) → n ≡ until_byte b s → IsGetRangeResult s (length n + 1) (length s) r
-    → MatchOption r (after b s ≡ None) (λ v. after b s ≡ Some v.now)
-value_after b s n r e g = go r (got_after (length n + 1) s r g)
-  where
-    go : (r : Option (Bor (List ℕ))) → MatchOption r (length s < length n + 1) (λ y. (length n + 1 ≤ length s) × (y.now ≡ drop (length n + 1) s))
-        → MatchOption r (after b s ≡ None) (λ v. after b s ≡ Some v.now)
-    go None h = nothing_after b s e (omega arith)
-    go (Some v) h = rw h.1 (rest_after b s e (omega (arith, h.0)) ∙ rw (rest_is (length n + 1) s))
+use Rattle.freebusy_lines.specs.Bytes.{leading}
 
 module _ (p : ℕ → Bool) where
   leading_place : (xs : List ℕ) → take (position_or_len (λ x. not (p x)) xs) xs ≡ leading p xs

@@ -30,8 +30,7 @@ fn split_name(p: &[u8]) -> (&[u8], Option<&[u8]>)
     ensures name { result.0.now ≡ param_name p.now }
     ensures value { MatchOption result.1 (after EQUALS p.now ≡ None) (λ v. after EQUALS p.now ≡ Some v.now) }
 {
-    let name = text_fields::first_part(p, b'=');
-    (name, p.get(name.len() + 1..))
+    text_fields::split_at_first(p, b'=')
 }
 
 #[tactic(auto, unfolding(crate::specs::Property::param))]

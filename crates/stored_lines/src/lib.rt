@@ -47,9 +47,9 @@ pub fn count_of(line: &[u8]) -> u64
 pub fn piece_of(line: &[u8]) -> &[u8]
     ensures { result.now ≡ piece line.now }
 {
-    let rest = body_of(line);
-    let count = text_fields::first_part(rest, b',');
-    rest.get(count.len() + 1..).unwrap_or(&[])
+    text_fields::split_at_first(body_of(line), b',')
+        .1
+        .unwrap_or(&[])
 }
 
 // ---- whether the lines of a case are formed

@@ -94,18 +94,18 @@ parts_count b (x ∷ xs) = go (eqb x b) (parts b xs) (parts_count b xs)
     go false [] h = omega arith
     go false (p ∷ ps) h = omega arith
 
+-- what follows the first part, as `get` gives it
+pub split_rest : (xs part : List ℕ) (r : Option (Bor (List ℕ))) → IsGetRangeResult xs (length part + 1) (length xs) r
+    → MatchOption r (length xs ≤ length part) (λ y. (length part < length xs) × (y.now ≡ drop (length part + 1) xs))
+split_rest xs part None (inl h, _) = omega arith
+split_rest xs part None (inr h, _) = absurd (omega arith)
+split_rest xs part (Some y) (h, _) = (omega (arith, h.0), h.2 ∙ take_all (length xs - (length part + 1)) (drop (length part + 1) xs) (simp length-drop (omega arith)))
+
 -- a turn of the iterator: the first part, and what it has left after it
 pub parts_turn : (b : ℕ) (rest part : List ℕ) (r : Option (Bor (List ℕ))) → part ≡ until_byte b rest
-    → MatchOption r (length rest < length part + 1) (λ y. (length part + 1 ≤ length rest) × (y.now ≡ drop (length part + 1) rest))
+    → MatchOption r (length rest ≤ length part) (λ y. (length part < length rest) × (y.now ≡ drop (length part + 1) rest))
     → parts b rest ≡ part ∷ parts_left (record { rest = r; stop = b })
-parts_turn b rest part None q h = parts_only b rest part q (omega arith)
+parts_turn b rest part None q h = parts_only b rest part q h
 parts_turn b rest part (Some y) q h =
-    let l : length (until_byte b rest) < length rest = rw (← q) (omega (arith, h.0)) in
+    let l : length (until_byte b rest) < length rest = rw (← q) h.0 in
     rw (h.1, q) (parts_more b rest l)
-
--- what `get` gives of the bytes after a place
-pub got_after : (n : ℕ) (xs : List ℕ) (r : Option (Bor (List ℕ))) → IsGetRangeResult xs n (length xs) r
-    → MatchOption r (length xs < n) (λ y. (n ≤ length xs) × (y.now ≡ drop n xs))
-got_after n xs None (inl h, _) = h
-got_after n xs None (inr h, _) = absurd (omega arith)
-got_after n xs (Some y) (h, _) = (h.0, h.2 ∙ take_all (length xs - n) (drop n xs) (simp length-drop (omega arith)))

@@ -1,7 +1,7 @@
 // A field of a line: the part of the text that it is, and the number that it spells.
 #![tactic(auto)]
 
-ghost use Rattle.std.specs.Prelude.{◌≡◌, ◌^◌, ◌<◌, Some};
+ghost use Rattle.std.specs.Prelude.{◌≡◌, ◌+◌, ◌^◌, ◌<◌, ◌≤◌, length, drop, Some, MatchOption};
 ghost use Rattle.std.specs.Iterator.{YieldsFirstBy, item_count};
 ghost use Rattle.text_fields.specs.Parts.{until_byte, parts, parts_left};
 ghost use Rattle.text_fields.specs.Spelling.{digits_from, limited, digits_of, number_of, negative};
@@ -12,6 +12,15 @@ pub fn first_part(s: &[u8], stop: u8) -> &[u8]
 {
     let end = s.iter().position(|x| *x == stop).unwrap_or(s.len());
     &s[..end]
+}
+
+// The same, and what follows that `stop`, if there is one.
+pub fn split_at_first(s: &[u8], stop: u8) -> (&[u8], Option<&[u8]>)
+    ensures first { result.0.now ≡ until_byte stop s.now }
+    ensures rest { MatchOption result.1 (length s.now ≤ length result.0.now) (λ v. (length result.0.now < length s.now) × (v.now ≡ drop (length result.0.now + 1) s.now)) }
+{
+    let first = first_part(s, stop);
+    (first, s.get(first.len() + 1..))
 }
 
 // The parts of a text between the bytes `stop`, as std's `split` gives them. A byte in place of a closure: so a caller's proof has `parts`, and no
@@ -41,9 +50,8 @@ impl<'a> Iterator for Parts<'a> {
     ghost remaining = { item_count parts_left };
 
     fn next(&mut self) -> Option<&'a [u8]> {
-        let rest = self.rest?;
-        let part = first_part(rest, self.stop);
-        self.rest = rest.get(part.len() + 1..);
+        let (part, rest) = split_at_first(self.rest?, self.stop);
+        self.rest = rest;
         Some(part)
     }
 }

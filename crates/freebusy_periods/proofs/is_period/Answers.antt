@@ -1,9 +1,10 @@
-use Rattle.std.proofs.Common.{inl, inr}
-use Rattle.freebusy_periods.proofs.PeriodLaws.{periods}
+use Rattle.std.proofs.Common.{rules}
+use Rattle.freebusy_periods.proofs.PeriodLaws.{period_undated, period_rest}
 use Rattle.freebusy_periods.proofs.is_period.Goals as goal
 
-pub returns-then-n-s : goal.returns-then-n-s
-returns-then-n-s c = search periods
+pub returns-then-is_date_time : goal.returns-then-is_date_time
+returns-then-is_date_time c =
+    period_rest _ c.split_at_first.ensures.first c.split_at_first.result.1 c.split_at_first.ensures.rest c.is_date_time.ensures c.if-is_date_time.true c.is_some_and.ensures (λ v p. search rules)
 
-pub returns-else-n-s : goal.returns-else-n-s
-returns-else-n-s c = elim c.if-n-s.either [ inl h ↦ search periods | inr h ↦ search periods ]
+pub returns-else-is_date_time : goal.returns-else-is_date_time
+returns-else-is_date_time c = period_undated _ c.split_at_first.ensures.first c.is_date_time.ensures c.if-is_date_time.false
