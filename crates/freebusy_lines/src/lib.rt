@@ -39,6 +39,7 @@ fn is_line_end(s: &[u8]) -> bool
 }
 
 // The first line of a text as it is sent, without its end.
+#[tactic(auto, using(crate::proofs::SentLaws::sendings))]
 pub fn first_line(s: &[u8]) -> &[u8]
     ensures { result.now ≡ first_sent s.now }
 {
@@ -91,6 +92,7 @@ impl<'a> Iterator for SentLines<'a> {
 }
 
 // Whether a line holds a fold; one that holds none is as it is unfolded.
+#[tactic(auto, using(crate::proofs::FoldLaws::plain))]
 pub fn has_fold(s: &[u8]) -> bool
     ensures { result ≡ is_folded s.now }
 {
