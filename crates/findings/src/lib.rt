@@ -89,6 +89,7 @@ fn put(out: &mut [i64], n: usize, f: Violation) -> usize
 }
 
 // The finding where the test holds, else nothing.
+#[tactic(auto, using(crate::proofs::SinkLaws::emit_yes, crate::proofs::SinkLaws::emit_no))]
 fn report(out: &mut [i64], n: usize, yes: bool, f: Violation) -> usize
     requires { f.entity < 9223372036854775808 }
     ensures { sink out.new result ≡ emit (sink out.old n) (given yes f) }

@@ -39,6 +39,7 @@ fn is_line_end(s: &[u8]) -> bool
 }
 
 // The first line of a text as it is sent, without its end. By place, and not by `windows`: a line may end with the text, two bytes from its end.
+#[tactic(auto, using(crate::proofs::SentLaws::sendings))]
 pub fn first_line(s: &[u8]) -> &[u8]
     ensures { result.now ≡ first_sent s.now }
 {

@@ -19,6 +19,7 @@ const FIRST_TOO_LARGE: u64 = 4294967296;
 
 // The product ms * work has up to 84 bits. It is divided in two halves of work, 21 bits each, as in long division with two digits;
 // what is left at the end, doubled, rounds. Division of u128 is a routine that a program linked without libraries does not have.
+#[tactic(auto, using(crate::proofs::Laws::share_none, crate::proofs::Laws::high_fits, crate::proofs::Laws::share_beyond, crate::proofs::Laws::rest_fits, crate::proofs::Laws::low_fits, crate::proofs::Laws::sum_fits, crate::proofs::Laws::digits_fit, crate::proofs::Laws::twice_fits, crate::proofs::Laws::share_fits, crate::proofs::Laws::share_is))]
 fn divide(ms: u64, work: u64, whole: u64) -> Result<u64, TooLarge>
     requires { (ms ≤ 4000000000000) × (work ≤ 4000000000000) × (whole ≤ 4000000000000) }
     ensures { result ≡ limited (Some (share_of ms work whole)) }

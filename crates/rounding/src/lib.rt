@@ -50,6 +50,7 @@ fn round(x: f64) -> Result<u64, TooLarge>
 }
 
 // A processing time divided by a product of speeds.
+#[tactic(auto, using(crate::proofs::Laws::divided_is))]
 pub fn divided(process: u64, product: f64) -> Result<u64, TooLarge>
     ensures { result ≡ limited (divided_by process product) }
 {

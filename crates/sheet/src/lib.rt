@@ -67,6 +67,7 @@ pub fn or_end(rows: &[i64], place: Option<usize>) -> usize
 }
 
 // The row that a stored place names.
+#[tactic(auto, using(crate::proofs::Stored::stored_some, crate::proofs::Stored::stored_none))]
 pub fn stored_place(rows: &[i64], i: usize) -> Option<usize>
     ensures { result ≡ stored_place rows.now i }
 {
@@ -132,6 +133,7 @@ fn set_place(t: &mut [u16; 800], k: usize, i: usize)
 }
 
 // Keeps what was found for row k.
+#[tactic(auto, using(crate::proofs::Keeping::kept_small, crate::proofs::Keeping::kept_set))]
 pub fn keep_place(rows: &[i64], t: &mut [u16; 800], k: usize, place: Option<usize>)
     requires { (row_count rows.now ≤ 800) × (k < 800) × IsRow rows.now place }
     ensures { t.new ≡ set t.old k (or_end rows.now place) }
@@ -140,6 +142,7 @@ pub fn keep_place(rows: &[i64], t: &mut [u16; 800], k: usize, place: Option<usiz
 }
 
 // What was kept for row k.
+#[tactic(auto, using(crate::proofs::Keeping::kept_read))]
 pub fn kept_place(rows: &[i64], t: &[u16; 800], k: usize) -> Option<usize>
     requires { k < 800 }
     ensures { result ≡ stored_place rows.now (get_or t.now k 0) }

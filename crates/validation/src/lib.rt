@@ -33,6 +33,7 @@ fn first_fault<F: Fn(usize) -> Verdict>(count: usize, fault: F) -> Verdict
 }
 
 // Refusals 1 to 3.
+#[tactic(auto, using(loops::proofs::BranchLaws::told, loops::proofs::BranchLaws::else_yes, loops::proofs::BranchLaws::else_no), unfolding(crate::specs::inner::Answer::shape_refusal))]
 fn shape_fault(rows: &[i64]) -> Verdict
     ensures { verdict_of result ≡ shape_refusal rows.now }
 {
