@@ -12,7 +12,7 @@ use lib.Ieee.Positive.{num, den}
 use Rattle.rounding.specs.Rounding.{half_up, rounded, divided_by}
 use Rattle.rounding.specs.inner.Limited.{limited, too_large}
 use Rattle.rounding.specs.declared.TooLarge.{TooLarge}
-use Rattle.std.specs.Prelude.{None, Some, Result, Ok}
+use Rattle.std.specs.Prelude.{Some, Result, Ok}
 use lib.Ieee.Bits.{nan_bits_is, nan_bits_above}
 
 -- what `fits` says of a number
