@@ -60,9 +60,9 @@ impl<const N: usize> ChainTable<N> {
     }
 
     // The first place below an end that passes the test, of those of a chain from one of its places on; a place from the end on where none does. A loop by hand, below
-    // the walks by name and by owner: `iter::successors` looks up the next place as it gives one, so that of the place found in vain, and takes closures of its own for
-    // the step and the end. Inlined before LLVM turns the loop: a test that reads a row at the place then needs no bounds check of its own, a half in a hundred of a
-    // validation.
+    // the walks by name and by owner: `iter::successors` looks up the next place as it gives one, so that of the place found in vain, and takes closures of its
+    // own for the step and the end. Inlined before LLVM turns the loop: a test that reads a row at the place then needs no bounds check of its own, a half in a
+    // hundred of a validation.
     #[inline(always)]
     pub fn find_from<F: Fn(usize) -> bool>(&self, from: usize, end: usize, test: F) -> usize
         requires within { end ≤ N }
