@@ -255,8 +255,8 @@ fn is_too_large(rows: &[i64], need: &[u64; 800], k: usize) -> bool
     REFUSED <= need[k]
 }
 
-// The first booking of a known activity whose derived time is not finite, or 2^53 or more. A loop of its own: `first_fault` of validation is handed the verdict on
-// each row, which would be a function more here, as long as this loop.
+// The first booking of a known activity whose derived time is not finite, or 2^53 or more. A loop of its own: `first_fault` of validation is handed the verdict
+// on each row, which would be a function more here, as long as this loop.
 #[tactic(auto, using(loops::proofs::SearchLaws::first_miss, crate::proofs::Refusing::refused_at, crate::proofs::Refusing::fault_some, crate::proofs::Refusing::fault_none, crate::proofs::Refusing::not_refused))]
 pub fn refused(rows: &[i64], need: &[u64; 800]) -> Verdict
     requires { Times rows.now need.now }

@@ -31,8 +31,8 @@ fn is_unowned(rows: &OwnerLinks, k: usize) -> bool
 {
     let kind = rows.num(k, 0);
     let Some(o) = rows.find_owner(k) else {
-        // Bookings and time-only spans, the last two kinds, may name what is not in the sheet. By the number: `owner_kind` asks for it, and one comparison tells the
-        // two, which a match would list.
+        // Bookings and time-only spans, the last two kinds, may name what is not in the sheet. By the number: `owner_kind` asks for it, and one comparison
+        // tells the two, which a match would list.
         return kind < Kind::Booking.number() && owners::owner_kind(kind).is_some();
     };
     let Some(owner) = owners::owner_kind(kind) else {
@@ -45,7 +45,8 @@ fn is_unowned(rows: &OwnerLinks, k: usize) -> bool
     }
 }
 
-// Refusal 4 of row k. As refusal 5 below, two lines with a test of its own, which is the contract: handed the test, one function of both would be these lines again.
+// Refusal 4 of row k. As refusal 5 below, two lines with a test of its own, which is the contract: handed the test, one function of both would be these
+// lines again.
 #[tactic(auto, unfolding(sheet::specs::Refusals::owner_fault))]
 pub fn owner_fault(rows: &OwnerLinks, k: usize) -> Verdict
     requires { k < row_count rows.now }

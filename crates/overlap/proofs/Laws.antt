@@ -1,13 +1,14 @@
 -- A share of a span. Assumes nothing.
-use Rattle.std.proofs.Common.{◌≡◌, ℕ, zero, suc, ◌+◌, ◌-◌, ◌*◌, ◌/◌, ◌%◌, ◌^◌, ◌<◌, ◌≤◌, Bool, true, false, cond, not, ◌&&◌, ◌||◌, T, eqb, ltb, leb, ◌⊎◌, pos, negsuc, ◌+ℤ◌, ◌-ℤ◌, neg_ℤ, sym, refl, ap, ◌∙◌, subst, inl, inr, true≢false, le_trans, le_of_eq, lt_of_lt_of_le, lt_of_le_of_lt, mul-le-mul_right, mod-lt, mod-eq_of_lt, mul_comm, div-lt_iff_lt-mul, add-mul, mul-le-mul, lt_of_mul-lt-mul_right, eq-or-lt_of_le, mul-lt-mul_of_pos_right, mul-pos, div-add-mod', mul-one, mul_right_comm, le_of_mul-le-mul_right, mul_left_comm, arith, lit≤, le→leb, eqb→eq, ltb→lt, leb→le, pow_pos, pow_mono, w64, Fits, ltb-false, ltb-true, le-ltb, lt-ltb, ne_eqb}
-use native.Mathlib.Nat.{div-eq_of_lt-le}
+use Rattle.std.proofs.Common.{◌≡◌, ℕ, zero, suc, ◌+◌, ◌-◌, ◌*◌, ◌/◌, ◌%◌, ◌^◌, ◌<◌, ◌≤◌, Bool, true, false, cond, not, ◌&&◌, ◌||◌, T, eqb, ltb, leb, ◌⊎◌, pos, negsuc, ◌+ℤ◌, ◌-ℤ◌, neg_ℤ, sym, refl, ap, ◌∙◌, subst, inl, inr, true≢false, le_trans, le_of_eq, lt_of_le_of_lt, mul-le-mul_right, mod-eq_of_lt, mul_comm, div-lt_iff_lt-mul, add-mul, mul-le-mul, eq-or-lt_of_le, mul-lt-mul_of_pos_right, mul-pos, mul-one, mul_right_comm, le_of_mul-le-mul_right, mul_left_comm, arith, lit≤, le→leb, eqb→eq, ltb→lt, leb→le, pow_pos, pow_mono, le-ltb, lt-ltb, ne_eqb}
 use borrow.Author.Tests.{lt-leb}
 use lib.Ieee.{Float, nan, inf, fin, Format, binary64, prec, emax, low, up, down, odd, units, round, mul, of_int, lt, le, to_unsigned, neg, of_fields, of_bits}
 use lib.Ieee.Fits.{down_pos, round_is}
 use lib.Ieee.Exact.{HasValue, odd_sign}
 use lib.Ieee.Back.{round_whole}
+use Rattle.std.specs.Float.{ceil, round_with}
+use Rattle.std.proofs.Math.Nat.{div-one}
 use lib.Ieee.Order.{round_mono}
-use lib.Ieee.Positive.{num, den, den_pos}
+use lib.Ieee.Positive.{num, den}
 use Rattle.rounding.proofs.Laws.{Cut, cut_of_value}
 use Rattle.overlap.specs.Bounds.{ceil_div, ceiling, ceiling_share}
 use Rattle.overlap.specs.inner.Shares.{is_share, product}
@@ -107,38 +108,21 @@ held (fin false m e) n h k =
       whole_le = omega arith;
     }
 
--- k < x as floats
-pub whole_lt : (k : ℕ) (x : Float) → k ≤ 2 ^ 53 → T (plain x) → (lt (of_int binary64 (pos k)) x ≡ true → k * den x < num x) × (lt (of_int binary64 (pos k)) x ≡ false → num x ≤ k * den x)
-unfolding lt of_int
-whole_lt k nan h t = absurd t
-whole_lt k (inf s) h t = absurd t
-whole_lt k (fin true m e) h t = absurd t
-whole_lt k (fin false m e) h t = go (round binary64 false k 1) (round_whole binary64 false k h)
-  where
-    go : (y : Float) → HasValue y false k 1 → (lt y (fin false m e) ≡ true → k * down e < m * up e) × (lt y (fin false m e) ≡ false → m * up e ≤ k * down e)
-    go nan v = absurd v
-    go (inf s) v = absurd v
-    go (fin true p g) v = absurd (true≢false v.0)
-    go (fin false p g) v =
-        let l : p * up g * down e ≡ k * down e * down g = ap (λ (z : ℕ). z * down e) (sym (mul-one (p * up g)) ∙ v.1) ∙ mul_right_comm k (down g) (down e) in (
-          (λ b. lt_of_mul-lt-mul_right (down g) (subst (λ (z : ℕ). z < m * up e * down g) l (ltb-true (p * up g * down e) (m * up e * down g) b))),
-          (λ b. le_of_mul-le-mul_right (subst (λ (z : ℕ). m * up e * down g ≤ z) l (ltb-false (p * up g * down e) (m * up e * down g) b)) (down_pos g)),
-        )
-
--- the next whole number
-pub ceil_more : (a d : ℕ) → 0 < d → a / d * d < a → a / d + 1 ≡ ceil_div a d
-ceil_more a d D h =
-    let r = mod-lt a D in
-    let s = div-add-mod' a d in
-    let u = add-mul (a / d) 1 d in
-    let v = add-mul (a / d + 1) 1 d in
-    sym (div-eq_of_lt-le d (omega arith) (omega arith))
-
-pub ceil_same : (a d : ℕ) → 0 < d → a ≤ a / d * d → a / d ≡ ceil_div a d
-ceil_same a d D h =
-    let s = div-add-mod' a d in
-    let u = add-mul (a / d) 1 d in
-    sym (div-eq_of_lt-le d (omega arith) (omega arith))
+-- a plain float to the next whole number
+ceil_cut : (x : Float) (n : ℕ) → n ≤ 2 ^ 53 → T (plain x) × (num x ≤ n * den x) → Cut (ceil binary64 x) (ceil_div (num x) (den x)) 1 × (ceil_div (num x) (den x) ≤ n)
+unfolding round_with
+ceil_cut nan n h k = absurd k.0
+ceil_cut (inf s) n h k = absurd k.0
+ceil_cut (fin true m e) n h k = absurd k.0
+ceil_cut (fin false m e) n h k =
+    let D = down_pos e in
+    let l : ceil_div (m * up e) (down e) < n + 1 = (div-lt_iff_lt-mul D).1 (let K = k.1 in let M = add-mul n 1 (down e) in omega arith) in
+    let c : (m * up e + down e - 1) / down e ≡ ceil_div (m * up e) (down e) = ap (λ (z : ℕ). z / down e) (omega arith) in (
+      rw c
+          (cut_of_value (round binary64 false (ceil_div (m * up e) (down e)) 1) false (ceil_div (m * up e) (down e)) 1
+          (round_whole binary64 false (ceil_div (m * up e) (down e)) (omega arith)) (omega arith) (λ r. absurd (true≢false (sym r))) (omega arith)),
+      omega arith,
+    )
 
 -- ---- the bit patterns of the floats from 0.0 to 1.0
 of_value : (y : Float) (a c : ℕ) → 0 < c → HasValue y false a c → a ≤ c → T (is_share y)
@@ -197,32 +181,21 @@ module _ (s : Float) (n : ℕ) (t : T (is_share s)) (h : n ≤ 4000000000000) wh
     pub cut_le : k ≤ n
     cut_le = let w = known.whole_le in let q = cut_is in omega arith
 
-    pub cut_held : T (leb k (2 ^ 53))
-    cut_held = le→leb k (2 ^ 53) (let w = cut_le in omega arith)
+  module _ {y : Float} (e : y ≡ ceil binary64 (product s n)) where
+    raised : Cut y (ceil_div (num (product s n)) (den (product s n))) 1 × (ceil_div (num (product s n)) (den (product s n)) ≤ n)
+    raised = rw e (ceil_cut (product s n) n (omega arith) (share_of_lem s n t (omega arith)))
 
-    pub cut_fits : Fits w64 (k + 1)
-    cut_fits = let w = cut_le in record { fits = omega arith }
+    pub ceil_above : T (lt (fin true 1 (pos 0)) y)
+    ceil_above = raised.0.above
 
-    more : lt (of_int binary64 (pos k)) (product s n) ≡ true → (k + 1 ≡ ceil_div (num (product s n)) (den (product s n))) × (k + 1 ≤ n)
-    more b =
-        let p = product s n in
-        let l : k * den p < num p = (whole_lt k p (let w = cut_le in omega arith) is_plain).0 b in (
-          ap (λ (z : ℕ). z + 1) cut_is ∙ ceil_more (num p) (den p) (den_pos p) (subst (λ (z : ℕ). z * den p < num p) cut_is l),
-          let q : k < n = lt_of_mul-lt-mul_right (den p) (lt_of_lt_of_le l (share_of_lem s n t (omega arith)).1) in
-              omega arith,
-        )
+    pub ceil_below : T (lt y (fin false 1 (pos 64)))
+    ceil_below = raised.0.below
 
-    pub ahead_more : lt (of_int binary64 (pos k)) (product s n) ≡ true → k + 1 ≡ ceil_div (num (product s n)) (den (product s n))
-    ahead_more b = (more b).0
+    pub ceil_is : {k : ℕ} → k ≡ to_unsigned 64 y → k ≡ ceil_div (num (product s n)) (den (product s n))
+    ceil_is q = q ∙ raised.0.whole ∙ div-one (ceil_div (num (product s n)) (den (product s n)))
 
-    pub more_within : lt (of_int binary64 (pos k)) (product s n) ≡ true → k + 1 ≤ n
-    more_within b = (more b).1
-
-    pub ahead_same : lt (of_int binary64 (pos k)) (product s n) ≡ false → k ≡ ceil_div (num (product s n)) (den (product s n))
-    ahead_same b =
-        let p = product s n in
-        let l : num p ≤ k * den p = (whole_lt k p (let w = cut_le in omega arith) is_plain).1 b in
-        cut_is ∙ ceil_same (num p) (den p) (den_pos p) (subst (λ (z : ℕ). num p ≤ z * den p) cut_is l)
+    pub ceil_le : {k : ℕ} → k ≡ to_unsigned 64 y → k ≤ n
+    ceil_le q = let w = raised.1 in let c = ceil_is q in omega arith
 
 -- ---- the sign
 odd_neg : (d q k l : ℕ) → odd d true q k l ≡ neg (odd d false q k l)

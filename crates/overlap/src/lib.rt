@@ -29,8 +29,7 @@ impl Share {
         ensures { (result ≡ ceil_div (num (product self.value span)) (den (product self.value span))) × (result ≤ span) }
     {
         let x = self.value * (span as f64);
-        let cut = std::num::truncating_f64_to_u64(x);
-        if (cut as f64) < x { cut + 1 } else { cut }
+        std::num::truncating_f64_to_u64(x.ceil())
     }
 
     // value * span, rounded down.

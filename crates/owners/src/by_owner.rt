@@ -132,8 +132,8 @@ pub trait OwnerIndex: Rows {
 }
 
 // Three types of rows, by which tables are filled: `OwnerLinks`, `ByOwner`, and `Owners` with both. The table of a `ByOwner` is filled from an `OwnerLinks`
-// (`owned_into`), whose own is filled from a `ByKind` (`links_into`), and whoever only walks, or only looks up owners, asks no more of a caller. One type for the
-// three would have to say at each use which tables it has.
+// (`owned_into`), whose own is filled from a `ByKind` (`links_into`), and whoever only walks, or only looks up owners, asks no more of a caller. One type for
+// the three would have to say at each use which tables it has.
 
 // The rows of a sheet with the table of owners; seen as the rows. There is no heap: tables are arrays that are lent.
 #[derive(Drop)]

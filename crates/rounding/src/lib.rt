@@ -38,12 +38,12 @@ pub fn limit(ms: u64) -> Result<u64, TooLarge>
     if ms < LIMIT { Ok(ms) } else { Err(TooLarge) }
 }
 
-// x to the nearest whole number, halves away from zero. Doubling is exact, where adding a half is not.
+// x to the nearest whole number, halves away from zero.
 fn round(x: f64) -> Result<u64, TooLarge>
     ensures { result ≡ limited (rounded x) }
 {
     if x >= 0.0 && x < LIMIT_F64 {
-        Ok((std::num::truncating_f64_to_u64(x * 2.0) + 1) / 2)
+        Ok(std::num::truncating_f64_to_u64(x.round()))
     } else {
         Err(TooLarge)
     }

@@ -1,7 +1,6 @@
 -- `rounding::round` meets its contract. Assumes nothing.
 use lib.Ieee.{of_bits}
-use Rattle.rounding.proofs.Laws.{twice_above, twice_under, twice_fits, nearest_is, above_limit, below_zero}
-use Rattle.std.proofs.Common.{arith}
+use Rattle.rounding.proofs.Laws.{round_above, round_under, nearest_is, above_limit, below_zero}
 use denote.Floats.{passes}
 use Rattle.rounding.proofs.round.Goals as goal
 use Rattle.rounding.proofs.round.Goals.{else-x-via-then-x+else-x-2, else-x-via-else-x}
@@ -10,13 +9,9 @@ pub truncating_f64_to_u64-requires : goal.truncating_f64_to_u64-requires
 unfolding of_bits
 truncating_f64_to_u64-requires c =
     record {
-      lower_bound = search (twice_above, passes);
-      upper_bound = search (twice_under, passes);
+      lower_bound = search (round_above, passes);
+      upper_bound = search (round_under, passes);
     }
-
-pub overflow_add-result : goal.overflow_add-result
-unfolding of_bits
-overflow_add-result c = search (twice_fits, passes, arith)
 
 pub returns-then-x-2 : goal.returns-then-x-2
 unfolding of_bits
