@@ -24,7 +24,7 @@ returns-in_err-end c =
     let h = lacked _ c.ok_or-3.ensures.value c.in_err-end.was in
     y ∙ ap Err h.1
     ∙ window_late _ c.split_at_first.ensures.first c.split_at_first.result.1 c.split_at_first.ensures.rest c.read_instant.ensures (had _ c.ok_or.ensures.value c.in_ok-start.was)
-        (had _ c.ok_or-2.ensures.value c.in_ok-ok_or.was) c.end_from.ensures h.0
+    (had _ c.ok_or-2.ensures.value c.in_ok-ok_or.was) c.end_from.ensures h.0
 
 pub returns-then-start-end : goal.returns-then-start-end
 returns-then-start-end c =
