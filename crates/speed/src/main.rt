@@ -194,10 +194,8 @@ fn main(rt: HostRuntime) -> io::Result<()> {
     let mut input = [0u8; 400000];
     let n = program_io::read_whole(&mut rt.stdin(), &mut input);
     let read = &input[..n];
-    let part = text_fields::first_part(read, b'\n');
-    let rest = read.get(part.len() + 1..).unwrap_or(&[]);
-    let count = text_fields::first_part(rest, b'\n');
-    let texts = rest.get(count.len() + 1..).unwrap_or(&[]);
-    let found = found_by(texts, number_of(part), number_of(count));
+    let (part, rest) = text_fields::split_at_first(read, b'\n');
+    let (count, texts) = text_fields::split_at_first(rest.unwrap_or(&[]), b'\n');
+    let found = found_by(texts.unwrap_or(&[]), number_of(part), number_of(count));
     println!(rt; "{found}")
 }
