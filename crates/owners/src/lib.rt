@@ -185,6 +185,7 @@ pub fn links_into(rows: &ByKind, t: &mut RowLinks)
 // ---- the rows that belong to a row
 
 // The rows as a slice tell that they are 800 at most, here and below.
+#[tactic(auto, using(crate::proofs::Tables::own_times, crate::proofs::Tables::own_digit), unfolding(crate::specs::inner::Owners::owned_key))]
 fn owned_key(rows: &OwnerLinks, k: usize) -> usize
     requires { k < row_count rows.now }
     ensures { result ≡ owned_key rows.now k }

@@ -37,6 +37,7 @@ pub fn index_key(x: i64) -> u64
 }
 
 // The part index of booking k.
+#[tactic(auto, using(crate::proofs::Indices::key_read))]
 pub fn key_at(rows: &[i64], k: usize) -> u64
     ensures { result ≡ key_at rows.now k }
 {
@@ -205,6 +206,7 @@ fn mark_held(rows: &ByKind, owners: &Owners, held: &mut [bool; 800])
 }
 
 // Whether the sheet has a row that names a companion.
+#[tactic(auto, using(chains::proofs::WalkLaws::walk_some))]
 fn names_companions(rows: &ByKind) -> bool
     ensures { result ≡ any_below (of_kind rows.now 13) (row_count rows.now) }
 {
