@@ -26,6 +26,7 @@ use rows::Kind;
 use sheet::{KindIndex, Rows};
 
 // What is left of a limit.
+#[tactic(auto, using(crate::proofs::Bounds::left_fits, crate::proofs::Bounds::left_is))]
 fn left_of(limit: i64, taken: u64) -> i64
     requires { (nat_abs limit ≤ 4000000000000) × (taken ≤ 4000000000000) }
     ensures { result ≡ limit -ℤ pos taken }
