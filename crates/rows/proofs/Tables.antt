@@ -1,5 +1,5 @@
 -- The table of kinds and columns. Assumes nothing.
-use Rattle.std.proofs.Common.{◌≡◌, ℕ, zero, suc, ◌-◌, ◌<◌, ◌≤◌, true, List, [], ◌∷◌, ◌++◌, length, get_or, refl, sym, ◌∙◌, arith}
+use Rattle.std.proofs.Common.{◌≡◌, ℕ, zero, suc, ◌-◌, ◌<◌, ◌≤◌, true, List, [], ◌∷◌, ◌++◌, length, map, replicate, get_or, refl, sym, ◌∙◌, arith}
 use native.Mathlib.Decide.{dec_lt}
 use borrow.Author.Tests.{leb-true}
 use lib.Dec.{leb}
@@ -9,20 +9,21 @@ use Rattle.loops.proofs.BoolLaws.{and_left, and_right}
 use Rattle.rows.specs.declared.Class.{Class}
 use Rattle.rows.specs.declared.Class.TheVariants.{Blank}
 use Rattle.rows.specs.Table.{columns, class_of, width}
+use Rattle.rows.specs.inner.Padded.{padded}
 
 -- column 0 aside, a class is that of the table
 pub class_later : (kind c : ℕ) → (c ≡ 0 → ⊥) → class_of kind c ≡ get_or (get_or columns kind []) (c - 1) Blank
 class_later kind zero h = absurd (h refl)
 class_later kind (suc c) h = let e : suc c - 1 ≡ c = omega arith in rw e
 
-narrow : (t : List (List Class)) (kind : ℕ) → all_of (λ l. leb (length l) 9) t ≡ true → length (get_or t kind []) ≤ 9
+narrow : (t : List (List Class)) (kind : ℕ) → all_of (λ l. leb (length l) 8) t ≡ true → length (get_or t kind []) ≤ 8
 unfolding all_of
 narrow [] kind h = omega arith
-narrow (l ∷ t) zero h = leb-true (length l) 9 (and_left (leb (length l) 9) (all_of (λ l. leb (length l) 9) t) h)
-narrow (l ∷ t) (suc kind) h = narrow t kind (and_right (leb (length l) 9) (all_of (λ l. leb (length l) 9) t) h)
+narrow (l ∷ t) zero h = leb-true (length l) 8 (and_left (leb (length l) 8) (all_of (λ l. leb (length l) 8) t) h)
+narrow (l ∷ t) (suc kind) h = narrow t kind (and_right (leb (length l) 8) (all_of (λ l. leb (length l) 8) t) h)
 
--- no kind has more than nine columns
-pub width_most : (kind : ℕ) → width kind ≤ 9
+-- no kind has more than eight columns
+pub width_most : (kind : ℕ) → width kind ≤ 8
 unfolding width all_of
 width_most kind = narrow columns kind refl
 
@@ -33,12 +34,19 @@ class_wide kind zero h = absurd (omega arith)
 class_wide kind (suc c) h =
     let w : length (get_or columns kind []) ≤ c = omega (arith, width_most kind) in get_or-eq_default (get_or columns kind []) Blank w
 
--- a blank column behind the others changes none
-pub closed : (l : List Class) (i : ℕ) → get_or (l ++ Blank ∷ []) i Blank ≡ get_or l i Blank
-closed [] zero = refl
-closed [] (suc i) = refl
-closed (x ∷ l) zero = refl
-closed (x ∷ l) (suc i) = closed l i
+-- blank columns behind the others change none
+pub padded_blank : (l : List Class) (n i : ℕ) → get_or (l ++ replicate n Blank) i Blank ≡ get_or l i Blank
+padded_blank [] zero i = refl
+padded_blank [] (suc n) zero = refl
+padded_blank [] (suc n) (suc i) = padded_blank [] n i
+padded_blank (x ∷ l) n zero = refl
+padded_blank (x ∷ l) n (suc i) = padded_blank l n i
+
+-- the table that has each kind's columns with blank ones behind
+pub padded_at : (t : List (List Class)) (kind : ℕ) (d : List Class) → kind < length t → get_or (map padded t) kind d ≡ padded (get_or t kind [])
+padded_at [] kind d h = absurd (omega arith)
+padded_at (l ∷ t) zero d h = refl
+padded_at (l ∷ t) (suc kind) d h = padded_at t kind d (omega arith)
 
 -- all columns from the end on are the same
 pub clamped : (l : List Class) (i m : ℕ) → m ≤ i → (m < i → length l ≤ m) → get_or l m Blank ≡ get_or l i Blank

@@ -2,3 +2,4 @@ pub mod Cells
 pub mod Kinds
 pub mod Ranges
 pub mod Table
+pub mod inner

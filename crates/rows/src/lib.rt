@@ -2,11 +2,12 @@
 // validation of rows and the text reader read.
 #![tactic(auto)]
 
-ghost use Rattle.std.specs.Prelude.{◌≡◌, suc, ◌<◌, [], ◌∷◌, ◌++◌, eqb, get_or, Some, None, MatchResult};
+ghost use Rattle.std.specs.Prelude.{◌≡◌, suc, ◌<◌, [], eqb, get_or, Some, None, MatchResult};
 ghost use Rattle.loops.specs.Numbers.{to_nat};
 ghost use Rattle.rows.specs.Kinds.{kind_of, kind_number};
 ghost use Rattle.rows.specs.declared.Class.{Class};
 ghost use Rattle.rows.specs.Table.{columns, class_of, width};
+ghost use Rattle.rows.specs.inner.Padded.{padded};
 ghost use Rattle.rows.specs.Ranges.{range, is_none, in_class};
 ghost use Rattle.rows.specs.Cells.{row_count, cell, num, is};
 
@@ -127,12 +128,24 @@ pub enum Class {
     ConstraintPlace,
 }
 
-// The columns of each kind, from column 1 on, and a blank one, which stands for all behind them. A constant table of tables, as the project's paper asks
-// (docs/DECISIONS.md, 25): at the number of the kind, and 0 is none.
-static CLASSES: [&[Class]; 25] = [
-    &[Blank],
-    &[Id, OptionalInstant, OptionalInstant, Blank],
-    &[
+// The columns of each kind, from column 1 on, and the blank ones behind them. A constant table of tables, as the project's paper asks (docs/DECISIONS.md, 25):
+// at the number of the kind, and 0 is none. No references to lists of them: those would lie in a section of the archive that can be written to.
+static CLASSES: [[Class; 9]; 25] = [
+    [
+        Blank, Blank, Blank, Blank, Blank, Blank, Blank, Blank, Blank,
+    ],
+    [
+        Id,
+        OptionalInstant,
+        OptionalInstant,
+        Blank,
+        Blank,
+        Blank,
+        Blank,
+        Blank,
+        Blank,
+    ],
+    [
         Id,
         TaskId,
         Number,
@@ -143,27 +156,83 @@ static CLASSES: [&[Class]; 25] = [
         OptionalInstant,
         Blank,
     ],
-    &[ActivityId, ShareBits, SignedTime, Blank],
-    &[ActivityId, Number, Duration, Duration, Blank],
-    &[ActivityId, Id, Number, Count, Blank],
-    &[ActivityId, RequirementPlace, Id, Blank],
-    &[ActivityId, RequirementPlace, Id, Blank],
-    &[ActivityId, Id, Blank],
-    &[ActivityId, Id, SpeedBits, Blank],
-    &[ActivityId, Id, Duration, Duration, Duration, Blank],
-    &[Id, Id, Number, Blank],
-    &[ResourceId, Id, Blank],
-    &[ResourceId, Id, Blank],
-    &[ResourceId, Id, Duration, Blank],
-    &[ResourceId, Flag, Instant, Instant, Blank],
-    &[ActivityId, Flag, Instant, Instant, Blank],
-    &[Id, Id, SignedTime, Blank],
-    &[Id, Number, Blank],
-    &[Id, Instant, Instant, Blank],
-    &[Id, Blank],
-    &[Blank],
-    &[ConstraintPlace, Id, Blank],
-    &[
+    [
+        ActivityId, ShareBits, SignedTime, Blank, Blank, Blank, Blank, Blank, Blank,
+    ],
+    [
+        ActivityId, Number, Duration, Duration, Blank, Blank, Blank, Blank, Blank,
+    ],
+    [
+        ActivityId, Id, Number, Count, Blank, Blank, Blank, Blank, Blank,
+    ],
+    [
+        ActivityId,
+        RequirementPlace,
+        Id,
+        Blank,
+        Blank,
+        Blank,
+        Blank,
+        Blank,
+        Blank,
+    ],
+    [
+        ActivityId,
+        RequirementPlace,
+        Id,
+        Blank,
+        Blank,
+        Blank,
+        Blank,
+        Blank,
+        Blank,
+    ],
+    [
+        ActivityId, Id, Blank, Blank, Blank, Blank, Blank, Blank, Blank,
+    ],
+    [
+        ActivityId, Id, SpeedBits, Blank, Blank, Blank, Blank, Blank, Blank,
+    ],
+    [
+        ActivityId, Id, Duration, Duration, Duration, Blank, Blank, Blank, Blank,
+    ],
+    [Id, Id, Number, Blank, Blank, Blank, Blank, Blank, Blank],
+    [
+        ResourceId, Id, Blank, Blank, Blank, Blank, Blank, Blank, Blank,
+    ],
+    [
+        ResourceId, Id, Blank, Blank, Blank, Blank, Blank, Blank, Blank,
+    ],
+    [
+        ResourceId, Id, Duration, Blank, Blank, Blank, Blank, Blank, Blank,
+    ],
+    [
+        ResourceId, Flag, Instant, Instant, Blank, Blank, Blank, Blank, Blank,
+    ],
+    [
+        ActivityId, Flag, Instant, Instant, Blank, Blank, Blank, Blank, Blank,
+    ],
+    [Id, Id, SignedTime, Blank, Blank, Blank, Blank, Blank, Blank],
+    [Id, Number, Blank, Blank, Blank, Blank, Blank, Blank, Blank],
+    [
+        Id, Instant, Instant, Blank, Blank, Blank, Blank, Blank, Blank,
+    ],
+    [Id, Blank, Blank, Blank, Blank, Blank, Blank, Blank, Blank],
+    [
+        Blank, Blank, Blank, Blank, Blank, Blank, Blank, Blank, Blank,
+    ],
+    [
+        ConstraintPlace,
+        Id,
+        Blank,
+        Blank,
+        Blank,
+        Blank,
+        Blank,
+        Blank,
+        Blank,
+    ],
+    [
         Id,
         Id,
         Id,
@@ -174,18 +243,18 @@ static CLASSES: [&[Class]; 25] = [
         OptionalDuration,
         Blank,
     ],
-    &[Id, Id, Instant, Instant, Blank],
+    [Id, Id, Instant, Instant, Blank, Blank, Blank, Blank, Blank],
 ];
 
-// The columns of a kind, from column 1 on, and a blank one. The kind by its number, here and in the next two: where it stands for no kind there are no columns, and
-// no caller has to ask that first.
-fn columns_of(kind: u64) -> &'static [Class]
-    ensures { result.now ≡ get_or columns kind [] ++ Class.Blank ∷ [] }
+// The classes of a kind's columns, from column 1 on, and of the blank ones behind them. The kind by its number, here and in the next two: where it stands for
+// no kind all is blank, and no caller has to ask that first.
+fn columns_of(kind: u64) -> &'static [Class; 9]
+    ensures { result.now ≡ padded (get_or columns kind []) }
 {
     if kind < 25 {
-        CLASSES[kind as usize]
+        &CLASSES[kind as usize]
     } else {
-        &[Blank]
+        &CLASSES[0]
     }
 }
 
@@ -197,16 +266,24 @@ pub fn class_of(kind: u64, c: usize) -> Class
     if c == 0 {
         return Class::RowKind;
     }
-    let columns = columns_of(kind);
-    columns[(c - 1).min(columns.len() - 1)]
+    columns_of(kind)[(c - 1).min(8)]
 }
+
+// How many columns each kind has.
+static WIDTHS: [usize; 25] = [
+    0, 3, 8, 3, 4, 4, 3, 3, 2, 3, 5, 3, 2, 2, 3, 4, 4, 3, 2, 3, 1, 0, 2, 8, 4,
+];
 
 // Whether a row of a kind has n numbers, the kind's own among them.
 #[tactic(auto, unfolding(crate::specs::Table::width))]
 pub fn has_width(kind: u64, n: usize) -> bool
     ensures { result ≡ eqb n (suc (width kind)) }
 {
-    n == columns_of(kind).len()
+    if kind < 25 {
+        n == WIDTHS[kind as usize] + 1
+    } else {
+        n == 1
+    }
 }
 
 // Whether a number stands for none. No Option: a cell is a number, by the C interface, and this one lies in the range of no column behind the kind.
