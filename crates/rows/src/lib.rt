@@ -128,122 +128,35 @@ pub enum Class {
     ConstraintPlace,
 }
 
-// The columns of each kind, from column 1 on, and the blank ones behind them. A constant table of tables, as the project's paper asks (docs/DECISIONS.md, 25):
-// at the number of the kind, and 0 is none. No references to lists of them: those would lie in a section of the archive that can be written to.
-static CLASSES: [[Class; 9]; 25] = [
-    [
-        Blank, Blank, Blank, Blank, Blank, Blank, Blank, Blank, Blank,
-    ],
-    [
-        Id,
-        OptionalInstant,
-        OptionalInstant,
-        Blank,
-        Blank,
-        Blank,
-        Blank,
-        Blank,
-        Blank,
-    ],
-    [
-        Id,
-        TaskId,
-        Number,
-        Duration,
-        Duration,
-        Duration,
-        Flag,
-        OptionalInstant,
-        Blank,
-    ],
-    [
-        ActivityId, ShareBits, SignedTime, Blank, Blank, Blank, Blank, Blank, Blank,
-    ],
-    [
-        ActivityId, Number, Duration, Duration, Blank, Blank, Blank, Blank, Blank,
-    ],
-    [
-        ActivityId, Id, Number, Count, Blank, Blank, Blank, Blank, Blank,
-    ],
-    [
-        ActivityId,
-        RequirementPlace,
-        Id,
-        Blank,
-        Blank,
-        Blank,
-        Blank,
-        Blank,
-        Blank,
-    ],
-    [
-        ActivityId,
-        RequirementPlace,
-        Id,
-        Blank,
-        Blank,
-        Blank,
-        Blank,
-        Blank,
-        Blank,
-    ],
-    [
-        ActivityId, Id, Blank, Blank, Blank, Blank, Blank, Blank, Blank,
-    ],
-    [
-        ActivityId, Id, SpeedBits, Blank, Blank, Blank, Blank, Blank, Blank,
-    ],
-    [
-        ActivityId, Id, Duration, Duration, Duration, Blank, Blank, Blank, Blank,
-    ],
-    [Id, Id, Number, Blank, Blank, Blank, Blank, Blank, Blank],
-    [
-        ResourceId, Id, Blank, Blank, Blank, Blank, Blank, Blank, Blank,
-    ],
-    [
-        ResourceId, Id, Blank, Blank, Blank, Blank, Blank, Blank, Blank,
-    ],
-    [
-        ResourceId, Id, Duration, Blank, Blank, Blank, Blank, Blank, Blank,
-    ],
-    [
-        ResourceId, Flag, Instant, Instant, Blank, Blank, Blank, Blank, Blank,
-    ],
-    [
-        ActivityId, Flag, Instant, Instant, Blank, Blank, Blank, Blank, Blank,
-    ],
-    [Id, Id, SignedTime, Blank, Blank, Blank, Blank, Blank, Blank],
-    [Id, Number, Blank, Blank, Blank, Blank, Blank, Blank, Blank],
-    [
-        Id, Instant, Instant, Blank, Blank, Blank, Blank, Blank, Blank,
-    ],
-    [Id, Blank, Blank, Blank, Blank, Blank, Blank, Blank, Blank],
-    [
-        Blank, Blank, Blank, Blank, Blank, Blank, Blank, Blank, Blank,
-    ],
-    [
-        ConstraintPlace,
-        Id,
-        Blank,
-        Blank,
-        Blank,
-        Blank,
-        Blank,
-        Blank,
-        Blank,
-    ],
-    [
-        Id,
-        Id,
-        Id,
-        Instant,
-        Instant,
-        Duration,
-        OptionalNumber,
-        OptionalDuration,
-        Blank,
-    ],
-    [Id, Id, Instant, Instant, Blank, Blank, Blank, Blank, Blank],
+// The columns of each kind, from column 1 on, and the blank ones behind them: a constant table of tables, as the project's paper asks (docs/DECISIONS.md, 25),
+// at the number of the kind, and 0 is none. No references to lists of them: those would lie in a section of the static library that can be written to.
+#[rattlefmt::skip]
+const CLASSES: [[Class; 9]; 25] = [
+    [Blank, Blank, Blank, Blank, Blank, Blank, Blank, Blank, Blank], // none
+    [Id, OptionalInstant, OptionalInstant, Blank, Blank, Blank, Blank, Blank, Blank], // Task
+    [Id, TaskId, Number, Duration, Duration, Duration, Flag, OptionalInstant, Blank], // Activity
+    [ActivityId, ShareBits, SignedTime, Blank, Blank, Blank, Blank, Blank, Blank], // Overlap
+    [ActivityId, Number, Duration, Duration, Blank, Blank, Blank, Blank, Blank], // Split
+    [ActivityId, Id, Number, Count, Blank, Blank, Blank, Blank, Blank], // Requirement
+    [ActivityId, RequirementPlace, Id, Blank, Blank, Blank, Blank, Blank, Blank], // Candidate
+    [ActivityId, RequirementPlace, Id, Blank, Blank, Blank, Blank, Blank, Blank], // WantedSkill
+    [ActivityId, Id, Blank, Blank, Blank, Blank, Blank, Blank, Blank], // Predecessor
+    [ActivityId, Id, SpeedBits, Blank, Blank, Blank, Blank, Blank, Blank], // Speed
+    [ActivityId, Id, Duration, Duration, Duration, Blank, Blank, Blank, Blank], // FixedTiming
+    [Id, Id, Number, Blank, Blank, Blank, Blank, Blank, Blank], // Resource
+    [ResourceId, Id, Blank, Blank, Blank, Blank, Blank, Blank, Blank], // Skill
+    [ResourceId, Id, Blank, Blank, Blank, Blank, Blank, Blank, Blank], // Companion
+    [ResourceId, Id, Duration, Blank, Blank, Blank, Blank, Blank, Blank], // Transport
+    [ResourceId, Flag, Instant, Instant, Blank, Blank, Blank, Blank, Blank], // ResourceWindow
+    [ActivityId, Flag, Instant, Instant, Blank, Blank, Blank, Blank, Blank], // ActivityWindow
+    [Id, Id, SignedTime, Blank, Blank, Blank, Blank, Blank, Blank], // Precedence
+    [Id, Number, Blank, Blank, Blank, Blank, Blank, Blank, Blank], // Capacity
+    [Id, Instant, Instant, Blank, Blank, Blank, Blank, Blank, Blank], // TimeWindow
+    [Id, Blank, Blank, Blank, Blank, Blank, Blank, Blank, Blank], // NoOverlap
+    [Blank, Blank, Blank, Blank, Blank, Blank, Blank, Blank, Blank], // Synchronize
+    [ConstraintPlace, Id, Blank, Blank, Blank, Blank, Blank, Blank, Blank], // Member
+    [Id, Id, Id, Instant, Instant, Duration, OptionalNumber, OptionalDuration, Blank], // Booking
+    [Id, Id, Instant, Instant, Blank, Blank, Blank, Blank, Blank], // TimeOnlySpan
 ];
 
 // The classes of a kind's columns, from column 1 on, and of the blank ones behind them. The kind by its number, here and in the next two: where it stands for
@@ -270,7 +183,7 @@ pub fn class_of(kind: u64, c: usize) -> Class
 }
 
 // How many columns each kind has.
-static WIDTHS: [usize; 25] = [
+const WIDTHS: [usize; 25] = [
     0, 3, 8, 3, 4, 4, 3, 3, 2, 3, 5, 3, 2, 2, 3, 4, 4, 3, 2, 3, 1, 0, 2, 8, 4,
 ];
 
@@ -295,7 +208,7 @@ pub fn is_none(x: i64) -> bool
 }
 
 // By class the least number of a column, the greatest, and whether it may be none. (A match would be a jump at each cell of a sheet.)
-static RANGES: [(i64, i64, bool); 19] = [
+const RANGES: [(i64, i64, bool); 19] = [
     (0, 0, false), // Blank
     (i64::MIN, i64::MAX, false), // RowKind
     (0, 999_999_999, false), // Id
