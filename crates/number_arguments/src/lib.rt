@@ -25,7 +25,8 @@ pub struct Argument {
     pub number: Option<i64>,
 }
 
-// Argument i, counted from 1. No number has more than 20 bytes: of a longer argument nothing is handed over, as of a missing one.
+// Argument i, counted from 1. No number has more than 20 bytes, and the room has one more: of an argument that it does not hold nothing is handed over, as of a
+// missing one.
 pub fn number_argument(rt: &HostRuntime, i: usize) -> Argument
     ensures { result.number ≡ argument_number (take result.length result.bytes) }
 {
