@@ -3,7 +3,7 @@
 #![tactic(auto)]
 
 ghost use Rattle.refusals.specs.Refusals.{number_of};
-ghost use Rattle.std.specs.Prelude.{◌≡◌, ◌+◌, ◌<◌, ◌≤◌, min, length};
+ghost use Rattle.std.specs.Prelude.{◌≡◌, ◌+◌, ◌<◌, ◌≤◌, min, length, nat_abs};
 ghost use Rattle.std.proofs.lemmas.List.Edits.{sets};
 ghost use Rattle.loops.specs.inner.Wrote.{Wrote};
 ghost use Rattle.printing.specs.Decimal.{decimal, spelling};
@@ -24,6 +24,16 @@ fn put_decimal(out: &mut [u8], at: usize, n: u64) -> usize
     lent_room::put(out, next, b'0' + (n % 10) as u8)
 }
 
+// A number without its sign. One below zero is negated; the lowest has no negative, so it is the number after it that is, and one is added to that.
+fn magnitude(z: i64) -> u64
+    ensures { result ≡ nat_abs z }
+{
+    if z < 0 {
+        return -(z + 1) as u64 + 1;
+    }
+    z as u64
+}
+
 // A number with a minus where it is negative. Not by `write!`, for the same reason.
 fn put_signed(out: &mut [u8], at: usize, z: i64) -> usize
     requires { at ≤ length out.old }
@@ -31,9 +41,9 @@ fn put_signed(out: &mut [u8], at: usize, z: i64) -> usize
 {
     if z < 0 {
         let next = lent_room::put(out, at, b'-');
-        return put_decimal(out, next, z.unsigned_abs());
+        return put_decimal(out, next, magnitude(z));
     }
-    put_decimal(out, at, z.unsigned_abs())
+    put_decimal(out, at, magnitude(z))
 }
 
 // Number c of a line, and the byte that ends it.

@@ -7,7 +7,7 @@ ghost use Rattle.loops.specs.Numbers.{to_nat};
 ghost use Rattle.rows.specs.Kinds.{kind_of, kind_number};
 ghost use Rattle.rows.specs.declared.Class.{Class};
 ghost use Rattle.rows.specs.Table.{columns, class_of, width};
-ghost use Rattle.rows.specs.inner.Padded.{padded};
+ghost use Rattle.rows.specs.inner.Padded.{padded, is_blank};
 ghost use Rattle.rows.specs.Ranges.{range, is_none, in_class};
 ghost use Rattle.rows.specs.Cells.{row_count, cell, num, is};
 
@@ -182,21 +182,15 @@ pub fn class_of(kind: u64, c: usize) -> Class
     columns_of(kind)[(c - 1).min(8)]
 }
 
-// How many columns each kind has.
-const WIDTHS: [usize; 25] = [
-    0, 3, 8, 3, 4, 4, 3, 3, 2, 3, 5, 3, 2, 2, 3, 4, 4, 3, 2, 3, 1, 0, 2, 8, 4,
-];
-
-// Whether a row of a kind has n numbers, the kind's own among them.
-#[tactic(auto, unfolding(crate::specs::Table::width))]
+// Whether a row of a kind has n numbers, the kind's own among them: the last stands in one of its columns, and the next column is blank.
+#[tactic(auto, using(crate::proofs::Tables::width_zero, crate::proofs::Tables::width_longer, crate::proofs::Tables::width_last))]
 pub fn has_width(kind: u64, n: usize) -> bool
     ensures { result ≡ eqb n (suc (width kind)) }
 {
-    if kind < 25 {
-        n == WIDTHS[kind as usize] + 1
-    } else {
-        n == 1
+    if n == 0 || !class_of(kind, n).is_blank() {
+        return false;
     }
+    !class_of(kind, n - 1).is_blank()
 }
 
 // Whether a number stands for none. No Option: a cell is a number, by the C interface, and this one lies in the range of no column behind the kind.
@@ -231,6 +225,14 @@ const RANGES: [(i64, i64, bool); 19] = [
 ];
 
 impl Class {
+    // Whether it is of what comes past a kind's columns.
+    #[tactic(auto, using(crate::proofs::Tables::blank_only))]
+    fn is_blank(self) -> bool
+        ensures { result ≡ is_blank self }
+    {
+        matches!(self, Class::Blank)
+    }
+
     fn range(self) -> (i64, i64, bool)
         ensures { result ≡ ((range self).least, (range self).greatest, (range self).none?) }
     {
