@@ -8,6 +8,7 @@ ghost use Rattle.calendar.specs.Clock.{clock};
 ghost use Rattle.calendar.specs.Layout.{window_of};
 ghost use Rattle.rows.specs.Cells.{row_count, num, is};
 ghost use Rattle.sheet.specs.Places.{place_of};
+ghost use Rattle.sheet.specs.inner.Found.{found_of};
 ghost use Rattle.findings.specs.inner.Told.{so_far, tell};
 ghost use Rattle.resource_timing.specs.Durations.{total_ms};
 ghost use Rattle.model.specs.Sheet.{sheet};
@@ -39,14 +40,17 @@ fn is_free(rows: &Sheet, a: usize) -> bool
 
 // The row of the activity that the span of row k names, if it is one of the span's task and holds no resource.
 #[tactic(auto, using(owners::proofs::Links::spans, model::proofs::Finds::found_self), unfolding(crate::specs::inner::Known::known_row))]
-fn known(rows: &Sheet, k: usize) -> Option<usize>
+fn known(rows: &Sheet, k: usize) -> Found
     requires { (k < row_count rows.now) × (is rows.now k 0 24 ≡ true) }
-    ensures { result ≡ known_row rows.now k }
+    ensures { found_of result ≡ known_row rows.now k }
 {
     let Found::At(a) = rows.activity_of(k) else {
-        return None;
+        return Found::Nothing;
     };
-    (is_free(rows, a) && rows.has(a, 2, rows.num(k, 2))).then_some(a)
+    if is_free(rows, a) && rows.has(a, 2, rows.num(k, 2)) {
+        return Found::At(a);
+    }
+    Found::Nothing
 }
 
 // Whether a known span above row k is of the activity of row a.
@@ -156,10 +160,16 @@ fn check_span(rows: &Sheet, k: usize, list: &mut WindowList, found: &mut Finding
     requires { (k < row_count rows.now) × (is rows.now k 0 24 ≡ true) }
     ensures { so_far found.new ≡ tell (so_far found.old) (check_span_at clock (sheet rows.now) k) }
 {
-    match known(rows, k) {
-        Some(a) if !is_seen(rows, a, k) => check_first(rows, a, k, list, found),
-        _ => found.tell(Violation::of(2, ViolationKind::UnknownActivity, rows.num(k, 1))),
+    let unknown = Violation::of(2, ViolationKind::UnknownActivity, rows.num(k, 1));
+    let Found::At(a) = known(rows, k) else {
+        found.tell(unknown);
+        return;
+    };
+    if is_seen(rows, a, k) {
+        found.tell(unknown);
+        return;
     }
+    check_first(rows, a, k, list, found);
 }
 
 #[tactic(auto, using(chains::proofs::PlaceLaws::left_all, crate::proofs::Told::spans_told), unfolding(sheet::specs::Places::of_kind))]

@@ -199,10 +199,11 @@ fn check_activity(rows: &Sheet, o: usize, found: &mut Findings)
     requires { o ≤ row_count rows.now }
     ensures { so_far found.new ≡ tell (so_far found.old) (activity_findings rows.now o) }
 {
-    if let Some(x) = rows.find_owned(o, Kind::Split) {
-        check_works(rows, o, found);
-        check_split(rows, o, x, found);
-    }
+    let Some(x) = rows.find_owned(o, Kind::Split) else {
+        return;
+    };
+    check_works(rows, o, found);
+    check_split(rows, o, x, found);
 }
 
 // The activities of the task of row t: by task in two functions, as `check4_requirements::check_task` says.

@@ -6,6 +6,7 @@ ghost use Rattle.std.specs.Prelude.{◌≡◌, true, false, cond, [], ◌+◌, �
 ghost use Rattle.findings.specs.inner.Told.{so_far, tell};
 ghost use Rattle.rows.specs.Cells.{row_count, num, is};
 ghost use Rattle.sheet.specs.Places.{resource_place};
+ghost use Rattle.sheet.specs.inner.Found.{found_of};
 ghost use Rattle.check4_claims.specs.inner.Claims.{has_skill, candidate_of, lacking_of, claim_of, filled, claims_of, unclaimed_of, claimable, takes, requirement_rows, runs_on_in};
 
 use check4_pieces::Piece;
@@ -29,17 +30,17 @@ fn free_in(rows: &MarkedRows, piece: Piece) -> [bool; 800]
 
 // The row of booking k's resource, if it is a candidate of the requirement at row q. What is known of the two rows stands in three steps of one loop, this and
 // the two that take it: a struct of them would be made in each turn of the loop and taken apart in each step.
-fn candidate(rows: &Owners, q: usize, k: usize) -> Option<usize>
+fn candidate(rows: &Owners, q: usize, k: usize) -> Found
     requires { (q < row_count rows.now) × (is rows.now q 0 5 ≡ true) × (k < row_count rows.now) × (is rows.now k 0 23 ≡ true) }
-    ensures { result ≡ cond (candidate_of rows.now q (num rows.now k 3)) (resource_place rows.now (num rows.now k 3)) None }
+    ensures { found_of result ≡ cond (candidate_of rows.now q (num rows.now k 3)) (resource_place rows.now (num rows.now k 3)) None }
 {
     let Found::At(r) = rows.booked_resource(k) else {
-        return None;
+        return Found::Nothing;
     };
     if candidates::is_candidate(&rows.by_owner(), q, r) {
-        return Some(r);
+        return Found::At(r);
     }
-    None
+    Found::Nothing
 }
 
 // `has_skill` of the resource at row r.
@@ -67,14 +68,14 @@ fn report_lacking(rows: &Owners, q: usize, r: usize, x: u64, found: &mut Finding
 
 // The row of booking k's resource, if k is marked and the resource is a candidate of the requirement at row q.
 #[tactic(auto, unfolding(crate::specs::inner::Claims::claimable))]
-fn claimant(rows: &Owners, free: &[bool; 800], q: usize, k: usize) -> Option<usize>
+fn claimant(rows: &Owners, free: &[bool; 800], q: usize, k: usize) -> Found
     requires { (q < row_count rows.now) × (is rows.now q 0 5 ≡ true) × (k < row_count rows.now) × (k < 800) × (is rows.now k 0 23 ≡ true) }
-    ensures { result ≡ cond (claimable rows.now q free.now k) (resource_place rows.now (num rows.now k 3)) None }
+    ensures { found_of result ≡ cond (claimable rows.now q free.now k) (resource_place rows.now (num rows.now k 3)) None }
 {
     if free[k] {
         return candidate(rows, q, k);
     }
-    None
+    Found::Nothing
 }
 
 // Booking k, claimed where it may be and the requirement at row q is not filled yet; answers how many units that has claimed then.
@@ -95,7 +96,7 @@ fn claim_at(
     if units >= rows.num(q, 3) {
         return units;
     }
-    let Some(r) = claimant(rows, free, q, k) else {
+    let Found::At(r) = claimant(rows, free, q, k) else {
         return units;
     };
     free[k] = false;

@@ -3,9 +3,11 @@ use Prim.Native.Nat.{ℕ, zero, suc, ◌+◌, ◌<◌}
 use mathlib.Core.Path.{◌≡◌, refl, sym, ap, ◌∙◌}
 use mathlib.Core.Bool.{Bool, true, false, cond, not, ◌&&◌, true≢false, or-false}
 use mathlib.Core.List.{List, [], ◌∷◌, foldl}
-use Rattle.std.specs.Prelude.{Option, None, Some, MatchOption}
+use Rattle.std.specs.Prelude.{Option, None, Some}
 use Rattle.spans.specs.declared.Span.{Span}
-use Rattle.spans.specs.inner.Activities.{span_meant}
+use Rattle.spans.specs.declared.ActivitySpan.{ActivitySpan}
+use Rattle.spans.specs.declared.ActivitySpan.TheVariants.{Between, Nowhere}
+use Rattle.spans.specs.inner.Activities.{span_found, span_meant}
 use native.Mathlib.Omega.{arith}
 use lib.Dec.{eqb, ltb}
 use lib.IntN.{ℤ, pos}
@@ -205,22 +207,21 @@ module _ (rows : List ℤ) (acc : Accepted rows) (o : ℕ) (l : o < row_count ro
         go (Some y) = sym (unfold any_of in (or-false _ ∙ none_far y.start))
 
     -- the two answers, by whether there is a booking
-    module _ {booked b : Bool} (e : booked ≡ any_below (owned_by rows o 23) (row_count rows)) where
-      pub by_bookings : booked ≡ true → b ≡ any_of (unreached_at rows a from) (places (owned_by rows o 23) (row_count rows)) → b ≡ any_of too_early (pieces_of clock (sheet rows) (num rows o 1))
+    module _ {booked : Bool} (e : booked ≡ any_below (owned_by rows o 23) (row_count rows)) where
+      pub by_bookings : {b : Bool} → booked ≡ true → b ≡ any_of (unreached_at rows a from) (places (owned_by rows o 23) (row_count rows)) → b ≡ any_of too_early (pieces_of clock (sheet rows) (num rows o 1))
       by_bookings f g =
           let k = hit (owned_by rows o 23) (row_count rows) (sym e ∙ f) in
           booked_is k.place k.below k.passes (g ∙ any_places (owned_by rows o 23) (unreached_at rows a from) (row_count rows))
 
-      pub by_span : booked ≡ false → {id : ℕ} (x : Option Span) → id ≡ num rows o 1 → span_meant x ≡ activity_span clock (sheet rows) id
-          → {P : Span → Type 0} → MatchOption x (b ≡ false) P → ((y : Span) → P y → b ≡ ltb y.start from) → b ≡ any_of too_early (pieces_of clock (sheet rows) (num rows o 1))
-      by_span f x i s m p =
-          timed_is (λ k c. any_none (owned_by rows o 23) (row_count rows) k (sym e ∙ f) c)
-          (go x m p ∙ ap (λ y. option y false (λ y. clock.before y.start (pos from))) (s ∙ ap (activity_span clock (sheet rows)) i))
-        where
-          go : (x : Option Span) {P : Span → Type 0} → MatchOption x (b ≡ false) P → ((y : Span) → P y → b ≡ ltb y.start from)
-              → b ≡ option (span_meant x) false (λ y. clock.before y.start (pos from))
-          go None m p = m
-          go (Some y) m p = p y m
+      none_booked : booked ≡ false → (k : ℕ) → k < row_count rows → owned_by rows o 23 k ≡ false
+      none_booked f k c = any_none (owned_by rows o 23) (row_count rows) k (sym e ∙ f) c
+
+      module _ (f : booked ≡ false) {id : ℕ} {x : ActivitySpan} (i : id ≡ num rows o 1) (s : span_meant (span_found x) ≡ activity_span clock (sheet rows) id) where
+        pub by_nowhere : x ≡ Nowhere → false ≡ any_of too_early (pieces_of clock (sheet rows) (num rows o 1))
+        by_nowhere z = timed_is (none_booked f) (rw (← i, ← s, z) refl)
+
+        pub by_span : {y : Span} → x ≡ Between y → ltb y.start from ≡ any_of too_early (pieces_of clock (sheet rows) (num rows o 1))
+        by_span z = timed_is (none_booked f) (rw (← i, ← s, z) refl)
 
 -- ---- along the chain of the bookings
 

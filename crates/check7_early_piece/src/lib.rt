@@ -21,6 +21,7 @@ pub use activity_pair::ActivityPair;
 use owners::{OwnerIndex, Owners};
 use rows::Kind;
 use sheet::Rows;
+use spans::ActivitySpan;
 
 // Whether row j is a booking of booking k's piece that starts before an instant.
 #[tactic(auto, unfolding(crate::specs::inner::Reached::starts_at))]
@@ -68,5 +69,9 @@ pub fn piece_is_early(pair: &ActivityPair, from: u64) -> bool
     if pair.rows.has_owned(pair.after, Kind::Booking) {
         return any_unreached(pair, from);
     }
-    spans::activity_span(&pair.kinds, pair.rows.num(pair.after, 1)).is_some_and(|x| x.start < from)
+    let id = pair.rows.num(pair.after, 1);
+    let ActivitySpan::Between(span) = spans::activity_span(&pair.kinds, id) else {
+        return false;
+    };
+    span.start < from
 }

@@ -27,7 +27,9 @@ use Rattle.model.proofs.Accepting.{at_most, in_class_lem}
 use Rattle.definition.specs.ActivitySpan as page
 use Rattle.definition.specs.ActivitySpan.{activity_span}
 use Rattle.spans.specs.declared.Span.{Span}
-use Rattle.spans.specs.inner.Activities.{span_meant, widened, widen_by}
+use Rattle.spans.specs.declared.ActivitySpan.{ActivitySpan}
+use Rattle.spans.specs.declared.ActivitySpan.TheVariants.{Between}
+use Rattle.spans.specs.inner.Activities.{span_found, span_meant, widened, widen_by}
 use Rattle.spans.proofs.Running.{runs_booked, runs_timed}
 
 -- an instant in its class
@@ -88,7 +90,7 @@ module _ (rows : List ℤ) (acc : Accepted rows) where
           let h : is rows k 0 24 ≡ true = unfold is in eq-eqb (num rows k 0) 24 (placed rows 24 id k e).kind in
           rw (← runs_timed rows id {f = Some k} (sym e) refl refl refl) (pair_early _ _ (instant_early k 24 3 (at_most rows acc k 24 3 h)) (instant_early k 24 4 (at_most rows acc k 24 4 h)))
 
-  module _ (id : ℕ) {x : Option Span} {s : Span} (q : span_meant x ≡ activity_span clock (sheet rows) id) (z : x ≡ Some s) where
+  module _ (id : ℕ) {x : ActivitySpan} {s : Span} (q : span_meant (span_found x) ≡ activity_span clock (sheet rows) id) (z : x ≡ Between s) where
     pub start_most : s.start ≤ 4000000000000
     start_most = (pair_of s.start s.end (rw (← q, z) at (span_early id))).0
 

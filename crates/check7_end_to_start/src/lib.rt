@@ -19,6 +19,7 @@ use findings::{Findings, Violation, ViolationKind};
 use owners::{ByOwner, OwnerIndex};
 use rows::Kind;
 use sheet::{ByKind, KindIndex, Rows};
+use spans::ActivitySpan;
 
 // Whether an instant is before another and a signed delay.
 #[tactic(auto, using(loops::proofs::IntegerLaws::sum_mag))]
@@ -36,10 +37,10 @@ fn starts_early(rows: &ByKind, before: u64, after: u64, delay: i64) -> bool
     requires { Accepted rows.now × (nat_abs delay ≤ 8000000000000) }
     ensures { result ≡ starts_early rows.now before after delay }
 {
-    let Some(first) = spans::activity_span(rows, before) else {
+    let ActivitySpan::Between(first) = spans::activity_span(rows, before) else {
         return false;
     };
-    let Some(second) = spans::activity_span(rows, after) else {
+    let ActivitySpan::Between(second) = spans::activity_span(rows, after) else {
         return false;
     };
     is_before(second.start, first.end, delay)

@@ -27,7 +27,9 @@ use Rattle.definition.specs.ActivitySpan as page
 use Rattle.definition.specs.ActivitySpan.{activity_span}
 use Rattle.definition.specs.CheckPrecedence.{runs_on_all, pieces_of, check_pair}
 use Rattle.spans.specs.declared.Span.{Span}
-use Rattle.spans.specs.inner.Activities.{span_meant}
+use Rattle.spans.specs.declared.ActivitySpan.{ActivitySpan}
+use Rattle.spans.specs.declared.ActivitySpan.TheVariants.{Between, Nowhere}
+use Rattle.spans.specs.inner.Activities.{span_found, span_meant}
 use Rattle.check7_pair.specs.inner.Tests.{starts_early, ends_early}
 use Rattle.check7_pair.proofs.Moved.{moved_is}
 
@@ -58,12 +60,12 @@ module _ (rows : List ℤ) (before after : ℕ) where
 
   -- ---- the definition, case by case
 
-  module _ (t : Told) {x : Option Span} (q : span_meant x ≡ activity_span clock (sheet rows) (num rows before 1)) where
-    pub no_previous : x ≡ None → t ≡ tell t pair
+  module _ (t : Told) {x : ActivitySpan} (q : span_meant (span_found x) ≡ activity_span clock (sheet rows) (num rows before 1)) where
+    pub no_previous : x ≡ Nowhere → t ≡ tell t pair
     unfolding check_pair
     no_previous z = rw (← q, z) (sym (tell_none t))
 
-    module _ {s : Span} {t' : Told} (z : x ≡ Some s) where
+    module _ {s : Span} {t' : Told} (z : x ≡ Between s) where
       pub in_order_lem : t' ≡ tell t (starts (pos s.end)) → overlap (sheet rows) (num rows after 1) ≡ None → t' ≡ tell t pair
       unfolding check_pair starts_early
       in_order_lem h o = rw (← q, z, o) (h ∙ ap (tell t) (sym (append-nil (starts (pos s.end)))))

@@ -12,7 +12,7 @@ ghost use Rattle.model.specs.inner.Records.{activity_of};
 ghost use Rattle.model.specs.Schedule.{precedence_violation};
 ghost use Rattle.definition.specs.ActivitySpan.{activity_span};
 ghost use Rattle.definition.specs.CheckPrecedence.{check_pair};
-ghost use Rattle.spans.specs.inner.Activities.{span_meant};
+ghost use Rattle.spans.specs.inner.Activities.{span_found, span_meant};
 ghost use Rattle.check7_pair.specs.inner.Tests.{starts_early, ends_early};
 
 use check7_early_piece::ActivityPair;
@@ -21,11 +21,11 @@ use overlap::Overlap;
 use owners::OwnerIndex;
 use rows::Kind;
 use sheet::Rows;
-use spans::Span;
+use spans::{ActivitySpan, Span};
 
 // When the activity of row k runs.
-fn span_of(pair: &ActivityPair, k: usize) -> Option<Span>
-    ensures { span_meant result ≡ activity_span clock (sheet pair.now.rows) (num pair.now.rows k 1) }
+fn span_of(pair: &ActivityPair, k: usize) -> ActivitySpan
+    ensures { span_meant (span_found result) ≡ activity_span clock (sheet pair.now.rows) (num pair.now.rows k 1) }
 {
     spans::activity_span(&pair.kinds, pair.rows.num(k, 1))
 }
@@ -53,7 +53,7 @@ fn ends_early(pair: &ActivityPair, earliest: i64) -> bool
     requires { nat_abs earliest ≤ 8000000000000 }
     ensures { result ≡ ends_early pair.now.rows (num pair.now.rows pair.now.before 1) (num pair.now.rows pair.now.after 1) earliest }
 {
-    let Some(span) = span_of(pair, pair.after) else {
+    let ActivitySpan::Between(span) = span_of(pair, pair.after) else {
         return false;
     };
     let moved = check7_transport::moved_between(&pair.rows, pair.before, pair.after);
@@ -95,7 +95,7 @@ fn check_overlapping(pair: &ActivityPair, previous: Span, k: usize, found: &mut 
 pub fn check_pair(pair: &ActivityPair, found: &mut Findings)
     ensures { so_far found.new ≡ tell (so_far found.old) (check_pair clock (sheet pair.now.rows) (activity_of pair.now.rows pair.now.before) (activity_of pair.now.rows pair.now.after)) }
 {
-    let Some(previous) = span_of(pair, pair.before) else {
+    let ActivitySpan::Between(previous) = span_of(pair, pair.before) else {
         return;
     };
     let Some(k) = pair.rows.find_owned(pair.after, Kind::Overlap) else {

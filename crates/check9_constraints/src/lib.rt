@@ -23,6 +23,7 @@ use findings::{Findings, Violation, ViolationKind};
 use lent_room::LentList;
 use rows::Kind;
 use sheet::{ByKind, KindIndex, Rows};
+use spans::ActivitySpan;
 
 // ---- time windows
 
@@ -31,7 +32,7 @@ use sheet::{ByKind, KindIndex, Rows};
 fn is_outside(rows: &ByKind, k: usize) -> bool
     ensures { result ≡ outside_at rows.now k }
 {
-    let Some(span) = spans::activity_span(rows, rows.num(k, 1)) else {
+    let ActivitySpan::Between(span) = spans::activity_span(rows, rows.num(k, 1)) else {
         return false;
     };
     span.start < rows.num(k, 2) || rows.num(k, 3) < span.end
@@ -118,7 +119,7 @@ fn is_unsynchronized(rows: &ByKind, place: u64) -> bool
     let mut last = None;
     let mut differing = false;
     for k in rows.named(Kind::Member, place) {
-        let Some(span) = spans::activity_span(rows, rows.num(k, 2)) else {
+        let ActivitySpan::Between(span) = spans::activity_span(rows, rows.num(k, 2)) else {
             return false;
         };
         differing |= is_apart(last, span.start);

@@ -19,9 +19,10 @@ pub fn gather_bookings(rows: &ByKind, place: u64, resource: u64, list: &mut Lent
     ensures behind { behind list.new ≡ past (length (bookings_of rows.now place resource)) (behind list.old) }
 {
     for k in rows.named(Kind::Member, place) {
-        if let Some(b) = first_on(rows, rows.num(k, 2), resource) {
-            list.push(b);
-        }
+        let Some(b) = first_on(rows, rows.num(k, 2), resource) else {
+            continue;
+        };
+        list.push(b);
     }
 }
 

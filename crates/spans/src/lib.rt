@@ -13,7 +13,7 @@ ghost use Rattle.model.specs.inner.Records.{maybe_at};
 ghost use Rattle.model.specs.Schedule.{task_completion_time};
 ghost use Rattle.definition.specs.ActivitySpan.{activity_span};
 ghost use Rattle.spans.specs.inner.Instants.{meant, end_if};
-ghost use Rattle.spans.specs.inner.Activities.{span_meant, widened, widen_by};
+ghost use Rattle.spans.specs.inner.Activities.{span_found, span_meant, widened, widen_by};
 
 use rows::Kind;
 use sheet::{ByKind, KindIndex, Rows};
@@ -67,6 +67,27 @@ pub struct Span {
     pub end: u64,
 }
 
+// When an activity runs, if it does. No Option: the project's paper asks for an enum of its own where an activity is looked up (docs/DECISIONS.md, 26).
+#[derive(Clone, Copy)]
+pub enum ActivitySpan {
+    Between(Span),
+    Nowhere,
+}
+
+impl From<Option<Span>> for ActivitySpan {
+    ghost use Rattle.std.specs.Prelude.{◌≡◌};
+    ghost use Rattle.spans.specs.inner.Activities.{span_found};
+
+    ghost from_gives = { λ x r. span_found r ≡ x };
+
+    fn from(x: Option<Span>) -> ActivitySpan {
+        match x {
+            Some(span) => ActivitySpan::Between(span),
+            None => ActivitySpan::Nowhere,
+        }
+    }
+}
+
 // What there is, widened to hold the time from start to end.
 fn widen(x: Option<Span>, start: u64, end: u64) -> Option<Span>
     ensures { span_meant result ≡ widened (span_meant x) (pos start) (pos end) }
@@ -94,13 +115,13 @@ fn booked_span(rows: &ByKind, id: u64) -> Option<Span>
 
 // The first time-only span of an activity, or else from the earliest start to the latest end of its bookings.
 #[tactic(auto, using(crate::proofs::Running::runs_booked, crate::proofs::Running::runs_timed))]
-pub fn activity_span(rows: &ByKind, id: u64) -> Option<Span>
-    ensures { span_meant result ≡ activity_span clock (sheet rows.now) id }
+pub fn activity_span(rows: &ByKind, id: u64) -> ActivitySpan
+    ensures { span_meant (span_found result) ≡ activity_span clock (sheet rows.now) id }
 {
     let Some(k) = rows.find_named(Kind::TimeOnlySpan, id) else {
-        return booked_span(rows, id);
+        return ActivitySpan::from(booked_span(rows, id));
     };
-    Some(Span {
+    ActivitySpan::Between(Span {
         start: rows.num(k, 3),
         end: rows.num(k, 4),
     })

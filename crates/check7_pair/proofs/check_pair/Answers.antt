@@ -18,4 +18,4 @@ pub check_overlapping-requires : goal.check_overlapping-requires
 check_overlapping-requires c = (search (rules, start_most), search (rules, end_most), search (rules, first_kind))
 
 pub returns : goal.returns
-returns c = search (rules, overlapping, overlap_row, activity_at_lem, c.in-Some-find_owned.ensures.place)
+returns c = search (rules, overlapping, overlap_row, activity_at_lem, c.in-Some.ensures.place)

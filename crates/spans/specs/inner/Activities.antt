@@ -1,9 +1,16 @@
--- What a span stands for, and a step of the loop over an activity's bookings. Assumes nothing.
+-- What a lookup answers, what a span stands for, and a step of the loop over an activity's bookings. Assumes nothing.
 use Rattle.std.specs.Prelude.{ℕ, cond, List, ℤ, pos, Option, None, Some}
 use Rattle.calendar.specs.Clock.{clock}
 use Rattle.rows.specs.Cells.{num}
 use Rattle.definition.specs.ActivitySpan as page
 use Rattle.spans.specs.declared.Span.{Span}
+use Rattle.spans.specs.declared.ActivitySpan.{ActivitySpan}
+use Rattle.spans.specs.declared.ActivitySpan.TheVariants.{Between, Nowhere}
+
+-- the span that was found
+abbrev pub span_found : ActivitySpan → Option Span
+span_found (Between x) = Some x
+span_found Nowhere = None
 
 abbrev pub span_meant : Option Span → Option (page.Span ℤ)
 span_meant (Some x) = Some (record { start = pos x.start; end = pos x.end })
