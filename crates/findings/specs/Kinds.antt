@@ -1,4 +1,4 @@
--- The types of violations, each with its number in a line and its severity. Assumes nothing.
+-- The one table of the types of violations: each with its number in a line and its severity. Assumes nothing.
 use Rattle.std.specs.Prelude.{ℕ}
 use Rattle.findings.specs.declared.ViolationKind.{ViolationKind}
 use Rattle.findings.specs.declared.ViolationKind.TheVariants.{DeadlineMiss, CapacityExceeded, PrecedenceViolation, ResourceUnavailable, SkillMismatch, RequirementUnfilled, TimeWindowViolation, SynchronizeViolation, UnknownActivity, DurationTooShort, EarlyStart}
