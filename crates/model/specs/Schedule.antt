@@ -42,7 +42,7 @@ as_part nothing w = None
 
 module _ {T : Type 0} (s : Sheet T) where
   unfoldable pub assignment_at : ℕ → List (Assignment T)
-  assignment_at = row_at s 23 λ k. columns8 s k λ activity task resource start end setup partIndex partWork.
+  assignment_at = row_at s 23 λ k. columns8 s k λ activity task resource start end setup part_index part_work.
       with2 (as_instant start) (as_instant end) λ a e.
       record {
         activity = as_num activity;
@@ -51,7 +51,7 @@ module _ {T : Type 0} (s : Sheet T) where
         start = a;
         end = e;
         setup = as_num setup;
-        part = as_part partIndex partWork;
+        part = as_part part_index part_work;
       }
 
   -- those of the first n rows, and all
