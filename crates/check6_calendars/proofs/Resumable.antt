@@ -26,7 +26,7 @@ use Rattle.definition.specs.Pieces.{runs_on}
 use Rattle.definition.specs.CheckCalendars.{piece_calendars}
 use Rattle.derived_times.specs.inner.Needs.{Needs}
 use Rattle.derived_times.proofs.Refusing.{rest_needed}
-use Rattle.check6_joint_calendars.specs.Laid.{laid_calendars}
+use Rattle.check6_joint_calendars.specs.inner.Laid.{laid_calendars}
 use Rattle.check6_joint_calendars.proofs.Whole.{joint_laid}
 use Rattle.check6_joint_calendars.proofs.Joint.{available_same}
 use Rattle.pieces.proofs.Marks.{Marking, marking_start, marking_turn}

@@ -39,7 +39,7 @@ use Rattle.model.proofs.OwnedLaws.{owned_kind}
 use Rattle.window_rows.specs.Listed.{listed, calendar_in}
 use Rattle.window_rows.specs.inner.Laid.{Holder}
 use Rattle.check6_joint_calendars.specs.inner.Taken.{marked, OnResources}
-use Rattle.check6_joint_calendars.specs.Laid.{in_a_row, places_from, LaidOut}
+use Rattle.check6_joint_calendars.specs.inner.Laid.{in_a_row, places_from, LaidOut}
 use Rattle.check6_joint_calendars.specs.inner.Laying.{Added, calendar_at, window_above, Resources}
 
 -- ---- calendars one behind the other

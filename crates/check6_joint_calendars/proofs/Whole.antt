@@ -28,7 +28,7 @@ use Rattle.model.specs.inner.Records.{activity_of, assignment_of}
 use Rattle.model.proofs.Finds.{found_self}
 use Rattle.definition.specs.CheckCalendars.{piece_calendars}
 use Rattle.window_rows.specs.inner.Laid.{Holder}
-use Rattle.check6_joint_calendars.specs.Laid.{taken_at, laid_calendars, LaidOut}
+use Rattle.check6_joint_calendars.specs.inner.Laid.{taken_at, laid_calendars, LaidOut}
 use Rattle.check6_joint_calendars.specs.inner.Taken.{taken, Marked}
 use Rattle.check6_joint_calendars.specs.inner.Laying.{Added, calendar_at, Resources}
 use Rattle.check6_joint_calendars.proofs.Joint.{all_any, joint_is}

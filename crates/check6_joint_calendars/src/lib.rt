@@ -14,7 +14,7 @@ ghost use Rattle.model.specs.Sheet.{sheet};
 ghost use Rattle.model.specs.Resource.{windows};
 ghost use Rattle.window_rows.specs.Listed.{listed};
 ghost use Rattle.window_rows.specs.inner.Laid.{Holder};
-ghost use Rattle.check6_joint_calendars.specs.Laid.{LaidOut, laid_calendars};
+ghost use Rattle.check6_joint_calendars.specs.inner.Laid.{LaidOut, laid_calendars};
 ghost use Rattle.check6_joint_calendars.specs.inner.Taken.{Marked};
 ghost use Rattle.check6_joint_calendars.specs.inner.Laying.{Added};
 

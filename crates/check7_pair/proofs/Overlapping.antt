@@ -1,11 +1,11 @@
 -- The overlap of an activity is that of its first row of kind 3; its numbers lie in their classes. Assumes nothing.
-use Prim.Native.Nat.{ℕ, suc, ◌+◌, ◌-◌, ◌^◌, ◌<◌, ◌≤◌}
+use Prim.Native.Nat.{ℕ, suc, ◌+◌, ◌^◌, ◌<◌, ◌≤◌}
 use mathlib.Core.Path.{◌≡◌, refl, sym, ap, ◌∙◌}
-use mathlib.Core.Bool.{Bool, true, false, cond, ◌&&◌}
+use mathlib.Core.Bool.{Bool, true, false, ◌&&◌}
 use mathlib.Core.List.{List}
 use Rattle.std.specs.Prelude.{None, Some}
 use native.Mathlib.Omega.{arith}
-use lib.Dec.{T, eqb, ltb}
+use lib.Dec.{T, eqb}
 use lib.IntN.{ℤ, pos, negsuc, nat_abs, ◌+ℤ◌}
 use lib.Signed.{mag}
 use mir.Syntax.{w64}
@@ -15,6 +15,7 @@ use borrow.Author.Rules.{sfits_of}
 use Rattle.loops.specs.Lists.{given, head, option}
 use Rattle.loops.specs.Search.{first_place, some_if}
 use Rattle.loops.proofs.ListLaws.{head_collect, head_given}
+use Rattle.loops.proofs.IntegerLaws.{left_size}
 use Rattle.loops.proofs.PlaceLaws.{found_at}
 use Rattle.model.proofs.Finds.{first_same, first_placed}
 use Rattle.rows.specs.Cells.{row_count, cell, num, is}
@@ -68,11 +69,7 @@ first_kind rows o k e = owned_kind rows o 3 k (found_at (owned_by rows o 3) (row
 
 sum_abs : (a : ℕ) (z : ℤ) → nat_abs (pos a +ℤ z) ≤ a + nat_abs z
 sum_abs a (pos b) = omega arith
-sum_abs a (negsuc b) = go (ltb a (suc b))
-  where
-    go : (t : Bool) → nat_abs (cond t (negsuc (suc b - suc a)) (pos (a - suc b))) ≤ a + suc b
-    go true = omega arith
-    go false = omega arith
+sum_abs a (negsuc b) = left_size (pos a) (suc b)
 
 module _ (rows : List ℤ) (acc : Accepted rows) (k : ℕ) (h : is rows k 0 3 ≡ true) (bits : ℕ) {v : Overlap} (lag : ℤ) (w : v ≡ overlap_of bits (to_z w64 (of_z w64 lag))) (m : mag lag < 2 ^ hbits w64) where
   o : v ≡ overlap_of bits lag

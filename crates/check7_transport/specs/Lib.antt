@@ -1,1 +1,1 @@
--- The contracts of `transport` cite the definitions of `model` and `checks` alone.
+-- The contracts of `check7_transport` cite the definitions of `model` and `definition`.

@@ -1,9 +1,11 @@
 -- Sheets that the reference judged, by computation: rows, and the findings that it gave.
+use Prim.Native.Nat.{ℕ}
 use mathlib.Core.Path.{◌≡◌, refl}
 use mathlib.Core.List.{List, [], ◌∷◌, ◌++◌}
 use lib.IntN.{ℤ, pos, negsuc}
 use lib.Ieee.{of_bits, mul, div, of_int, eq}
-use Rattle.model.specs.Schedule.{violation, assignment_at, assignments_below, assignments, assignments_for_activity_all, span_at, time_only_below, time_only, time_only_for_activity, latest, earliest, task_completion_time}
+use Rattle.findings.specs.declared.Violation.{Violation}
+use Rattle.model.specs.Schedule.{assignment_at, assignments_below, assignments, assignments_for_activity_all, span_at, time_only_below, time_only, time_only_for_activity, latest, earliest, task_completion_time}
 use Rattle.loops.specs.Lists.{keep, any_of, all_of, count_of, last, insert_by, sort_by, each}
 use Rattle.loops.specs.Ordered.{upsert}
 use Rattle.loops.specs.Range.{fold, collect}
@@ -41,6 +43,10 @@ none' = negsuc 9223372036854775807
 
 abbrev row : ℤ → ℤ → ℤ → ℤ → ℤ → ℤ → ℤ → ℤ → ℤ → ℤ → List ℤ
 row a b c d e f g h i j = a ∷ b ∷ c ∷ d ∷ e ∷ f ∷ g ∷ h ∷ i ∷ j ∷ []
+
+-- a finding's four numbers, as the reference gave them
+abbrev violation : ℕ → ℕ → ℕ → ℕ → Violation
+violation check kind entity severity = record { check = check; kind = kind; entity = entity; severity = severity }
 
 abbrev sheet0 : List ℤ
 sheet0 =

@@ -23,9 +23,9 @@ module _ {T : Type 0} (K : Clock T) (s : Sheet T) where
       let calendars : List (Calendar T) = piece_calendars a activity in
       let needed : ℕ = needed_ms s activity a (runs_on s a) in
       -- The Rust asks whether `joint_work_end(.., start, 0)` is some: no work at all has an end exactly where its start is working time.
-      let startsInWork : Bool = joint_working K calendars a.start in
+      let starts_in_work : Bool = joint_working K calendars a.start in
       let worked : ℕ = joint_available_ms K calendars a.start a.end in
-      given (not startsInWork || ltb worked needed) (resource_unavailable 6 a.resource)
+      given (not starts_in_work || ltb worked needed) (resource_unavailable 6 a.resource)
 
   -- a plain booking is held whole by one window, of its resource and of its activity
   unfoldable pub check_plain : Assignment T → Option (Activity T) → List Violation

@@ -37,11 +37,11 @@ module _ {T : Type 0} (K : Clock T) (s : Sheet T) where
       let worked : ℤ =
       cond a.resumable (pos (joint_available_ms K (own ∷ []) span.start span.end)) (K.minus span.end span.start) in
       -- The Rust asks whether `joint_work_end(.., start, 0)` is some: no work at all has an end exactly where its start is working time.
-      let startsInWork : Bool = joint_working K (own ∷ []) span.start in
+      let starts_in_work : Bool = joint_working K (own ∷ []) span.start in
       -- without windows `own` works always, so that needs no case
-      let inOwn : Bool = cond a.resumable startsInWork (interval_fits K own span.start span.end) in
+      let in_own : Bool = cond a.resumable starts_in_work (interval_fits K own span.start span.end) in
       given (lt_z worked (pos work)) (duration_too_short 2 span.activity)
-      ++ given (not inOwn) (time_window_violation 2 span.activity)
+      ++ given (not in_own) (time_window_violation 2 span.activity)
       ++ early_span span a.release
       ++ early_span span (option (find_task s a.task) None (λ t. t.release))
 

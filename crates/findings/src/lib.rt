@@ -3,7 +3,7 @@
 
 ghost use Rattle.std.specs.Prelude.{◌≡◌, ◌<◌, true};
 ghost use Rattle.loops.specs.Lists.{given};
-ghost use Rattle.findings.specs.Kinds.{number_of, severity_of, violation_of};
+ghost use Rattle.findings.specs.Kinds.{type_number, severity_of, violation_of};
 ghost use Rattle.findings.specs.inner.Sink.{sink, put1, emit};
 ghost use Rattle.findings.specs.inner.Told.{so_far, tell};
 
@@ -26,7 +26,7 @@ pub enum ViolationKind {
 impl ViolationKind {
     // The number that a line has for it.
     pub fn number(self) -> u8
-        ensures { result ≡ number_of self }
+        ensures { result ≡ type_number self }
     {
         self as u8
     }

@@ -21,9 +21,9 @@ TASK = 1
 abbrev pub RESOURCE : ℕ
 RESOURCE = 2
 
-abbrev pub number_of : MarginKind → ℕ
-number_of Task = TASK
-number_of Resource = RESOURCE
+abbrev pub kind_of_line : MarginKind → ℕ
+kind_of_line Task = TASK
+kind_of_line Resource = RESOURCE
 
 abbrev pub margin_of : ℕ → ℕ → ℤ → Margin
 margin_of of id margin = record { of = of; id = id; margin = margin }

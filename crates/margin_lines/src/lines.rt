@@ -10,11 +10,11 @@ pub enum MarginKind {
 }
 
 impl MarginKind {
-    ghost use Rattle.margin_lines.specs.Margins.{number_of};
+    ghost use Rattle.margin_lines.specs.Margins.{kind_of_line};
 
     // The number that a line has for it.
     pub fn number(self) -> u8
-        ensures { result ≡ number_of self }
+        ensures { result ≡ kind_of_line self }
     {
         self as u8
     }
@@ -30,10 +30,10 @@ pub struct Margin {
 }
 
 impl Margin {
-    ghost use Rattle.margin_lines.specs.Margins.{number_of, margin_of};
+    ghost use Rattle.margin_lines.specs.Margins.{kind_of_line, margin_of};
 
     pub fn of(kind: MarginKind, id: u64, margin: i64) -> Margin
-        ensures { result ≡ margin_of (number_of kind) id margin }
+        ensures { result ≡ margin_of (kind_of_line kind) id margin }
     {
         Margin {
             of: kind.number(),

@@ -66,7 +66,7 @@ module _ {T : Type 0} (s : Sheet T) where
   activities_of t = keep (λ a. eqb a.task t) activities
 
   unfoldable pub overlap : ℕ → Option Overlap
-  overlap a = head (rows_of_kind s 3 λ k. columns3 s k λ activity startAfter lag. given (eqb (as_num activity) a) (overlap_of (as_num startAfter) (as_int lag)))
+  overlap a = head (rows_of_kind s 3 λ k. columns3 s k λ activity start_after lag. given (eqb (as_num activity) a) (overlap_of (as_num start_after) (as_int lag)))
 
   unfoldable pub split : ℕ → Option Split
   split a = head (rows_of_kind s 4 λ k. columns4 s k λ activity max_parts min_part overhead.

@@ -7,6 +7,8 @@ use Rattle.loops.specs.Lists.{given, head, keep, each}
 use Rattle.loops.specs.Range.{collect}
 use Rattle.calendar.specs.Clock.{Clock}
 use Rattle.findings.specs.declared.Violation.{Violation}
+use Rattle.findings.specs.declared.ViolationKind.TheVariants.{DeadlineMiss, CapacityExceeded, PrecedenceViolation, ResourceUnavailable, SkillMismatch, RequirementUnfilled, TimeWindowViolation, SynchronizeViolation, UnknownActivity, DurationTooShort, EarlyStart}
+use Rattle.findings.specs.Kinds.{violation_of}
 use Rattle.model.specs.Sheet.{Cell, number, instant, nothing, Sheet, as_num, as_instant, with2, row_at, columns4, columns8}
 
 -- which part of a split activity, and how much of its processing it does
@@ -40,7 +42,7 @@ as_part nothing w = None
 
 module _ {T : Type 0} (s : Sheet T) where
   unfoldable pub assignment_at : ℕ → List (Assignment T)
-  assignment_at = row_at s 23 λ k. columns8 s k λ activity task resource start end setup partIndex partWork.
+  assignment_at = row_at s 23 λ k. columns8 s k λ activity task resource start end setup part_index part_work.
       with2 (as_instant start) (as_instant end) λ a e.
       record {
         activity = as_num activity;
@@ -49,7 +51,7 @@ module _ {T : Type 0} (s : Sheet T) where
         start = a;
         end = e;
         setup = as_num setup;
-        part = as_part partIndex partWork;
+        part = as_part part_index part_work;
       }
 
   -- those of the first n rows, and all
@@ -98,43 +100,40 @@ module _ {T : Type 0} (K : Clock T) (s : Sheet T) where
       (each (λ a. given (eqb a.task t) a.end) (assignments s)
       ++ each (λ x. given (eqb x.task t) x.end) (time_only s))
 
--- ---- violations: check, type, entity, severity
+-- ---- violations
 
-abbrev pub violation : ℕ → ℕ → ℕ → ℕ → Violation
-violation check kind entity severity = record { check = check; kind = kind; entity = entity; severity = severity }
-
--- `Violation::deadline_miss` .. `Violation::synchronize`, by type: the one table of types and severities. (`time_window` and `synchronize` have the longer
--- names of their types, since a constraint has the short ones.) The entity of a synchronize violation is its constraint's place.
+-- `Violation::deadline_miss` .. `Violation::synchronize`: what a check reports of an entity, with the type's number and severity by findings/Kinds. (`time_window`
+-- and `synchronize` have the longer names of their types, since a constraint has the short ones.) The entity of a synchronize violation is its constraint's place.
 module _ (check : ℕ) (entity : ℕ) where
   abbrev pub deadline_miss : Violation
-  deadline_miss = violation check 1 entity 80
+  deadline_miss = violation_of check DeadlineMiss entity
 
   abbrev pub capacity_exceeded : Violation
-  capacity_exceeded = violation check 2 entity 90
+  capacity_exceeded = violation_of check CapacityExceeded entity
 
   abbrev pub precedence_violation : Violation
-  precedence_violation = violation check 3 entity 95
+  precedence_violation = violation_of check PrecedenceViolation entity
 
   abbrev pub resource_unavailable : Violation
-  resource_unavailable = violation check 4 entity 85
+  resource_unavailable = violation_of check ResourceUnavailable entity
 
   abbrev pub skill_mismatch : Violation
-  skill_mismatch = violation check 5 entity 70
+  skill_mismatch = violation_of check SkillMismatch entity
 
   abbrev pub requirement_unfilled : Violation
-  requirement_unfilled = violation check 6 entity 95
+  requirement_unfilled = violation_of check RequirementUnfilled entity
 
   abbrev pub time_window_violation : Violation
-  time_window_violation = violation check 7 entity 75
+  time_window_violation = violation_of check TimeWindowViolation entity
 
   abbrev pub synchronize_violation : Violation
-  synchronize_violation = violation check 8 entity 75
+  synchronize_violation = violation_of check SynchronizeViolation entity
 
   abbrev pub unknown_activity : Violation
-  unknown_activity = violation check 9 entity 95
+  unknown_activity = violation_of check UnknownActivity entity
 
   abbrev pub duration_too_short : Violation
-  duration_too_short = violation check 10 entity 90
+  duration_too_short = violation_of check DurationTooShort entity
 
   abbrev pub early_start : Violation
-  early_start = violation check 11 entity 90
+  early_start = violation_of check EarlyStart entity

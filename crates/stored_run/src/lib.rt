@@ -7,7 +7,7 @@ ghost use Rattle.std.specs.Fn.{FnReturnsAt, FnOnceReturnsAtMut};
 ghost use Rattle.loops.specs.Lists.{all_of};
 ghost use Rattle.text_fields.specs.Parts.{parts};
 ghost use Rattle.stored_lines.specs.inner.Line.{is_formed};
-ghost use Rattle.stored_run.specs.Cases.{Gathers};
+ghost use Rattle.stored_run.specs.inner.Cases.{Gathers};
 ghost use Rattle.stored_run.specs.declared.Gathered.{Gathered};
 ghost use Rattle.stored_run.specs.inner.Count.{more};
 ghost use Rattle.stored_run.specs.inner.Expected.{as_expected, passes, lines_expected, LentPasses, CallPasses, verdict_passes};

@@ -114,18 +114,18 @@ module _ (text : List ℕ) (lent : List ℤ) (room : 8000 ≡ length lent) {a : 
     rows_first rows l = sym (length-take-le (m * n) rows (rows_within rows l))
 
   -- what is printed of it, where rows are printed so
-  module _ (ofRows : List ℤ → List ℕ) where
+  module _ (of_rows : List ℤ → List ℕ) where
     pub text_refused : {o o' : List ℕ} {r most : ℕ} {e : Refusal} → Wrote o 0 o' r (printed_refused (number_of e.reason) e.place) → length o ≡ most → 50 ≤ most
-        → a ≡ Err e → e.place < 2 ^ 64 → take r o' ≡ printed_text ofRows text
+        → a ≡ Err e → e.place < 2 ^ 64 → take r o' ≡ printed_text of_rows text
     unfolding printed_text
     text_refused {e = e} w long wide q l =
         let z : answer_of text 800 ≡ Err e = sym answer_is ∙ q in rw z (refused_first e w long wide l)
 
     pub text_accepted : {rows : List ℤ} {n : ℕ} (bytes : List ℕ) → rows ≡ rows_after (answer_of text (length lent / 10)) text lent → a ≡ Ok n
-        → bytes ≡ ofRows (take (10 * n) rows) → bytes ≡ printed_text ofRows text
+        → bytes ≡ of_rows (take (10 * n) rows) → bytes ≡ printed_text of_rows text
     unfolding printed_text
     text_accepted {n = n} bytes e q p =
         let z : answer_of text 800 ≡ Ok n = sym answer_is ∙ q in
         let w : answer_of text (length lent / 10) ≡ Ok n = sym told ∙ q in
         let first : take (10 * n) _ ≡ rows_of (parts 10 text) = ap (take (10 * n)) (rw w at e) ∙ take_at (rows_of (parts 10 text)) _ (10 * n) (rows_are n z).0 in
-        rw z (p ∙ ap ofRows first)
+        rw z (p ∙ ap of_rows first)

@@ -8,10 +8,10 @@ use Rattle.text_fields.specs.Parts.{parts}
 use Rattle.text.specs.Text.{answer_of, rows_of}
 use Rattle.printing.specs.Printed.{printed_refused}
 
-module _ (ofRows : List ℤ → List ℕ) where
+module _ (of_rows : List ℤ → List ℕ) where
   -- of a text that was answered so: what is printed of its rows, or its refusal
   abbrev pub printed_of : Result ℕ Refusal → List ℕ → List ℕ
-  printed_of (Ok n) text = ofRows (rows_of (parts 10 text))
+  printed_of (Ok n) text = of_rows (rows_of (parts 10 text))
   printed_of (Err e) text = printed_refused (number_of e.reason) e.place
 
   unfoldable pub printed_text : List ℕ → List ℕ
@@ -29,5 +29,5 @@ KeepsWithin {X} post size = (input : Bor (List X)) (room left : MutBor (List ℕ
 
 -- of rows, in such room: it leaves what is printed of them, and answers how many bytes that are
 abbrev pub PrintsRows : (Bor (List ℤ) → MutBor (List ℕ) → ℕ → MutBor (List ℕ) → Type 0) → ℕ → (List ℤ → List ℕ) → Type 0
-PrintsRows post size ofRows =
-    (rows : Bor (List ℤ)) (room left : MutBor (List ℕ)) (n : ℕ) → length room.now ≡ size → post rows room n left → (n ≤ size) × (take n left.now ≡ ofRows rows.now)
+PrintsRows post size of_rows =
+    (rows : Bor (List ℤ)) (room left : MutBor (List ℕ)) (n : ℕ) → length room.now ≡ size → post rows room n left → (n ≤ size) × (take n left.now ≡ of_rows rows.now)

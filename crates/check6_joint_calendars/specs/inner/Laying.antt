@@ -15,7 +15,7 @@ use Rattle.model.specs.Sheet.{sheet}
 use Rattle.model.specs.Resource.{windows}
 use Rattle.window_rows.specs.Listed.{listed, calendar_in}
 use Rattle.check6_joint_calendars.specs.inner.Taken.{marked}
-use Rattle.check6_joint_calendars.specs.Laid.{LaidOut}
+use Rattle.check6_joint_calendars.specs.inner.Laid.{LaidOut}
 
 -- the calendar x, of m windows, is laid out behind the others
 pub record Added (x : Calendar ℤ) (m : ℕ) (l l' : LentList TimeWindow 800) (q q' : LentList Places 800) : Type 0 where
