@@ -1,4 +1,3 @@
-use borrow.Author.Rules.{rules}
 use Rattle.rows.specs.Cells.{num}
 use Rattle.check7_early_piece.proofs.Judged.{by_bookings, by_nowhere, by_span}
 use Rattle.check7_early_piece.proofs.piece_is_early.Goals as goal
