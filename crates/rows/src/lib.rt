@@ -201,8 +201,9 @@ pub fn is_none(x: i64) -> bool
     x == i64::MIN
 }
 
-// By class the least number of a column, the greatest, and whether it may be none. (A match would be a jump at each cell of a sheet.)
-const RANGES: [(i64, i64, bool); 19] = [
+// By class the least number of a column, the greatest, and whether it may be none. (A match would be a jump at each cell of a sheet. A static: a constant array
+// of tuples is laid out on the stack at each read, and the validation of a week takes three times as long.)
+static RANGES: [(i64, i64, bool); 19] = [
     (0, 0, false), // Blank
     (i64::MIN, i64::MAX, false), // RowKind
     (0, 999_999_999, false), // Id
