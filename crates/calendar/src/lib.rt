@@ -76,6 +76,9 @@ pub struct Places {
     pub to: usize,
 }
 
+// What stands in room before a calendar is laid out there.
+pub const NO_PLACES: Places = Places { from: 0, to: 0 };
+
 impl Places {
     // Of all the windows, which are one calendar then.
     #[tactic(auto, using(crate::proofs::Windows::one_calendar))]

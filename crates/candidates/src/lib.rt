@@ -16,7 +16,7 @@ use owners::{ByOwner, OwnerIndex};
 use rows::Kind;
 use sheet::Rows;
 
-// Whether a row of a kind that belongs to row o has x in column c.
+// Whether a row of a kind that belongs to row o has x in column c. That o is a row, or their number, is what `owned_by` asks of whoever calls it.
 pub fn lists(rows: &ByOwner, o: usize, kind: Kind, c: usize, x: u64) -> bool
     requires { o ≤ row_count rows.now }
     ensures { result ≡ any_below (λ k. owned_by rows.now o (kind_number kind) k && is rows.now k c x) (row_count rows.now) }

@@ -142,7 +142,7 @@ pub fn lacking_of(rows: &Sheet, need: &[u64; 800]) -> [bool; 800]
 {
     // No heap: room for a window, for a calendar and for a mark of each row.
     let mut window_room = [window_rows::NO_WINDOW; 800];
-    let mut place_room = [check6_joint_calendars::NO_PLACES; 800];
+    let mut place_room = [calendar::NO_PLACES; 800];
     let mut list = WindowList::over(&mut window_room);
     let mut places = PlacesList::over(&mut place_room);
     let mut lacking = [false; 800];

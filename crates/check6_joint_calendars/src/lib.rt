@@ -26,9 +26,6 @@ use rows::Kind;
 use sheet::{Found, KindIndex, Rows};
 use window_rows::WindowList;
 
-// What stands in room before a calendar is laid out there.
-pub const NO_PLACES: Places = Places { from: 0, to: 0 };
-
 // The places of calendars among windows that are laid out: as many calendars as a sheet has rows have room.
 pub type PlacesList<'a> = LentList<'a, Places, 800>;
 

@@ -58,7 +58,8 @@ fn end_to_start(rows: &ByKind, before: u64, after: u64, delay: i64, found: &mut 
     );
 }
 
-// The activity of row o against its predecessors. Both indexes and no `Sheet`, here and below, as `ActivityPair` (check7_early_piece) says.
+// The activity of row o against its predecessors. Both indexes and no `Sheet`, here and below, as `ActivityPair` (check7_early_piece) says; so a clause says that
+// they are of the same rows.
 #[tactic(auto, using(crate::proofs::Told::predecessors_told))]
 fn check_predecessors(rows: &ByKind, owners: &ByOwner, o: usize, found: &mut Findings)
     requires { (owners.now ≡ rows.now) × Accepted rows.now × (o < row_count rows.now) × (is rows.now o 0 2 ≡ true) }

@@ -27,7 +27,8 @@ fn is_late(rows: &ByKind, k: usize) -> bool
     completion.is_some_and(|c| deadline < c)
 }
 
-// The finding of the task of row k.
+// The finding of the task of row k. Beside check9_constraints `check_window`, which has the same two steps: the test, the violation and the definition are
+// others, and one for both would take the three.
 #[tactic(auto, using(crate::proofs::Lateness::deadline_found))]
 fn check_deadline(rows: &ByKind, k: usize, found: &mut Findings)
     requires { is rows.now k 0 1 ≡ true }

@@ -12,6 +12,7 @@ use rows::Kind;
 use sheet::{ByKind, KindIndex, Rows};
 
 // Each member's first booking on the resource, of the members that have one: their rows, in the members' order. The rest of the lent room stays.
+// The list is empty, for its elements are paired afterwards: what stood there before would be paired too.
 #[tactic(auto, using(chains::proofs::PlaceLaws::places_few, lent_room::proofs::Pushing::past_first), unfolding(crate::specs::inner::Bookings::booking_of, crate::specs::inner::Bookings::bookings_of, loops::specs::Lists::each))]
 pub fn gather_bookings(rows: &ByKind, place: u64, resource: u64, list: &mut LentList<usize, 800>)
     requires { listed list.old ≡ [] }

@@ -8,7 +8,7 @@ ghost use Rattle.closures.specs.inner.Bytes.{rows_bytes};
 
 use text_program::Words;
 
-// The first five numbers of each of the first n rows. A loop of its own, as printing `put_findings` and margins `put_margins`: each puts another part of a
+// The first five numbers of each of the first n rows, where n is what the call answered. A loop of its own, as printing `put_findings` and margins `put_margins`: each puts another part of a
 // line, so that one function would take a closure that writes.
 fn put_rows(out: &mut [u8], rows: &[i64], n: usize) -> usize
     requires { (n ≤ 800) × (length rows.now ≡ 8000) }

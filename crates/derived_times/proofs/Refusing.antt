@@ -12,7 +12,8 @@ use lib.Dec.{ltb, leb}
 use lib.IntN.{ℤ}
 use lib.ListN.{get_or}
 use borrow.Author.Tests.{ltb-true, lt-leb, leb-false, le-leb}
-use Rattle.loops.specs.Lists.{any_of, option}
+use Rattle.std.proofs.lemmas.Option.{none-some, same_Some}
+use Rattle.loops.specs.Lists.{any_of, head, option}
 use Rattle.loops.specs.Search.{first}
 use Rattle.loops.proofs.PlaceLaws.{first_none, if_none}
 use Rattle.loops.proofs.SearchLaws.{first_hit, first_done}
@@ -30,7 +31,7 @@ use Rattle.model.proofs.RowLaws.{assignment_row, assignment_none}
 use Rattle.model.proofs.Finds.{find_activity_lem}
 use Rattle.definition.specs.Pieces.{runs_on}
 use Rattle.derived_times.specs.Times.{too_large, derived, is_too_large, time_fault, time_refusal}
-use Rattle.derived_times.specs.inner.Needs.{rest_ms, rest_at, Times, Needs}
+use Rattle.derived_times.specs.inner.Needs.{rest_ms, derived_at, rest_at, Times, Needs}
 
 -- ---- one derived time
 
@@ -42,9 +43,6 @@ most (Some d) = go (ltb (total_ms d) (2 ^ 53)) refl
     go : (b : Bool) → ltb (total_ms d) (2 ^ 53) ≡ b → rest_ms (cond b (Ok d) limited.too_large) ≤ 9007199254740992
     go true h = let l : total_ms d < 9007199254740992 = ltb-true (total_ms d) 9007199254740992 h in omega arith
     go false h = omega arith
-
-pub rest_most : (e : Option ActivityDuration) {d : Derived} → d ≡ within e → rest_ms d ≤ 9007199254740992
-rest_most e h = rw h (most e)
 
 large_is : (e : Option ActivityDuration) → leb 9007199254740992 (rest_ms (within e)) ≡ too_large e
 unfolding within
@@ -58,28 +56,41 @@ large_is (Some d) = go (ltb (total_ms d) (2 ^ 53)) refl
 -- ---- a row
 
 module _ (rows : List ℤ) where
-  pub rest_none : (k : ℕ) → is rows k 0 23 ≡ false → 0 ≡ rest_at rows k
-  unfolding rest_at
-  rest_none k h = rw (assignment_none rows k h)
+  pub derived_none : (k : ℕ) → is rows k 0 23 ≡ false → None ≡ derived_at rows k
+  unfolding derived_at
+  derived_none k h = rw (assignment_none rows k h)
 
-  pub rest_unknown : (k : ℕ) → is rows k 0 23 ≡ true → place_of rows 2 (num rows k 1) ≡ None → 0 ≡ rest_at rows k
-  unfolding rest_at
-  rest_unknown k h e = rw (assignment_row rows k h, find_activity_lem rows (num rows k 1), e)
+  pub derived_unknown : (k : ℕ) → is rows k 0 23 ≡ true → place_of rows 2 (num rows k 1) ≡ None → None ≡ derived_at rows k
+  unfolding derived_at
+  derived_unknown k h e = rw (assignment_row rows k h, find_activity_lem rows (num rows k 1), e)
 
-  pub rest_known : (k o : ℕ) {v : ℕ} {d : Derived} → v ≡ rest_ms d → d ≡ within (derived (sheet rows) (assignment_of rows k) (activity_of rows o)) → is rows k 0 23 ≡ true
-      → place_of rows 2 (num rows k 1) ≡ Some o → v ≡ rest_at rows k
-  unfolding rest_at
-  rest_known k o p q h e = p ∙ ap rest_ms q ∙ rw (assignment_row rows k h, find_activity_lem rows (num rows k 1), e)
+  pub derived_known : (k o : ℕ) {d : Derived} → d ≡ within (derived (sheet rows) (assignment_of rows k) (activity_of rows o)) → is rows k 0 23 ≡ true
+      → place_of rows 2 (num rows k 1) ≡ Some o → Some d ≡ derived_at rows k
+  unfolding derived_at
+  derived_known k o q h e = ap Some q ∙ rw (assignment_row rows k h, find_activity_lem rows (num rows k 1), e)
+
+  -- each derived time is one whose rest is within the table's numbers
+  pub derived_most : (k : ℕ) {d : Derived} → Some d ≡ derived_at rows k → rest_ms d ≤ 9007199254740992
+  unfolding derived_at
+  derived_most k {d} h = go (head (assignment_at (sheet rows) k)) h
+    where
+      known : (b : Assignment ℤ) (x : Option (Activity ℤ)) → Some d ≡ option x None (λ a. Some (within (derived (sheet rows) b a))) → rest_ms d ≤ 9007199254740992
+      known b None e = absurd (none-some _ (sym e))
+      known b (Some a) e = rw (same_Some d (within (derived (sheet rows) b a)) e) (most (derived (sheet rows) b a))
+
+      go : (x : Option (Assignment ℤ)) → Some d ≡ option x None (λ b. option (find_activity (sheet rows) b.activity) None (λ a. Some (within (derived (sheet rows) b a)))) → rest_ms d ≤ 9007199254740992
+      go None e = absurd (none-some _ (sym e))
+      go (Some b) e = known b (find_activity (sheet rows) b.activity) e
 
   too_large_lem : (k : ℕ) → leb 9007199254740992 (rest_at rows k) ≡ any_of (is_too_large (sheet rows)) (assignment_at (sheet rows) k)
   too_large_lem k = go (is rows k 0 23) refl
     where
       go : (b : Bool) → is rows k 0 23 ≡ b → leb 9007199254740992 (rest_at rows k) ≡ any_of (is_too_large (sheet rows)) (assignment_at (sheet rows) k)
-      go false h = unfold rest_at any_of in (rw (assignment_none rows k h) (lt-leb 9007199254740992 0 (omega arith)))
-      go true h = unfold rest_at any_of is_too_large in (rw (assignment_row rows k h) (known (find_activity (sheet rows) (num rows k 1))))
+      go false h = unfold rest_at derived_at any_of in (rw (assignment_none rows k h) (lt-leb 9007199254740992 0 (omega arith)))
+      go true h = unfold rest_at derived_at any_of is_too_large in (rw (assignment_row rows k h) (known (find_activity (sheet rows) (num rows k 1))))
         where
           known : (x : Option (Activity ℤ))
-              → leb 9007199254740992 (option x 0 (λ a. rest_ms (within (derived (sheet rows) (assignment_of rows k) a))))
+              → leb 9007199254740992 (option (option x None (λ a. Some (within (derived (sheet rows) (assignment_of rows k) a)))) 0 rest_ms)
               ≡ (option x false (λ a. too_large (derived (sheet rows) (assignment_of rows k) a)) || false)
           known None = lt-leb 9007199254740992 0 (omega arith)
           known (Some a) = large_is (derived (sheet rows) (assignment_of rows k) a) ∙ sym (or-false (too_large (derived (sheet rows) (assignment_of rows k) a)))
@@ -127,7 +138,7 @@ module _ (rows : List ℤ) where
     large_at = rw (p, q)
 
     rest_at_lem : rest_at rows k ≡ rest_ms (within (derived (sheet rows) b a))
-    unfolding rest_at
+    unfolding rest_at derived_at
     rest_at_lem = rw (p, q)
 
     needed_at : too_large (derived (sheet rows) b a) ≡ false → needed_ms (sheet rows) a b (runs_on (sheet rows) b) ≡ b.setup + rest_ms (within (derived (sheet rows) b a))

@@ -21,7 +21,7 @@ ghost use Rattle.pieces.specs.inner.Bookings.{in_piece};
 ghost use Rattle.pieces.specs.inner.Held.{held_at, Held};
 ghost use Rattle.derived_times.specs.inner.Rows.{columns_of, part_at, timing_of, timing_place, earlier_of, timed_at, Timings};
 ghost use Rattle.derived_times.specs.Times.{derived, is_too_large, time_refusal};
-ghost use Rattle.derived_times.specs.inner.Needs.{rest_ms, rest_at, Times, Needs};
+ghost use Rattle.derived_times.specs.inner.Needs.{rest_ms, derived_at, rest_at, Times, Needs};
 
 pub mod timed_sheet;
 
@@ -215,19 +215,28 @@ impl<'a> Bookings<'a> {
         f.duration(piece, duration_at(self.rows.as_slice(), o, 4))
     }
 
-    // What row k needs besides its own setup, where it is a booking of a known activity; 2^53 where its time is refused.
-    #[tactic(auto, using(crate::proofs::Refusing::rest_none, crate::proofs::Refusing::rest_unknown, crate::proofs::Refusing::rest_known, crate::proofs::Refusing::rest_most, owners::proofs::Links::books))]
+    // The same of row k, where it is a booking of a known activity.
+    #[tactic(auto, using(crate::proofs::Refusing::derived_none, crate::proofs::Refusing::derived_unknown, crate::proofs::Refusing::derived_known, owners::proofs::Links::books))]
+    pub fn derived_at(&self, k: usize) -> Option<Derived>
+        requires { k < row_count self.now.rows.now }
+        ensures { result ≡ derived_at self.now.rows.now k }
+    {
+        if !self.rows.is_of_kind(k, Kind::Booking) {
+            return None;
+        }
+        let Found::At(o) = self.rows.activity_of(k) else {
+            return None;
+        };
+        Some(self.duration_on(o, k))
+    }
+
+    // What row k needs besides its own setup; 2^53 where its time is refused.
+    #[tactic(auto, using(crate::proofs::Refusing::derived_most), unfolding(crate::specs::inner::Needs::rest_at))]
     fn rest_at(&self, k: usize) -> u64
         requires { k < row_count self.now.rows.now }
         ensures { result ≡ rest_at self.now.rows.now k }
     {
-        if !self.rows.is_of_kind(k, Kind::Booking) {
-            return 0;
-        }
-        let Found::At(o) = self.rows.activity_of(k) else {
-            return 0;
-        };
-        rest_ms(self.duration_on(o, k))
+        self.derived_at(k).map_or(0, rest_ms)
     }
 }
 

@@ -15,7 +15,8 @@ use pieces::HeldMarks;
 use std::marker::Model;
 use std::ops::Deref;
 
-// A sheet that refusals 1 to 6 let pass, with who is held and what each booking needs; seen as the rows.
+// A sheet that refusals 1 to 6 let pass, with who is held and what each booking needs; seen as the rows. As pieces `MarkedRows` and check6_calendars
+// `LackingSheet` it is what it derefs to with one table more; what is known of the table is its type's own invariant.
 #[derive(Drop)]
 pub struct TimedSheet<'a> {
     sheet: &'a Sheet<'a>,

@@ -92,7 +92,7 @@ pub fn front_or<'a>(n: Option<usize>, space: &'a [u8], sent: &'a [u8]) -> &'a [u
     }
 }
 
-// The least place against the rules. Lines are unfolded in the lent space.
+// The least place against the rules. Lines are unfolded in the lent space, which is asked to hold the text: no line is longer.
 pub fn first_wrong(text: &[u8], space: &mut [u8]) -> Option<usize>
     requires { length text.now ≤ length space.old }
     ensures result_value { result ≡ wrong_from None 0 (lines text.now) }

@@ -25,7 +25,8 @@ pub(crate) fn split_unquoted(s: &[u8], stop: u8) -> (&[u8], Option<&[u8]>)
     (s, None)
 }
 
-// The parts of a text between the bytes `stop` outside quotes.
+// The parts of a text between the bytes `stop` outside quotes. Beside text_fields `Parts`, which knows no quotes: one for both would take the split as a type
+// parameter, and a law of what each split leaves.
 #[derive(Drop)]
 pub(crate) struct UnquotedParts<'a> {
     rest: Option<&'a [u8]>,

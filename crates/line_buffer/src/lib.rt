@@ -49,7 +49,7 @@ pub enum Handed {
     Longer,
 }
 
-// So many lines, of w numbers each, to the lent buffer, all or none.
+// So many lines, of w numbers each, to the lent buffer, all or none. The count is that of the lines that were found, which may be more than are held.
 pub fn hand_over(out: &mut [i64], w: usize, count: usize, found: &[i64]) -> Handed
     requires { 0 < w }
     ensures value { result ≡ handed (length out.old / w) (length found.now / w) count }

@@ -30,7 +30,7 @@ fn put_margin(out: &mut [u8], at: usize, line: &[i64]) -> usize
     printing::put_line(out, next, &line[1..])
 }
 
-// The first n lines. A loop of its own, as printing `put_findings` and closures `put_rows`: each puts another part of a line, so that one function would take a
+// The first n lines, where n is what the call answered. A loop of its own, as printing `put_findings` and closures `put_rows`: each puts another part of a line, so that one function would take a
 // closure that writes.
 fn put_margins(out: &mut [u8], lines: &[i64], n: usize) -> usize
     requires { (n ≤ 800) × (length lines.now ≡ 2400) }

@@ -8,13 +8,17 @@ ghost use Rattle.sheet.specs.Places.{requirement_place, constraint_place};
 ghost use Rattle.owners.specs.inner.Owners.{owner_kind, owner_place, own_place, res_place, owned_key, Numbered, Linked, Owned};
 
 pub mod by_owner;
+mod owner_links;
 mod sheet_index;
+mod sheet_owners;
 
-pub use by_owner::{ByOwner, LinkIndex, OwnerIndex, OwnerLinks, Owners};
+pub use by_owner::{ByOwner, OwnerIndex};
 use chains::ChainTable;
+pub use owner_links::{LinkIndex, OwnerLinks};
 use rows::Kind;
 use sheet::{ByKind, KindIndex, Rows};
 pub use sheet_index::SheetIndex;
+pub use sheet_owners::Owners;
 
 // ---- a row by its number: among the requirements of an activity, or among the constraints
 
@@ -25,8 +29,8 @@ fn find_requirement(rows: &ByKind, activity: u64, m: u64) -> Option<usize>
     rows.named(Kind::Requirement, activity).nth(m as usize)
 }
 
-// The row of constraint place m at place m. The table is lent: one that is returned stands twice in the caller's frame. Counted beside the for: the invariant
-// has both, the row and how many constraints lie above it.
+// The row of constraint place m at place m: `Numbered`, which the functions below ask of the table, as long as one fill needs it. The table is lent: one that is
+// returned stands twice in the caller's frame. Counted beside the for: the invariant has both, the row and how many constraints lie above it.
 #[tactic(auto, using(crate::proofs::Tables::numbering_low))]
 fn number_rows(rows: &[i64], t: &mut [u16; 800])
     requires { (row_count rows.now ≤ 800) × (t.old ≡ replicate 800 (row_count rows.now)) }

@@ -8,8 +8,8 @@ ghost use Rattle.part_share.specs.inner.Within.{share_within};
 
 use rounding::TooLarge;
 
-// No time in a sheet is greater.
-const LONGEST: u64 = 4000000000000;
+// No time in a sheet is greater, and no lag is farther from 0.
+pub const LONGEST: u64 = 4000000000000;
 
 // 2^21. A time has two digits of 21 bits.
 const DIGIT: u64 = 2097152;

@@ -1,6 +1,6 @@
 // The pieces of the bookings, an activity or one of its parts, and who is held only as a companion: `piece_key` and `companions_among` of
 // scheduler/feasibility.rs. Each is found along chains of rows; who is held is found once for a sheet. Rows by kind and by owner are asked in a clause to be
-// `Accepted`: a `Sheet`, whose type says more than that, would ask more of callers.
+// `Accepted`, and to be the same rows: a `Sheet`, whose type says more than that, would ask more of callers.
 #![tactic(auto)]
 
 ghost use Rattle.std.specs.Prelude.{◌≡◌, ◌<◌, ◌≤◌, ℕ, Bool, true, not, ◌&&◌};

@@ -24,7 +24,8 @@ fn put_decimal(out: &mut [u8], at: usize, n: u64) -> usize
     lent_room::put(out, next, b'0' + (n % 10) as u8)
 }
 
-// A number without its sign. One below zero is negated; the lowest has no negative, so it is the number after it that is, and one is added to that.
+// A number without its sign. One below zero is negated, which the project's paper asks for, and not `unsigned_abs`; the lowest has no negative, so it is the number
+// after it that is, and one is added to that.
 fn magnitude(z: i64) -> u64
     ensures { result ≡ nat_abs z }
 {
@@ -70,7 +71,7 @@ pub fn put_line(out: &mut [u8], from: usize, line: &[i64]) -> usize
     at
 }
 
-// The first n findings, each a line of four numbers. A loop of its own, as closures `put_rows` and margins `put_margins`: each puts another part of a line, so
+// The first n findings, each a line of four numbers. The count beside the lines, here and in the next: it is the call's answer, and so says the definition. A loop of its own, as closures `put_rows` and margins `put_margins`: each puts another part of a line, so
 // that one function would take a closure that writes.
 fn put_findings(out: &mut [u8], from: usize, found: &[i64], n: usize) -> usize
     requires { from ≤ length out.old }

@@ -2,7 +2,7 @@
 // of what `read` and `write` below were answered. That these lend the bytes that they are handed has to be believed, and that the standard library tells the
 // answer as it came: no contract can say what the outside gives and takes.
 ghost use Rattle.std.specs.Prelude.{◌≡◌, length, None};
-ghost use Rattle.program_io.specs.Ending.{unasked, HandsOn, Stops, TellsWhy};
+ghost use Rattle.program_io.specs.Ending.{unasked, HandsOn, TellsWhy};
 
 use std::io;
 use std::io::{ErrorKind, Read, Stdin, Stdout, Write};
@@ -28,13 +28,17 @@ pub struct Channel<S> {
     reason: Option<io::Error>,
 }
 
-fn stop_of(reason: io::Error) -> Stop
-    ensures { Stops reason result }
-{
-    if reason.kind() == ErrorKind::Interrupted {
-        Stop::Interrupted
-    } else {
-        Stop::Failed
+impl From<io::Error> for Stop {
+    ghost use Rattle.program_io.specs.Ending.{Stops};
+
+    ghost from_gives = { λ reason why. Stops reason why };
+
+    fn from(reason: io::Error) -> Stop {
+        if reason.kind() == ErrorKind::Interrupted {
+            Stop::Interrupted
+        } else {
+            Stop::Failed
+        }
     }
 }
 
@@ -66,7 +70,7 @@ impl<S> Channel<S> {
                 self.reason = Some(reason);
                 Answer {
                     lent,
-                    got: Err(stop_of(reason)),
+                    got: Err(Stop::from(reason)),
                 }
             }
         }

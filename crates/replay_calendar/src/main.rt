@@ -3,7 +3,7 @@
 // no calendar arithmetic in common with the library.
 #![tactic(auto)]
 
-use calendar::{Calendars, Places, TimeWindow, WindowKind, WorkEnd};
+use calendar::{Calendars, NO_PLACES, Places, TimeWindow, WindowKind, WorkEnd};
 use std::io;
 use stored_run::Gathered;
 use window_rows::NO_WINDOW;
@@ -31,8 +31,6 @@ fn windows_of(numbers: &[i64]) -> [TimeWindow; 800] {
     }
     windows
 }
-
-const NO_PLACES: Places = Places { from: 0, to: 0 };
 
 // The numbers of a line that judges, two by two, as the places of calendars, in an array for the same reason.
 fn places_of(numbers: &[i64]) -> [Places; 8] {
@@ -87,7 +85,8 @@ fn is_answer(letter: u8, given: &[i64], calendars: Calendars) -> bool {
     }
 }
 
-// How many numbers a line has before its places, if its letter asks anything.
+// How many numbers a line has before its places, if its letter asks anything. By the letter, as `is_answer`: an enum between the two would name the six questions
+// a third time.
 fn before_places(letter: u8) -> Option<usize> {
     match letter {
         b'W' | b'J' => Some(2),

@@ -2,24 +2,17 @@
 // out as expected.
 #![tactic(auto)]
 
-ghost use Rattle.std.specs.Prelude.{◌≡◌, ◌<◌};
-ghost use Rattle.rows.specs.Cells.{row_count};
 ghost use Rattle.sheet.specs.inner.Accepted.{Accepted};
 
 use derived_times::{Bookings, DerivedTimes};
 use model::{Sheet, SheetIndex};
 use overlap::Overlap;
-use owners::LinkIndex;
 use pieces::MarkedRows;
 use resource_timing::{ActivityDuration, Derived, Piece, ResourceTiming, Timed};
 use rounding::TooLarge;
-use rows::Kind;
-use sheet::{Found, Rows};
+use sheet::Rows;
 use std::io;
 use stored_run::Gathered;
-
-// No time in a sheet is greater, and no lag is farther from 0.
-const LONGEST: u64 = 4000000000000;
 
 // The bits of 1.0. No float is a share whose bits are above them.
 const ONE: u64 = 0x3ff0_0000_0000_0000;
@@ -50,29 +43,15 @@ fn numbers_of(k: usize, d: Derived) -> [i64; 4] {
     }
 }
 
-// The derived duration of row k, where it is a booking of a known activity. `Accepted` is asked in a clause, as `Bookings::new` asks it: these are rows by
-// owner.
-#[tactic(auto, using(owners::proofs::Links::books))]
-fn derived_at(rows: &MarkedRows, bookings: &Bookings<'_>, k: usize) -> Option<Derived>
-    requires { Accepted rows.now × (bookings.now.rows.now ≡ rows.now) × (k < row_count rows.now) }
-{
-    if !rows.is_of_kind(k, Kind::Booking) {
-        return None;
-    }
-    let Found::At(o) = rows.activity_of(k) else {
-        return None;
-    };
-    Some(bookings.duration_on(o, k))
-}
-
-// Whether the bookings of known activities have these numbers, in the order of their rows.
+// Whether the bookings of known activities have these numbers, in the order of their rows. `Accepted` is asked in a clause, as `Bookings::new` asks it: these are
+// rows by owner.
 fn derived_are(rows: &MarkedRows, expected: &[i64]) -> bool
     requires { Accepted rows.now }
 {
     let bookings = Bookings::new(rows);
     let mut rest = expected;
     for k in 0..rows.row_count() {
-        if let Some(d) = derived_at(rows, &bookings, k) {
+        if let Some(d) = bookings.derived_at(k) {
             let Some(after) = rest.strip_prefix(&numbers_of(k, d)) else {
                 return false;
             };
@@ -123,14 +102,15 @@ fn product_case(speeds: &[i64], ms: u64, time: i64) -> bool {
         teardown_ms: 0,
     };
     let d = product_of(speeds).duration(Piece::Whole, base);
-    ms <= LONGEST && is_time(d.and_then(|x| x.total_ms()), time)
+    ms <= part_share::LONGEST && is_time(d.and_then(|x| x.total_ms()), time)
 }
 
 // ---- an overlap
 
 // A line `OBITS,LAG,START,END,FIRST,LAST`: whether the overlap's earliest start and earliest end are these.
 fn overlap_case(bits: u64, lag: i64, start: u64, end: u64, first: i64, last: i64) -> bool {
-    if ONE < bits || LONGEST < lag.unsigned_abs() || LONGEST < start || LONGEST < end {
+    let longest = part_share::LONGEST;
+    if ONE < bits || longest < lag.unsigned_abs() || longest < start || longest < end {
         return false;
     }
     let o = Overlap::new(bits, lag);

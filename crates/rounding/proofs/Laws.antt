@@ -1,6 +1,6 @@
 -- A float below 2 ^ 53 that is rounded is a whole number below it, which the cut of it is. Assumes nothing.
 use Rattle.std.proofs.Common.{◌≡◌, ℕ, zero, suc, ◌+◌, ◌*◌, ◌/◌, ◌%◌, ◌^◌, ◌<◌, ◌≤◌, Bool, true, false, not, ◌&&◌, ◌||◌, T, eqb, ltb, leb, ℤ, pos, negsuc, sym, refl, ap, ◌∙◌, subst, true≢false, zero-lt-suc, div-lt_iff_lt-mul, mul-pos, pow-suc, le-div_iff_mul-le, zero-mul, arith, eqb→eq, ltb→lt, lt→ltb, pow_pos, ltb-false, ltb-true, le-ltb, lt-ltb}
-use native.Mathlib.Nat.{div-eq_of_lt, eq_of_mul-eq-mul_right, zero-div}
+use native.Mathlib.Nat.{add-div_right, div-div-eq-div-mul, div-eq_of_lt, eq_of_mul-eq-mul_right, mul_comm, zero-div}
 use lib.Ieee.{Float, nan, inf, fin, Format, binary64, low, prec, emax, up, down, round, div, of_int, lt, le, fits, to_unsigned, of_bits, is_nan, nan_bits}
 use lib.Ieee.Fits.{up_pos, down_pos, and_l, and_r}
 use lib.Ieee.Exact.{HasValue}
@@ -14,6 +14,12 @@ use Rattle.rounding.specs.inner.Limited.{limited, too_large}
 use Rattle.rounding.specs.declared.TooLarge.{TooLarge}
 use Rattle.std.specs.Prelude.{Some, Result, Ok}
 use lib.Ieee.Bits.{nan_bits_is, nan_bits_above}
+
+-- (2n / d + 1) / 2 is the half rounded up. What rounds here does so by the library's `round`; docs/PORT.md names this law.
+half_of_double : (n d : ℕ) → 0 < d → (n * 2 / d + 1) / 2 ≡ half_up n d
+unfolding half_up
+half_of_double n d h =
+    ap (λ (z : ℕ). z / 2) (sym (add-div_right (n * 2) h)) ∙ div-div-eq-div-mul (n * 2 + d) d 2 ∙ ap (λ (z : ℕ). (z + d) / (d * 2)) (mul_comm n 2) ∙ ap (λ (z : ℕ). (2 * n + d) / z) (mul_comm d 2)
 
 -- what `fits` says of a number
 fits_digits : (f : Format) (s : Bool) (m : ℕ) (e : ℤ) → T (fits f (fin s m e)) → m < 2 ^ prec f

@@ -89,7 +89,8 @@ impl TryFrom<u64> for Kind {
 }
 
 impl Kind {
-    // The number that stands for the kind.
+    // The number that stands for the kind. A method here and for reasons and types of findings, and no `From`: a line of numbers asks for it by the
+    // definition's name.
     pub fn number(self) -> u64
         ensures { result ≡ kind_number self }
     {

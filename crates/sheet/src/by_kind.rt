@@ -336,7 +336,7 @@ impl<'a> Chain for NamedChain<'a> {
     ghost end = { λ s. row_count s.0 };
 
     fn end_place(&self) -> usize {
-        self.rows.row_count()
+        rows::row_count(self.rows.rows)
     }
 
     fn first_place(&self) -> usize {

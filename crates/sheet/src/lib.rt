@@ -14,7 +14,8 @@ pub use by_kind::{ByKind, KindIndex, Rows};
 use chains::ChainTable;
 use rows::Kind;
 
-// What a lookup of an activity or a resource answers. No Option: the project's paper asks for an enum of its own (docs/DECISIONS.md, 26).
+// What a lookup of an activity or a resource answers. No Option: the project's paper asks for an enum of its own (docs/DECISIONS.md, 26). And no generic one for
+// this and for spans `ActivitySpan`: it would be Option by another name, where the cases of these two say what was looked for.
 #[derive(Clone, Copy)]
 pub enum Found {
     At(usize),

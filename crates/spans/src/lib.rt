@@ -67,7 +67,8 @@ pub struct Span {
     pub end: u64,
 }
 
-// When an activity runs, if it does. No Option: the project's paper asks for an enum of its own where an activity is looked up (docs/DECISIONS.md, 26).
+// When an activity runs, if it does. No Option: the project's paper asks for an enum of its own where an activity is looked up (docs/DECISIONS.md, 26). Sheet
+// `Found` says why there are two.
 #[derive(Clone, Copy)]
 pub enum ActivitySpan {
     Between(Span),

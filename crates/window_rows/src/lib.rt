@@ -34,7 +34,8 @@ fn window_of(rows: &ByOwner, k: usize) -> TimeWindow
     }
 }
 
-// Lays out the windows (of a resource or of an activity) of row o, behind those that are laid out. The rest of the lent room stays.
+// Lays out the windows (of a resource or of an activity) of row o, behind those that are laid out. The rest of the lent room stays. That row o is one whose
+// windows are of that kind (`Holder`) is asked in a clause, here and above: who asks knows it of the row that a lookup found.
 #[tactic(auto, using(crate::proofs::Laying::windows_are, sheet::proofs::Lookups::counted, lent_room::proofs::Pushing::past_none), unfolding(crate::specs::Listed::calendar_in))]
 pub fn gather_windows(rows: &ByOwner, o: usize, kind: Kind, list: &mut WindowList)
     requires { (o ≤ row_count rows.now) × Holder rows.now o (kind_number kind) × (length (listed list.old) + count_below (owned_by rows.now o (kind_number kind)) (row_count rows.now) ≤ 800) }

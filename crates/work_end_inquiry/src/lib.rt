@@ -37,7 +37,8 @@ fn in_order(start: i64, work: i64) -> bool
     Class::Instant.allows(start) && Class::SignedTime.allows(work)
 }
 
-// Lays out the windows of the resource of that id: none where the sheet has no such resource.
+// Lays out the windows of the resource of that id: none where the sheet has no such resource. The list is empty, since it is made for this one calendar: laid
+// out behind others it would not be the resource's.
 #[tactic(auto, using(crate::proofs::Ends::laid_absent, crate::proofs::Ends::laid_found))]
 fn resource_windows(rows: &Sheet, id: u64, list: &mut WindowList)
     requires { listed list.old ≡ [] }

@@ -1,5 +1,5 @@
 -- The derived times of the bookings, by row, as the code holds them. Assumes nothing.
-use Rattle.std.specs.Prelude.{ℕ, ◌+◌, ◌^◌, ◌<◌, ◌≤◌, ◌≡◌, List, [], ◌∷◌, ℤ, get_or, Some, Ok, Err}
+use Rattle.std.specs.Prelude.{ℕ, ◌+◌, ◌^◌, ◌<◌, ◌≤◌, ◌≡◌, List, [], ◌∷◌, ℤ, get_or, Option, None, Some, Ok, Err}
 use Rattle.loops.specs.Lists.{head, option}
 use Rattle.rows.specs.Cells.{row_count}
 use Rattle.resource_timing.specs.inner.Limits.{Derived, within}
@@ -14,11 +14,15 @@ abbrev pub rest_ms : Derived → ℕ
 rest_ms (Ok d) = d.process_ms + d.teardown_ms
 rest_ms (Err e) = 9007199254740992
 
--- of row k, where it is a booking of a known activity
+-- the derived duration of row k, where it is a booking of a known activity
+unfoldable pub derived_at : List ℤ → ℕ → Option Derived
+derived_at rows k =
+    option (head (assignment_at (sheet rows) k)) None λ b.
+    option (find_activity (sheet rows) b.activity) None λ a. Some (within (derived (sheet rows) b a))
+
+-- what such a booking needs besides its own setup
 unfoldable pub rest_at : List ℤ → ℕ → ℕ
-rest_at rows k =
-    option (head (assignment_at (sheet rows) k)) 0 λ b.
-    option (find_activity (sheet rows) b.activity) 0 λ a. rest_ms (within (derived (sheet rows) b a))
+rest_at rows k = option (derived_at rows k) 0 rest_ms
 
 -- the table that holds them; past the last row it is 0
 pub record Times (rows : List ℤ) (need : List ℕ) : Type 0 where

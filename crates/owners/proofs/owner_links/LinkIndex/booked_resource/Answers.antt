@@ -1,7 +1,7 @@
 use mathlib.Core.Path.{◌∙◌}
 use Rattle.sheet.proofs.Stored.{stored_place_lem}
 use Rattle.owners.proofs.Links.{own_resource}
-use Rattle.owners.proofs.by_owner.LinkIndex.booked_resource.Goals as goal
+use Rattle.owners.proofs.owner_links.LinkIndex.booked_resource.Goals as goal
 
 pub returns : goal.returns
 returns g c =
