@@ -25,6 +25,7 @@ fn meant_by(x: u8) -> u8
     }
 }
 
+// A loop of its own, as that of copies and that of texts: lent_room `put` says why.
 fn put_bytes(out: &mut [u8], from: usize, s: &[u8]) -> usize
     requires { from ≤ length out.old }
     ensures { Wrote out.old from out.new result (map meant s.now) }

@@ -33,6 +33,7 @@ fn put_numbers(out: &mut [i64], from: usize, fields: &[u8]) -> usize
     at
 }
 
+// A loop of its own, as that of pieces and that of lines: lent_room `put` says why.
 fn put_zeros(out: &mut [i64], from: usize, n: usize) -> usize
     requires { from ≤ length out.old }
     ensures { Wrote out.old from out.new result (replicate n (pos 0)) }
