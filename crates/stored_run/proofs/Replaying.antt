@@ -10,14 +10,15 @@ use Rattle.stored_run.specs.declared.Fault.{Fault}
 use Rattle.stored_run.specs.declared.Gathered.{Gathered}
 use Rattle.stored_run.specs.declared.Run.{Run}
 use Rattle.stored_run.specs.inner.Cases.{ComesOut}
-use Rattle.stored_run.specs.Told.{Judged, AreJudged, told_case, told_cases, told_unread, with_case, with_cases, run_line, Replays, ReplaysFile, ReplaysFiles}
+use Rattle.stored_run.specs.Told.{told_case, told_unread, run_line}
+use Rattle.stored_run.specs.inner.Replays.{Judged, AreJudged, told_cases, with_case, with_cases, ReplaysList, ReplaysFile, ReplaysFiles}
 
 module _ (Judges : Gathered → Bool → Type 0) (name list : List ℕ) (before : Run) (old : Option (List ℕ)) where
   -- the cases before a place are told of, and counted: with those from there on it is what is told of the list
   pub record CasesSoFar (now : Option (List ℕ)) (at : ℕ) (run : Run) : Type 0 where
     pub told : List ℕ
     pub appended : Appends old now told
-    pub onward : (js : List Judged) → AreJudged Judges list at js → Replays Judges name list (told ++ told_cases name list js) before (with_cases run js)
+    pub onward : (js : List Judged) → AreJudged Judges list at js → ReplaysList Judges name list (told ++ told_cases name list js) before (with_cases run js)
 
   pub cases_begun : CasesSoFar old 0 before
   cases_begun = record { told = []; appended = appends_none old; onward = λ js a. (js, a, refl, refl) }
@@ -32,13 +33,13 @@ module _ (Judges : Gathered → Bool → Type 0) (name list : List ℕ) (before 
   }
 
   pub cases_ended : (now : Option (List ℕ)) (at : ℕ) (run : Run) → CasesSoFar now at run → length list ≤ at
-      → (told : List ℕ) × Appends old now told × Replays Judges name list told before run
+      → (told : List ℕ) × Appends old now told × ReplaysList Judges name list told before run
   cases_ended now at run s h = (s.told, s.appended, rw append-nil at (s.onward [] h))
 
 -- a list that was read from a file
 pub file_read : {E : Type 0} (Judges : Gathered → Bool → Type 0) (name bytes : List ℕ) (before : Run) (old now new : Option (List ℕ)) (n : ℕ) (r : Result Run E)
     → length bytes ≡ 262144 → n ≤ length bytes → Appends old now (told_unread name (length bytes) (Some n))
-    → IfOk r (λ after. (told : List ℕ) × Appends now new told × Replays Judges name (take n bytes) told before after)
+    → IfOk r (λ after. (told : List ℕ) × Appends now new told × ReplaysList Judges name (take n bytes) told before after)
     → IfOk r (λ after. (told : List ℕ) × Appends old new told × ReplaysFile Judges name told before after)
 file_read Judges name bytes before old now new n (Err e) size within w x = tt
 file_read Judges name bytes before old now new n (Ok after) size within w (told, x, y) =

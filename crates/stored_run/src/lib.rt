@@ -11,8 +11,9 @@ ghost use Rattle.stored_lines.specs.inner.Line.{is_formed};
 ghost use Rattle.stored_run.specs.inner.Cases.{Gathers, Says, has_room, ComesOut};
 ghost use Rattle.stored_run.specs.declared.Gathered.{Gathered};
 ghost use Rattle.stored_run.specs.declared.Run.{Run};
-ghost use Rattle.stored_run.specs.Told.{run_line, line_after, case_line, told_case, told_unread, no_cases, with_case, Replays, ReplaysFile, ReplaysFiles};
+ghost use Rattle.stored_run.specs.Told.{run_line, line_after, case_line, told_case, told_unread};
 ghost use Rattle.stored_run.specs.inner.Count.{more};
+ghost use Rattle.stored_run.specs.inner.Replays.{no_cases, with_case, ReplaysList, ReplaysFile, ReplaysFiles};
 ghost use Rattle.stored_run.specs.inner.Expected.{as_expected, passes, lines_expected, LentPasses, CallPasses, verdict_passes};
 
 use refusals::{Answer, Verdict};
@@ -245,7 +246,7 @@ fn replay_list<W: Write, F: Fn(&Gathered) -> bool>(
 ) -> io::Result<Run>
     requires { F.IsAlwaysCallable passes.now }
     ensures { IfOk result (λ after. (told : List ℕ) × Appends (W.contents out.old) (W.contents out.new) told
-        × Replays (FnReturnsAt F.Fn passes.now) name.now list.now told before after) }
+        × ReplaysList (FnReturnsAt F.Fn passes.now) name.now list.now told before after) }
 {
     let mut run = before;
     for case in Cases::new(list) {

@@ -2,7 +2,7 @@ use Rattle.std.proofs.Common.{rules}
 use Rattle.std.specs.Fn.{FnReturnsAt}
 use Rattle.stored_run.proofs.Replaying.{files_further, files_ended}
 use Rattle.stored_run.proofs.replay_files.Goals as goal
-use Rattle.stored_run.specs.Told.{no_cases}
+use Rattle.stored_run.specs.inner.Replays.{no_cases}
 
 pub loop-name-preserved : goal.loop-name-preserved
 loop-name-preserved g c = (

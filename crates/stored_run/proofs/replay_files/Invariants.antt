@@ -1,6 +1,6 @@
 use Rattle.std.specs.Fn.{FnReturnsAt}
 use Rattle.stored_run.proofs.Replaying.{FilesSoFar}
-use Rattle.stored_run.specs.Told.{no_cases}
+use Rattle.stored_run.specs.inner.Replays.{no_cases}
 use Rattle.stored_run.proofs.replay_files.Given as goal
 
 abbrev pub invariant-loop-name : goal.invariant-loop-name
