@@ -1,5 +1,5 @@
 -- Of a text, what stands before another; of bytes, whether they are text; and what is left of room that was blank. Assumes nothing.
-use Rattle.std.proofs.Common.{◌≡◌, ◌≢◌, ℕ, zero, suc, ◌+◌, ◌-◌, ◌<◌, ◌≤◌, Bool, true, false, Bor, Option, None, Some, MatchOption, List, [], ◌∷◌, ◌++◌, length, take, drop, replicate, nat_eq, refl, sym, ap, ◌∙◌, arith, drop-drop}
+use Rattle.std.proofs.Common.{◌≡◌, ℕ, zero, suc, ◌+◌, ◌-◌, ◌<◌, ◌≤◌, Bool, true, false, Bor, Option, None, Some, MatchOption, List, [], ◌∷◌, ◌++◌, length, take, drop, replicate, nat_eq, refl, sym, ap, ◌∙◌, arith, drop-drop}
 use Rattle.std.proofs.lemmas.Bool.Decides.{Decides-eqb}
 use Rattle.std.proofs.lemmas.List.{drop-replicate}
 use borrow.Rule.Slice.PartMut.{put_mid}
@@ -38,9 +38,11 @@ before_found (x ∷ xs) p rest (suc i) h e =
 abbrev pub Splits : List ℕ → List ℕ → Option (Bor (List ℕ) × Bor (List ℕ)) → Type 0
 Splits s p r = MatchOption r (FindsText p s None) (λ x. SplitsAroundMatch (FindsText p) s x.0.now x.1.now)
 
-pub found : (s p : List ℕ) (r : Option (Bor (List ℕ) × Bor (List ℕ))) → Splits s p r → (x : Bor (List ℕ) × Bor (List ℕ)) → r ≡ Some x → x.0.now ≡ before_text s p
-found s p None h x e = absurd (cc)
-found s p (Some y) h x e = let z : y ≡ x = cc in rw (← z) (h.3 ∙ sym (before_found s p (drop h.1 s) h.0 h.2.0 h.2.1.split))
+pub found : (s p : List ℕ) (r : Option (Bor (List ℕ) × Bor (List ℕ))) → Splits s p r → (before after : Bor (List ℕ)) → r ≡ Some (before, after) → before.now ≡ before_text s p
+found s p None h before after e = absurd (cc)
+found s p (Some y) h before after e =
+    let z : y ≡ (before, after) = cc in
+    ap (λ (x : Bor (List ℕ) × Bor (List ℕ)). x.0.now) (sym z) ∙ h.3 ∙ sym (before_found s p (drop h.1 s) h.0 h.2.0 h.2.1.split)
 
 pub found_nowhere : (s p : List ℕ) (r : Option (Bor (List ℕ) × Bor (List ℕ))) → Splits s p r → r ≡ None → s ≡ before_text s p
 found_nowhere s p None h e = sym (before_none s p h)

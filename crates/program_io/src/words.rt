@@ -18,6 +18,7 @@ pub struct Words {
 impl Write for Words {
     ghost write_str_gives = { λ before text after. take after.length after.bytes ≡ take before.length before.bytes ++ text };
 
+    #[tactic(auto, using(crate::proofs::Wording::blank_left))]
     fn write_str(&mut self, text: &str) -> fmt::Result {
         let from = self.length;
         let taken = text.len().min(256 - from);
@@ -52,6 +53,7 @@ fn text_of(bytes: &[u8]) -> &str
 }
 
 // What stands in a text before the first place where another begins; all of it, where there is none.
+#[tactic(auto, using(crate::proofs::Wording::found_nowhere))]
 fn before_text<'a>(text: &'a str, stop: &str) -> &'a str
     ensures { result.now ≡ before_text text.now stop.now }
 {
