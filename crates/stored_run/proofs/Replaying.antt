@@ -57,12 +57,12 @@ module _ (Judges : Gathered → Bool → Type 0) (names : List (Bor (List ℕ)))
   pub files_begun : FilesSoFar old 0 before
   files_begun = record { told = []; appended = appends_none old; onward = λ rest after r. r }
 
-  pub files_further : (now new : Option (List ℕ)) (i : ℕ) (run next : Run) (none : Bor (List ℕ)) → FilesSoFar now i run → i < length names
-      → (told : List ℕ) × Appends now new told × ReplaysFile Judges (get_or names i none).now told run next → FilesSoFar new (i + 1) next
-  files_further now new i run next none s h (told, w, f) = record {
+  pub files_further : (now new : Option (List ℕ)) (i : ℕ) (run from next : Run) (none : Bor (List ℕ)) → FilesSoFar now i run → i < length names → from ≡ run
+      → (told : List ℕ) × Appends now new told × ReplaysFile Judges (get_or names i none).now told from next → FilesSoFar new (i + 1) next
+  files_further now new i run from next none s h e (told, w, f) = record {
     told = s.told ++ told;
     appended = appends_then old now new s.told told s.appended w;
-    onward = λ rest after r. rw append_assoc (s.onward (told ++ rest) after (rw (drop-cons names i none h) (told, rest, next, refl, f, rw add-one at r)));
+    onward = λ rest after r. rw append_assoc (s.onward (told ++ rest) after (rw (drop-cons names i none h) (told, rest, next, refl, rw e at f, rw add-one at r)));
   }
 
   pub files_ended : {E : Type 0} (now new : Option (List ℕ)) (i : ℕ) (run : Run) (r : Result Unit E) → FilesSoFar now i run → length names ≤ i
