@@ -30,7 +30,7 @@ told_case name list at (Err Differs) = case_line name list at (codes ": differs:
 abbrev pub not_whole : List ℕ → List ℕ
 not_whole name = name ++ codes ": not read whole" ++ 10 ∷ []
 
--- what is told of a list, if its file could be opened by how many bytes of it were read to so much room: nothing where there were some, and room was left
+-- what is told of a list by how many of its bytes were read to so much room, if its file could be opened: nothing where some were read and room was left
 abbrev pub told_unread : List ℕ → ℕ → Option ℕ → List ℕ
 told_unread name room None = not_whole name
 told_unread name room (Some n) = cond (n == 0 || n == room) (not_whole name) []
