@@ -1,2 +1,3 @@
 pub mod Ending
+pub mod Reason
 pub mod inner

@@ -16,6 +16,7 @@ fn passes(case: &Gathered) -> bool {
 fn main(rt: HostRuntime) -> io::Result<()> {
     stored_run::replay_files(
         &rt,
+        &mut io::writer(&rt),
         &[
             b"findings-1.txt",
             b"findings-2.txt",

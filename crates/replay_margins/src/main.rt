@@ -10,5 +10,5 @@ fn passes(case: &Gathered) -> bool {
 }
 
 fn main(rt: HostRuntime) -> io::Result<()> {
-    stored_run::replay_files(&rt, &[b"cases.txt"], passes)
+    stored_run::replay_files(&rt, &mut io::writer(&rt), &[b"cases.txt"], passes)
 }

@@ -1,1 +1,3 @@
+pub mod Appending
+pub mod Replaying
 pub mod RoomLaws

@@ -1,3 +1,4 @@
 pub mod Cases
 pub mod Count
 pub mod Expected
+pub mod Replays

@@ -1,19 +1,24 @@
 // The run over stored lists of cases: what a case gathers, whether it passes, and what is counted and told. The programs replay_.. judge.
 #![tactic(auto)]
 
-ghost use Rattle.std.specs.Prelude.{◌≡◌, ◌*◌, cond, true, pos, IsOk, is_ok, IfSome, MatchOption, ⊤, Some, ◌≢◌, ◌≤◌, length, get_or, take, ℕ};
+ghost use Rattle.std.specs.Prelude.{◌≡◌, ◌*◌, cond, true, false, pos, IsOk, is_ok, OnOk, IfOk, IfSome, MatchOption, ⊤, Some, ◌≢◌, ◌<◌, ◌≤◌, List, ◌++◌, length, get_or, take, ℕ};
 ghost use Rattle.std.specs.Counts.{IsPrefixLen};
+ghost use Rattle.std.specs.Io.KnownBytes.{Appends};
 ghost use Rattle.std.specs.Fn.{FnReturnsAt, FnOnceReturnsAtMut};
 ghost use Rattle.loops.specs.Lists.{all_of};
 ghost use Rattle.text_fields.specs.Parts.{parts};
 ghost use Rattle.stored_lines.specs.inner.Line.{is_formed};
-ghost use Rattle.stored_run.specs.inner.Cases.{Gathers};
+ghost use Rattle.stored_run.specs.inner.Cases.{Gathers, Says, has_room, ComesOut};
 ghost use Rattle.stored_run.specs.declared.Gathered.{Gathered};
+ghost use Rattle.stored_run.specs.declared.Run.{Run};
+ghost use Rattle.stored_run.specs.Told.{run_line, line_after, case_line, told_case, told_unread};
 ghost use Rattle.stored_run.specs.inner.Count.{more};
+ghost use Rattle.stored_run.specs.inner.Replays.{no_cases, with_case, ReplaysList, ReplaysFile, ReplaysFiles};
 ghost use Rattle.stored_run.specs.inner.Expected.{as_expected, passes, lines_expected, LentPasses, CallPasses, verdict_passes};
 
 use refusals::{Answer, Verdict};
 use std::fs::File;
+use std::io::Write;
 use std::rt::Files;
 use std::{io, str};
 use stored_lines::Cases;
@@ -68,7 +73,7 @@ impl Gathered<'_> {
 
 // So many of them, if it is known how many.
 fn first_of<T>(n: Option<usize>, room: &[T]) -> Option<&[T]>
-    ensures { IfSome result (λ s. (k : ℕ) × (n ≡ Some k) × (s.now ≡ take k room.now)) }
+    ensures { MatchOption result (IfSome n (λ k. length room.now < k)) (λ s. (k : ℕ) × (n ≡ Some k) × (s.now ≡ take k room.now)) }
 {
     room.get(..n?)
 }
@@ -83,7 +88,7 @@ pub enum Fault {
 // What the judge says of what these lines gather, if there is room for it.
 fn is_passed<F: Fn(&Gathered) -> bool>(lines: &[u8], line: &[u8], passes: &F) -> Option<bool>
     requires { F.IsAlwaysCallable passes.now }
-    ensures { IfSome result (λ yes. (c : Gathered) × Gathers lines.now line.now c × FnReturnsAt F.Fn passes.now c yes) }
+    ensures { MatchOption result (has_room lines.now line.now ≡ false) (Says (FnReturnsAt F.Fn passes.now) lines.now line.now) }
 {
     // Room for what a case gathers: programs have no heap. What no line gathers to is still 7 among the numbers.
     let mut judging = [0i64; 16];
@@ -117,15 +122,14 @@ fn judge<F: Fn(&Gathered) -> bool>(
     passes: &F,
 ) -> Result<(), Fault>
     requires { F.IsAlwaysCallable passes.now }
-    ensures formed { IsOk result → all_of is_formed (parts 10 lines.now) ≡ true }
-    ensures says_so { IsOk result → (c : Gathered) × Gathers gathering.now judging.now c × FnReturnsAt F.Fn passes.now c true }
+    ensures { ComesOut (FnReturnsAt F.Fn passes.now) lines.now gathering.now judging.now result }
 {
     if !stored_lines::all_formed(lines) {
         return Err(Fault::IllFormed);
     }
     match is_passed(gathering, judging, passes) {
         Some(true) => Ok(()),
-        _ => Err(Fault::Differs),
+        Some(false) | None => Err(Fault::Differs),
     }
 }
 
@@ -149,7 +153,7 @@ fn one_more(n: u64) -> u64
 impl Run {
     // Before the first list.
     pub fn new() -> Run
-        ensures { (result.cases ≡ 0) × (result.passed ≡ 0) }
+        ensures { result ≡ no_cases }
     {
         Run {
             cases: 0,
@@ -159,7 +163,7 @@ impl Run {
 
     // With another case.
     pub fn judged(self, outcome: Result<(), Fault>) -> Run
-        ensures { (result.cases ≡ more self.cases) × (result.passed ≡ cond (is_ok outcome) (more self.passed) self.passed) }
+        ensures { result ≡ with_case self outcome }
     {
         let passed = if outcome.is_ok() {
             one_more(self.passed)
@@ -173,54 +177,76 @@ impl Run {
     }
 
     // The last line that a program prints.
-    pub fn print(self, rt: &impl Print) -> io::Result<()> {
+    pub fn print<W: Write>(self, out: &mut W) -> io::Result<()>
+        ensures { OnOk result (Appends (W.contents out.old) (W.contents out.new) (run_line self)) }
+    {
         let cases = self.cases;
         let passed = self.passed;
-        println!(rt; "{cases} cases, {passed} as expected")
+        writeln!(out, "{cases} cases, {passed} as expected")
     }
 }
 
+// The number of the line that starts after these bytes, as far as a million.
+fn line_after(before: &[u8]) -> usize
+    ensures { result ≡ line_after before.now }
+{
+    Parts::new(before, b'\n').take(1000000).count()
+}
+
 // Names the case that starts at a place of a list: the file, the number of its first line, and that line, which is its remark.
-fn name_case(rt: &impl Print, name: &[u8], list: &[u8], at: usize, why: &[u8]) -> io::Result<()> {
+#[tactic(auto, using(crate::proofs::Appending::appends_then), unfolding(crate::specs::Told::case_line))]
+fn name_case<W: Write>(
+    out: &mut W,
+    name: &[u8],
+    list: &[u8],
+    at: usize,
+    why: &[u8],
+) -> io::Result<()>
+    ensures { OnOk result (Appends (W.contents out.old) (W.contents out.new) (case_line name.now list.now at why.now)) }
+{
     let Some((before, case)) = list.split_at_checked(at) else {
         return Ok(());
     };
-    let line = Parts::new(before, b'\n').take(1000000).count();
-    rt.write_all(name)?;
-    print!(rt; ":{line}")?;
-    rt.write_all(why)?;
-    rt.write_all(text_fields::first_part(case, b'\n'))?;
-    rt.write_all(b"\n")
+    let line = line_after(before);
+    out.write_all(name)?;
+    write!(out, ":{line}")?;
+    out.write_all(why)?;
+    out.write_all(text_fields::first_part(case, b'\n'))?;
+    out.write_all(b"\n")
 }
 
 // Names the case that starts at a place of the list in a file, where it fails.
-pub fn name_failed(
-    rt: &impl Print,
+pub fn name_failed<W: Write>(
+    out: &mut W,
     name: &[u8],
     list: &[u8],
     at: usize,
     outcome: Result<(), Fault>,
 ) -> io::Result<()>
-    ensures { IsOk outcome → IsOk result }
+    ensures passed { IsOk outcome → IsOk result }
+    ensures told { OnOk result (Appends (W.contents out.old) (W.contents out.new) (told_case name.now list.now at outcome)) }
 {
     match outcome {
         Ok(()) => Ok(()),
-        Err(Fault::IllFormed) => name_case(rt, name, list, at, b": ill-formed: "),
-        Err(Fault::Differs) => name_case(rt, name, list, at, b": differs: "),
+        Err(Fault::IllFormed) => name_case(out, name, list, at, b": ill-formed: "),
+        Err(Fault::Differs) => name_case(out, name, list, at, b": differs: "),
     }
 }
 
 // ---- the lists
 
 // Judges each case of a list, and names those that fail.
-fn replay_list<F: Fn(&Gathered) -> bool>(
-    rt: &impl Print,
+#[tactic(auto, using(crate::proofs::Replaying::cases_begun, crate::proofs::Replaying::cases_further))]
+fn replay_list<W: Write, F: Fn(&Gathered) -> bool>(
+    out: &mut W,
     name: &[u8],
     list: &[u8],
     before: Run,
     passes: &F,
 ) -> io::Result<Run>
     requires { F.IsAlwaysCallable passes.now }
+    ensures { IfOk result (λ after. (told : List ℕ) × Appends (W.contents out.old) (W.contents out.new) told
+        × ReplaysList (FnReturnsAt F.Fn passes.now) name.now list.now told before after) }
 {
     let mut run = before;
     for case in Cases::new(list) {
@@ -230,44 +256,51 @@ fn replay_list<F: Fn(&Gathered) -> bool>(
             &list[case.line..case.end],
             passes,
         );
-        name_failed(rt, name, list, case.start, outcome)?;
+        name_failed(out, name, list, case.start, outcome)?;
         run = run.judged(outcome);
     }
     Ok(run)
 }
 
 // The same of the list in a file.
-fn replay_file<F: Fn(&Gathered) -> bool>(
-    rt: &(impl Files + Print),
+fn replay_file<W: Write, F: Fn(&Gathered) -> bool>(
+    rt: &impl Files,
+    out: &mut W,
     name: &[u8],
     before: Run,
     passes: &F,
 ) -> io::Result<Run>
     requires { F.IsAlwaysCallable passes.now }
+    ensures { IfOk result (λ after. (told : List ℕ) × Appends (W.contents out.old) (W.contents out.new) told
+        × ReplaysFile (FnReturnsAt F.Fn passes.now) name.now told before after) }
 {
     // Room for a list: programs have no heap.
     let mut list = [0u8; 262144];
     let read = read_list(rt, name, &mut list);
-    name_unread(rt, name, &list, read)?;
+    name_unread(out, name, &list, read)?;
     match read {
-        Some(n) => replay_list(rt, name, &list[..n], before, passes),
+        Some(n) => replay_list(out, name, &list[..n], before, passes),
         None => Ok(before),
     }
 }
 
 // Judges each case of the lists in files, names those that fail, and prints how many there were and how many came out as expected.
-pub fn replay_files<F: Fn(&Gathered) -> bool>(
-    rt: &(impl Files + Print),
+#[tactic(auto, using(crate::proofs::Replaying::files_begun))]
+pub fn replay_files<W: Write, F: Fn(&Gathered) -> bool>(
+    rt: &impl Files,
+    out: &mut W,
     names: &[&[u8]],
     passes: F,
 ) -> io::Result<()>
     requires { F.IsAlwaysCallable passes }
+    ensures { OnOk result ((told : List ℕ) × (run : Run) × Appends (W.contents out.old) (W.contents out.new) (told ++ run_line run)
+        × ReplaysFiles (FnReturnsAt F.Fn passes) names.now told no_cases run) }
 {
     let mut run = Run::new();
     for name in names {
-        run = replay_file(rt, name, run, &passes)?;
+        run = replay_file(rt, out, name, run, &passes)?;
     }
-    run.print(rt)
+    run.print(out)
 }
 
 // ---- what is expected of a call that writes to lent numbers
@@ -367,12 +400,18 @@ pub fn read_list(rt: &impl Files, name: &[u8], list: &mut [u8]) -> Option<usize>
 }
 
 // Tells of a list that could not be read or fills the room; what was not read is missed in the count of cases.
-pub fn name_unread(rt: &impl Print, name: &[u8], list: &[u8], read: Option<usize>) -> io::Result<()>
-    ensures { MatchOption read ⊤ (λ n. n ≢ 0 → n ≢ length list.now → IsOk result) }
+pub fn name_unread<W: Write>(
+    out: &mut W,
+    name: &[u8],
+    list: &[u8],
+    read: Option<usize>,
+) -> io::Result<()>
+    ensures whole { MatchOption read ⊤ (λ n. n ≢ 0 → n ≢ length list.now → IsOk result) }
+    ensures told { OnOk result (Appends (W.contents out.old) (W.contents out.new) (told_unread name.now (length list.now) read)) }
 {
     if read.is_none_or(|n| n == 0 || n == list.len()) {
-        rt.write_all(name)?;
-        return rt.write_all(b": not read whole\n");
+        out.write_all(name)?;
+        return out.write_all(b": not read whole\n");
     }
     Ok(())
 }

@@ -2,7 +2,7 @@
 #![tactic(auto)]
 
 ghost use Rattle.std.specs.Prelude.{◌≡◌, ◌≤◌, ℕ, ℤ, List, length, take};
-ghost use Rattle.text_program.specs.Text.{printed_text, TakesRoom, PrintsRows, KeepsWithin};
+ghost use Rattle.text_program.specs.Text.{printed_text, TakesRoom, PrintsRows, KeepsWithin, RunLeaves};
 
 // The numbers as they are. Handed on by value they are known to be numbers of 64 bits, which bounds what is printed of them; of a lent array of signed
 // numbers the proofs know no bound.
@@ -50,6 +50,7 @@ pub fn run<F: FnOnce(&[u8], &mut [u8]) -> usize>(
 )
     requires callable { TakesRoom (F.pre print) (length out.old) }
     requires within { KeepsWithin (F.post print) (length out.old) }
+    ensures { RunLeaves (F.post print) out.old out.new }
 {
     // One byte more than a text may have: a longer one is refused whatever follows. A lent array, and no heap: there is no memory to run out of, and nothing
     // to say of it.
