@@ -1,7 +1,8 @@
 -- Whatever is worked out through a clock alone moves with the instants: if all that goes in moves by d, so do the instants that come out,
 -- and all else stays. One lemma for every definition over `Clock T`. Assumes nothing.
 use Prim.Native.Nat.{zero, suc}
-use mathlib.Core.Path.{◌≡◌, refl, sym, ◌∙◌, ap, ap₂}
+use mathlib.Core.Path.{◌≡◌, PathP, refl, sym, ◌∙◌, ap, ap₂}
+use mathlib.Core.Bool.{Bool}
 use mathlib.Core.Equiv.{◌≃◌, Iso, iso_to_equiv}
 use lib.IntN.{ℤ, pos, negsuc, ◌+ℤ◌, ◌-ℤ◌, neg_ℤ, +ℤ_assoc, +ℤ_comm, neg_ℤ-+ℤ, +ℤ-neg_ℤ_cancel, -ℤ-+ℤ_cancel, +ℤ-suc_ℤ, +ℤ-pred_ℤ, +ℤ_idr, -ℤ_one, suc_ℤ, pred_ℤ, suc-pred}
 use lib.Signed.{lt_z}
@@ -40,6 +41,19 @@ module _ {A B : Type 0} (e : A ≃ B) (K : Clock A) (L : Clock B) (k : Keeps K L
   stays s F x =
       ap (F A K) (sym (s.same x))
       ∙ (λ i. F (V i A B e) (between i) (s.map (λ a. vin i a (e.0 a)) x))
+
+  -- the same with one thing more that is told of instants (a profile's test, say)
+  pub stays_with : {S : Type 0 → Type 0} {R : Type 0} (X : Type 0 → Type 0) (x : X A) (y : X B)
+      → PathP (λ i. X (V i A B e)) x y
+      → (s : Moves S) (F : (T : Type 0) → Clock T → X T → S T → R) (z : S A) → F A K x z ≡ F B L y (s.map e.0 z)
+  unfolding between
+  stays_with X x y p s F z =
+      ap (F A K x) (sym (s.same z))
+      ∙ (λ i. F (V i A B e) (between i) (p i) (s.map (λ a. vin i a (e.0 a)) z))
+
+  -- two tests that tell alike of an instant and of what it becomes, as such a thing
+  pub test_over : (p : A → Bool) (q : B → Bool) → ((x : A) → p x ≡ q (e.0 x)) → PathP (λ i. V i A B e → Bool) p q
+  test_over p q h = λ i x. hcom 1 0 (q (vproj i x e)) [ i = 0 ↦ j. h x j | i = 1 ↦ _. q x ]
 
 -- ---- the clock of whole milliseconds tells the same of two instants that are moved alike
 

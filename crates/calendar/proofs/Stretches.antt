@@ -208,6 +208,14 @@ unfolding lists_of
 all_end_at m w cs i d l h e k =
     subst (AllEndBy m) (sym (map_more (λ c. windows_of w c.from c.to) cs i d l)) (all_end_more m _ _ h (subst (EndsBy m) e k))
 
+clear_append : (t r : ℕ) (l k : List TimeWindow) → Clear t r l → Clear t r k → Clear t r (l ++ k)
+clear_append t r [] k h h' = h'
+clear_append t r (x ∷ l) k h h' = (h.0, clear_append t r l k h.1 h')
+
+clear_all_append : (t r : ℕ) (l k : List (List TimeWindow)) → ClearAll t r l → ClearAll t r k → ClearAll t r (l ++ k)
+clear_all_append t r [] k h h' = h'
+clear_all_append t r (x ∷ l) k h h' = (h.0, clear_all_append t r l k h.1 h')
+
 clear_ends : (m r : ℕ) (l : List TimeWindow) → EndsBy m l → Clear m r l
 clear_ends m r [] h = tt
 clear_ends m r (x ∷ l) h = ((inl h.0.0, inl h.0.1), clear_ends m r l h.1)

@@ -22,6 +22,19 @@ no_fold [] h = refl
 no_fold (x ∷ s) h =
     unfolded_byte x s (neither_left (fold_first (x ∷ s)) (is_folded s) h) ∙ ap (λ (l : List ℕ). x ∷ l) (no_fold s (neither_right (fold_first (x ∷ s)) (is_folded s) h))
 
+-- unfolding makes no line longer
+pub unfolded_short : (s : List ℕ) → length (unfolded s) ≤ length s
+unfolding unfolded
+unfolded_short [] = omega arith
+unfolded_short (x ∷ []) = omega arith
+unfolded_short (x ∷ y ∷ []) = omega arith
+unfolded_short (x ∷ y ∷ z ∷ s) = go (fold_first (x ∷ y ∷ z ∷ s)) (unfolded_short s) (unfolded_short (y ∷ z ∷ s))
+  where
+    go : (t : Bool) → length (unfolded s) ≤ length s → length (unfolded (y ∷ z ∷ s)) ≤ suc (suc (length s))
+        → length (cond t (unfolded s) (x ∷ unfolded (y ∷ z ∷ s))) ≤ suc (suc (suc (length s)))
+    go true h k = omega arith
+    go false h k = omega arith
+
 -- ---- the lines: the first, and those after its end
 
 sent_whole : (s : List ℕ) → length s ≤ length (first_sent s) → first_sent s ≡ s

@@ -1,5 +1,5 @@
 -- Laws of the parts that quotes keep together. Assumes nothing.
-use Rattle.std.proofs.Common.{◌≡◌, ◌≢◌, refl, sym, ◌∙◌, ℕ, suc, ◌+◌, ◌-◌, ◌≤◌, ◌<◌, Bool, true, false, cond, not, List, [], ◌∷◌, ◌++◌, Option, None, Some, MatchOption, Bor, length, get_or, drop, take, add-one, eq-eqb, ne_eqb, append_assoc}
+use Rattle.std.proofs.Common.{◌≡◌, ◌≢◌, refl, sym, ◌∙◌, ℕ, suc, ◌+◌, ◌-◌, ◌≤◌, ◌<◌, Bool, true, false, true≢false, cond, not, List, [], ◌∷◌, ◌++◌, Option, None, Some, MatchOption, Bor, length, get_or, drop, take, add-one, eq-eqb, ne_eqb, append_assoc, arith}
 use mathlib.Core.List.{append-nil}
 use lib.Dec.{eqb}
 use lib.ListN.{drop_of_length-le}
@@ -36,6 +36,90 @@ parts_none b s k e = parts_are false b s k ∙ rw e
 
 pub parts_some : (b : ℕ) (s r : List ℕ) → b ≢ 34 → after_unquoted b s ≡ Some r → unquoted_parts b s ≡ until_unquoted b s ∷ unquoted_parts b r
 parts_some b s r k e = parts_are false b s k ∙ rw e
+
+-- ---- parts, by the length of the first
+
+short : (q : Bool) (b : ℕ) (xs : List ℕ) → length (until_in q b xs) ≤ length xs
+unfolding until_in
+short q b [] = omega arith
+short q b (x ∷ xs) = go (parting q b x) (short (quoted_after q x) b xs)
+  where
+    go : (t : Bool) → length (until_in (quoted_after q x) b xs) ≤ length xs → length (cond t [] (x ∷ until_in (quoted_after q x) b xs)) ≤ suc (length xs)
+    go true h = omega arith
+    go false h = omega arith
+
+last_part : (q : Bool) (b : ℕ) (xs : List ℕ) → length (until_in q b xs) ≡ length xs → parts_in q b xs ≡ until_in q b xs ∷ []
+unfolding until_in parts_in
+last_part q b [] h = refl
+last_part q b (x ∷ xs) h = go (parting q b x) h (last_part (quoted_after q x) b xs)
+  where
+    go : (t : Bool) → length (cond t [] (x ∷ until_in (quoted_after q x) b xs)) ≡ suc (length xs)
+        → (length (until_in (quoted_after q x) b xs) ≡ length xs → parts_in (quoted_after q x) b xs ≡ until_in (quoted_after q x) b xs ∷ [])
+        → one_more t x (parts_in (quoted_after q x) b xs) ≡ cond t [] (x ∷ until_in (quoted_after q x) b xs) ∷ []
+    go true e k = absurd (omega arith)
+    go false e k = rw (k (omega arith))
+
+more_parts : (q : Bool) (b : ℕ) (xs : List ℕ) → eqb b 34 ≡ false → length (until_in q b xs) < length xs
+    → parts_in q b xs ≡ until_in q b xs ∷ parts_in false b (drop (length (until_in q b xs) + 1) xs)
+unfolding until_in parts_in
+more_parts q b [] k h = absurd (omega arith)
+more_parts q b (x ∷ xs) k h = go (parting q b x) refl h (more_parts (quoted_after q x) b xs k)
+  where
+    n : b ≢ 34
+    n e = true≢false (sym (eq-eqb b 34 e) ∙ k)
+
+    go : (t : Bool) → parting q b x ≡ t → length (cond t [] (x ∷ until_in (quoted_after q x) b xs)) < suc (length xs)
+        → (length (until_in (quoted_after q x) b xs) < length xs
+        → parts_in (quoted_after q x) b xs ≡ until_in (quoted_after q x) b xs ∷ parts_in false b (drop (length (until_in (quoted_after q x) b xs) + 1) xs))
+        → one_more t x (parts_in (quoted_after q x) b xs)
+        ≡ cond t [] (x ∷ until_in (quoted_after q x) b xs) ∷ parts_in false b (drop (length (cond t [] (x ∷ until_in (quoted_after q x) b xs)) + 1) (x ∷ xs))
+    go true p e m = rw (unquoted_after q b x n p)
+    go false p e m =
+        let l = length (until_in (quoted_after q x) b xs) in
+        rw (m (omega arith), add-one l, add-one (suc l))
+
+none_left : (q : Bool) (b : ℕ) (xs : List ℕ) → length (until_in q b xs) ≡ length xs → after_in q b xs ≡ None
+unfolding until_in after_in
+none_left q b [] h = refl
+none_left q b (x ∷ xs) h = go (parting q b x) h (none_left (quoted_after q x) b xs)
+  where
+    go : (t : Bool) → length (cond t [] (x ∷ until_in (quoted_after q x) b xs)) ≡ suc (length xs)
+        → (length (until_in (quoted_after q x) b xs) ≡ length xs → after_in (quoted_after q x) b xs ≡ None)
+        → cond t (Some xs) (after_in (quoted_after q x) b xs) ≡ None
+    go true e k = absurd (omega arith)
+    go false e k = k (omega arith)
+
+some_left : (q : Bool) (b : ℕ) (xs : List ℕ) → length (until_in q b xs) < length xs → after_in q b xs ≡ Some (drop (length (until_in q b xs) + 1) xs)
+unfolding until_in after_in
+some_left q b [] h = absurd (omega arith)
+some_left q b (x ∷ xs) h = go (parting q b x) h (some_left (quoted_after q x) b xs)
+  where
+    go : (t : Bool) → length (cond t [] (x ∷ until_in (quoted_after q x) b xs)) < suc (length xs)
+        → (length (until_in (quoted_after q x) b xs) < length xs
+        → after_in (quoted_after q x) b xs ≡ Some (drop (length (until_in (quoted_after q x) b xs) + 1) xs))
+        → cond t (Some xs) (after_in (quoted_after q x) b xs) ≡ Some (drop (length (cond t [] (x ∷ until_in (quoted_after q x) b xs)) + 1) (x ∷ xs))
+    go true e k = refl
+    go false e k =
+        let n = length (until_in (quoted_after q x) b xs) in
+        rw (k (omega arith), add-one n, add-one (suc n))
+
+-- ---- where p is the first part
+
+module _ (b : ℕ) (s : List ℕ) {p : List ℕ} (e : p ≡ until_unquoted b s) where
+  pub unquoted_short : length p ≤ length s
+  unquoted_short = rw e (short false b s)
+
+  pub unquoted_last : length s ≤ length p → unquoted_parts b s ≡ p ∷ []
+  unquoted_last h = rw e (last_part false b s (omega (arith, short false b s, rw e at h)))
+
+  pub unquoted_more : eqb b 34 ≡ false → length p < length s → unquoted_parts b s ≡ p ∷ unquoted_parts b (take (length s - (length p + 1)) (drop (length p + 1) s))
+  unquoted_more k h = rw (rest_is (length p + 1) s, e) (more_parts false b s k (rw e at h))
+
+  pub unquoted_none : length s ≤ length p → after_unquoted b s ≡ None
+  unquoted_none h = none_left false b s (omega (arith, short false b s, rw e at h))
+
+  pub unquoted_some : length p < length s → after_unquoted b s ≡ Some (take (length s - (length p + 1)) (drop (length p + 1) s))
+  unquoted_some h = rw (rest_is (length p + 1) s, e) (some_left false b s (rw e at h))
 
 -- ---- the search for b, where i bytes were passed
 

@@ -1,5 +1,5 @@
 -- The load and the peak as loops over gathered bookings. Assumes nothing.
-use Prim.Native.Nat.{ℕ, suc, ◌+◌, ◌<◌, ◌≤◌, max}
+use Prim.Native.Nat.{ℕ, zero, suc, ◌+◌, ◌<◌, ◌≤◌, max}
 use mathlib.Core.Path.{◌≡◌, refl, ap, sym, ◌∙◌}
 use mathlib.Core.Bool.{Bool, true, false, cond}
 use mathlib.Core.List.{List, [], ◌∷◌, ◌++◌, map}
@@ -8,6 +8,7 @@ use lib.IntN.{ℤ}
 use lib.ListN.{length, get_or, take}
 use lib.Signed.{lt_z}
 use Rattle.std.proofs.Math.Seq.{take-suc, take-length}
+use Rattle.loops.specs.Range.{fold, collect}
 use Rattle.loops.specs.Sums.{total, most}
 use Rattle.loops.proofs.ListLaws.{map_append}
 use Rattle.loops.proofs.SumLaws.{total_append, most_append}
@@ -15,6 +16,25 @@ use Rattle.load.specs.Load as load
 use Rattle.load.specs.Load.{holds, taken, load_of, peak_of}
 use Rattle.load.specs.declared.booking.Booking.{Booking}
 use Rattle.load.specs.inner.Lent.{meant}
+
+-- a sum and a greatest value over a list that is put together place by place
+pub total_fold : {A : Type 0} (f : A → ℕ) (g : ℕ → A) (n : ℕ) → fold (λ e k. e + f (g k)) 0 n ≡ total f (collect (λ j. g j ∷ []) n)
+unfolding fold collect
+total_fold f g zero = unfold total in refl
+total_fold f g (suc n) =
+    let h = total_fold f g n in
+    let k = total_append f (collect (λ j. g j ∷ []) n) (g n ∷ []) in
+    let w : total f (g n ∷ []) ≡ f (g n) + 0 = unfold total in refl in
+    omega arith
+
+pub most_fold : {A : Type 0} (f : A → ℕ) (g : ℕ → A) (n : ℕ) → fold (λ e k. max e (f (g k))) 0 n ≡ most f (collect (λ j. g j ∷ []) n)
+unfolding fold collect
+most_fold f g zero = unfold most in refl
+most_fold f g (suc n) =
+    let h = most_fold f g n in
+    let k = most_append f (collect (λ j. g j ∷ []) n) (g n ∷ []) in
+    let w : most f (g n ∷ []) ≡ max (f (g n)) 0 = unfold most in refl in
+    omega arith
 
 pub taken_most : {T : Type 0} (before : T → T → Bool) (t : T) (x : load.Booking T) → taken before t x ≤ x.units
 unfolding taken

@@ -127,6 +127,11 @@ unfolding count_of
 count_append p [] m = omega arith
 count_append p (x ∷ l) m = let h = count_append p l m in omega arith
 
+pub count_collect : {A : Type 0} (p : A → Bool) (g : ℕ → List A) (n : ℕ) → count_of p (collect g n) ≡ fold (λ c k. c + count_of p (g k)) 0 n
+unfolding collect fold count_of
+count_collect p g zero = refl
+count_collect p g (suc n) = count_append p (collect g n) (g n) ∙ ap (λ c. c + count_of p (g n)) (count_collect p g n)
+
 pub foldl_collect : {A C : Type 0} (step : C → A → C) (b : C) (g : ℕ → List A) (n : ℕ) → foldl step b (collect g n) ≡ fold (λ c k. foldl step c (g k)) b n
 unfolding collect fold
 foldl_collect step b g zero = refl

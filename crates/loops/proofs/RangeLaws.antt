@@ -1,5 +1,5 @@
 -- Laws of `fold` and `collect`, as a loop that counts up goes through them: its start, its turn, its end. Assumes nothing.
-use Prim.Native.Nat.{ℕ, zero, suc, ◌+◌, ◌≤◌, ◌<◌}
+use Prim.Native.Nat.{ℕ, zero, suc, ◌+◌, ◌*◌, ◌≤◌, ◌<◌}
 use mathlib.Core.Path.{◌≡◌, refl, ap, ap₂, sym, ◌∙◌}
 use mathlib.Core.List.{List, [], ◌++◌, append-nil, append_assoc}
 use native.Mathlib.Numerals.{add-one}
@@ -25,6 +25,12 @@ module _ {A : Type 0} (f : ℕ → List A) where
 
   pub collect_done : (i n N : ℕ) → i ≤ n → n ≤ i → n ≡ N → collect f i ≡ collect f N
   collect_done i n N h k q = ap (collect f) (le_antisymm h k ∙ q)
+
+-- a sum that grows by at most g a turn
+pub fold_grows : (f : ℕ → ℕ → ℕ) (b g : ℕ) → ((a k : ℕ) → f a k ≤ a + g) → (n : ℕ) → fold f b n ≤ b + g * n
+unfolding fold
+fold_grows f b g h zero = omega arith
+fold_grows f b g h (suc n) = omega (arith, h (fold f b n) n, fold_grows f b g h n)
 
 -- ---- two ranges, turn by turn
 
