@@ -1,5 +1,5 @@
 -- Signed quantities summed as natural numbers, and what is more than their sum. Assumes nothing.
-use Prim.Native.Nat.{ℕ, suc, ◌+◌, ◌*◌, ◌<◌, ◌≤◌}
+use Prim.Native.Nat.{ℕ, zero, suc, ◌+◌, ◌-◌, ◌*◌, ◌<◌, ◌≤◌}
 use mathlib.Core.Path.{◌≡◌, refl, ap, sym, ◌∙◌}
 use mathlib.Core.Bool.{Bool, true, false, cond, ◌&&◌, and-true}
 use mathlib.Core.List.{List, map, foldl}
@@ -7,7 +7,7 @@ use Rattle.std.specs.Prelude.{Some}
 use native.Mathlib.Omega.{arith}
 use native.Mathlib.Decide.{dec_lt}
 use lib.Dec.{eqb, ltb}
-use lib.IntN.{ℤ, pos, negsuc, nat_abs, ◌+ℤ◌}
+use lib.IntN.{ℤ, pos, negsuc, sub_ℕ, nat_abs, ◌+ℤ◌, ◌-ℤ◌}
 use lib.Signed.{lt_z}
 use mir.Syntax.{w64}
 use mir.Val.{SFits}
@@ -34,7 +34,43 @@ use Rattle.model.proofs.OwnedLaws.{of_activity}
 use Rattle.model.proofs.Accepting.{in_class_lem}
 use Rattle.definition.specs.CheckAssignments.{units}
 use Rattle.rows.proofs.Signed.{number_low, number_high}
+use Rattle.pieces.specs.inner.Bookings.{index_key}
+use Rattle.pieces.proofs.Indices.{key_neg, key_pos}
 use Rattle.check1_assignments.specs.inner.Bookings.{quantities}
+
+-- ---- differences of natural numbers
+
+sub_is : (p m : ℕ) → pos p -ℤ pos m ≡ sub_ℕ p m
+sub_is p zero = rw (le-ltb p 0 (omega arith)) (ap pos (omega arith))
+sub_is p (suc n) = refl
+
+sub_same : (a b c d : ℕ) → a + d ≡ c + b → sub_ℕ a b ≡ sub_ℕ c d
+sub_same a b c d e = go (dec_lt a b)
+  where
+    go : Dec (a < b) → sub_ℕ a b ≡ sub_ℕ c d
+    go (yes l) = rw (lt-ltb a b l, lt-ltb c d (omega arith)) (ap negsuc (omega arith))
+    go (no l) = rw (le-ltb a b (omega arith), le-ltb c d (omega arith)) (ap pos (omega arith))
+
+add_pos : (r o n : ℕ) → sub_ℕ r o +ℤ pos n ≡ sub_ℕ (r + n) o
+add_pos r o n = go (dec_lt r o)
+  where
+    go : Dec (r < o) → sub_ℕ r o +ℤ pos n ≡ sub_ℕ (r + n) o
+    go (yes l) = rw (lt-ltb r o l) (sub_same n (suc (o - suc r)) (r + n) o (omega arith))
+    go (no l) = rw (le-ltb r o (omega arith), le-ltb (r + n) o (omega arith)) (ap pos (omega arith))
+
+add_neg : (r o n : ℕ) → sub_ℕ r o +ℤ negsuc n ≡ sub_ℕ r (o + suc n)
+add_neg r o n = go (dec_lt r o)
+  where
+    go : Dec (r < o) → sub_ℕ r o +ℤ negsuc n ≡ sub_ℕ r (o + suc n)
+    go (yes l) = rw (lt-ltb r o l, lt-ltb r (o + suc n) (omega arith)) (ap negsuc (omega arith))
+    go (no l) = rw (le-ltb r o (omega arith)) (sub_same (r - o) (suc n) r (o + suc n) (omega arith))
+
+-- a quantity added, by its key
+raise : (x : ℤ) (r o : ℕ) → in_class Number x ≡ true → sub_ℕ (r + index_key x) (o + 1000001) ≡ sub_ℕ r o +ℤ x
+raise (pos n) r o e = rw (key_pos n) (sub_same (r + (n + 1000001)) (o + 1000001) (r + n) o (omega arith)) ∙ sym (add_pos r o n)
+raise (negsuc n) r o e =
+    let l = number_low n e in
+    rw (key_neg n l) (sub_same (r + (1000000 - n)) (o + 1000001) r (o + suc n) (omega arith)) ∙ sym (add_neg r o n)
 
 -- ---- how large a sum is
 

@@ -23,7 +23,7 @@ use Rattle.findings.proofs.Reporting.{tell_append}
 use Rattle.rows.specs.Cells.{row_count, num}
 use Rattle.owners.specs.inner.Owners.{owned_by}
 use Rattle.model.specs.Schedule.{requirement_unfilled}
-use Rattle.definition.specs.CheckRequirements.{Claim, claim, claiming}
+use Rattle.definition.specs.CheckRequirements.{Claim, claim, claiming, passing}
 use Rattle.check4_pieces.specs.inner.OfPiece.{free_in}
 use Rattle.check4_claims.specs.inner.Claims.{candidate_of, lacking_of, claim_of, filled, marked_at, unclaimed_of, claimable, takes, requirement_rows, free_at, runs_on_in}
 
@@ -74,6 +74,10 @@ module _ (rows : List ℤ) where
 
 -- ---- a claim, resource by resource
 
+-- a claim of a list in two parts
+abbrev joined : Claim → Claim → Claim
+joined a b = record { claimed = a.claimed ++ b.claimed; unclaimed = a.unclaimed ++ b.unclaimed }
+
 -- a resource that is passed over, where it is free
 abbrev passed : Bool → ℕ → Claim → Claim
 passed b x c = record { claimed = c.claimed; unclaimed = given b x ++ c.unclaimed }
@@ -83,6 +87,22 @@ module _ (f : ℕ → Bool) where
   unfolding claim
   claim_nil zero = refl
   claim_nil (suc n) = refl
+
+  claim_append : (n : ℕ) (l m : List ℕ) → claim f n (l ++ m) ≡ joined (claim f n l) (claim f (n - length (claim f n l).claimed) m)
+  unfolding claim
+  claim_append zero l m = refl
+  claim_append (suc n) [] m = let e : suc n - 0 ≡ suc n = omega arith in ap (λ d. joined (claim f (suc n) []) (claim f d m)) (sym e)
+  claim_append (suc n) (r ∷ l) m = go (f r) (claim_append n l m) (claim_append (suc n) l m)
+    where
+      go : (b : Bool) → claim f n (l ++ m) ≡ joined (claim f n l) (claim f (n - length (claim f n l).claimed) m)
+          → claim f (suc n) (l ++ m) ≡ joined (claim f (suc n) l) (claim f (suc n - length (claim f (suc n) l).claimed) m)
+          → cond b (claiming r (claim f n (l ++ m))) (passing r (claim f (suc n) (l ++ m)))
+          ≡ joined (cond b (claiming r (claim f n l)) (passing r (claim f (suc n) l)))
+          (claim f (suc n - length (cond b (claiming r (claim f n l)) (passing r (claim f (suc n) l))).claimed) m)
+      go true p q =
+          let e : suc n - suc (length (claim f n l).claimed) ≡ n - length (claim f n l).claimed = omega arith in
+          rw e (ap (claiming r) p)
+      go false p q = ap (passing r) q
 
   claim_next : (d : ℕ) (b : Bool) (x : ℕ) (m : List ℕ)
       → claim f d (given b x ++ m) ≡ cond (ltb 0 d && (b && f x)) (claiming x (claim f (d - 1) m)) (passed b x (claim f d m))

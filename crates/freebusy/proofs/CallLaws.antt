@@ -6,13 +6,14 @@ use mathlib.Core.List.{List, ◌++◌}
 use mathlib.Core.Path.{◌≡◌, refl, sym, ap, ◌∙◌}
 use native.Mathlib.Omega.{arith}
 use lib.Dec.{ltb}
-use lib.IntN.{ℤ, pos}
+use lib.IntN.{ℤ, pos, negsuc}
 use lib.ListN.{length, drop}
 use mir.Facts.{to_z-of_z}
 use mir.Syntax.{w64}
 use mir.Val.{SFits, to_z, of_z}
 use borrow.Author.Tests.{lt-ltb, le-ltb, not-true, not-false}
 use Rattle.loops.specs.Lists.{each}
+use Rattle.loops.specs.Numbers.{to_nat}
 use Rattle.loops.specs.Search.{or_else}
 use Rattle.loops.proofs.ListLaws.{none_ahead}
 use Rattle.loops.proofs.PlaceLaws.{or_none_right}
@@ -24,7 +25,7 @@ use Rattle.refusals.specs.declared.Reason.TheVariants.{OutOfRange, Overlong, Mal
 use Rattle.refusals.specs.declared.Refusal.{Refusal}
 use Rattle.refusals.specs.Lending.{answered, lent_after}
 use Rattle.rows.specs.declared.Class.TheVariants.{Id}
-use Rattle.rows.specs.Ranges.{in_class}
+use Rattle.rows.specs.Ranges.{between, in_range, in_class}
 use Rattle.freebusy_lines.specs.Lines.{lines}
 use Rattle.freebusy_components.specs.Components.{wrong_from}
 use Rattle.freebusy_components.specs.inner.Room.{space_after}
@@ -104,6 +105,11 @@ module _ (text : List ℕ) (resource : ℤ) (rows : List ℤ) {w : Option ℕ} (
     passed_rows r = rw (sym f ∙ q) r
 
 -- ---- the resource's number
+
+id_pos : (z : ℤ) → in_class Id z ≡ true → pos (to_nat z) ≡ z
+unfolding in_class in_range between
+id_pos (pos n) e = refl
+id_pos (negsuc n) e = absurd (let z : ◌≡◌ {A = ℕ} 0 1 = cc in omega arith)
 
 -- what a test of it told: the machine reads the number back
 module _ (z : ℤ) (f : SFits w64 z) where

@@ -1,7 +1,25 @@
 -- Laws of texts of characters, read one character after the other. Assumes nothing.
-use Rattle.std.proofs.Common.{◌≡◌, refl, sym, ℕ, zero, suc, ◌-◌, ◌<◌, ◌≤◌, true, false, Bool, List, [], ◌∷◌, length, take, drop, get_or, Some, None, arith}
+use Rattle.std.proofs.Common.{◌≡◌, refl, sym, ℕ, zero, suc, ◌-◌, ◌<◌, ◌≤◌, true, false, Bool, cond, List, [], ◌∷◌, length, take, drop, get_or, Option, Some, None, arith}
+use Rattle.loops.specs.Lists.{option}
 use Rattle.loops.proofs.ListLaws.{rest_is}
-use Rattle.freebusy_characters.specs.Utf8.{non_us_ascii, first_of, characters_from, characters}
+use Rattle.freebusy_characters.specs.Utf8.{utf8_2, utf8_3, utf8_4, non_us_ascii, first_of, characters_from, characters}
+
+-- ---- the bytes of a character, 0 for none
+
+cond_small : (t : Bool) (a b : Option ℕ) → option a 0 (λ n. n) ≤ 4 → option b 0 (λ n. n) ≤ 4 → option (cond t a b) 0 (λ n. n) ≤ 4
+cond_small true a b h k = h
+cond_small false a b h k = k
+
+several_small : (l : List ℕ) → option (non_us_ascii l) 0 (λ n. n) ≤ 4
+unfolding non_us_ascii
+several_small l =
+    let a = get_or l 0 0 in
+    let b = get_or l 1 0 in
+    let c = get_or l 2 0 in
+    cond_small (utf8_2 a b) (Some 2) _ (omega arith)
+    (cond_small (utf8_3 a b c) (Some 3) _ (omega arith) (cond_small (utf8_4 a b c (get_or l 3 0)) (Some 4) None (omega arith) (omega arith)))
+
+-- ---- texts
 
 -- bytes that were read already are passed over
 skipped : (t : ℕ → Bool) (k : ℕ) (l : List ℕ) → characters_from t k l ≡ characters t (drop k l)

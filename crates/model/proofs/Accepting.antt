@@ -1,6 +1,6 @@
 -- What a sheet has that refusals 1 to 5 do not refuse: at most 800 rows, each number in the class of its column, every owner, no id twice. Assumes nothing.
 use Prim.Native.Nat.{ℕ, zero, suc, ◌+◌, ◌*◌, ◌%◌, ◌<◌, ◌≤◌}
-use mathlib.Core.Path.{◌≡◌, refl, sym, ◌∙◌}
+use mathlib.Core.Path.{◌≡◌, refl, ap, sym, ◌∙◌}
 use mathlib.Core.Bool.{Bool, true, false, not, true≢false}
 use mathlib.Core.List.{List}
 use Rattle.std.specs.Prelude.{Option, None, Some}
@@ -129,6 +129,18 @@ accepted rows e =
       owners = owned rows p;
       once = never_again rows p;
     }
+
+-- a row past the last is of no kind
+pub past_kind : (rows : List ℤ) → refusal_of rows ≡ None → (k x : ℕ) → is rows k 0 x ≡ true → 0 < x → k < row_count rows
+past_kind rows e k x h l = go (dec_lt k (row_count rows))
+  where
+    go : Dec (k < row_count rows) → k < row_count rows
+    go (yes m) = m
+    go (no m) =
+        let z : pos 0 ≡ cell rows k 0 = cell_past rows k 0 (past rows (passed rows e) k 0 (omega arith)) in
+        let n : num rows k 0 ≡ x = is_num rows k 0 x h in
+        let w : 0 ≡ num rows k 0 = ap to_nat z in
+        absurd (omega arith)
 
 -- ---- how large a column is
 

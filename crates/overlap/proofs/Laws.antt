@@ -1,5 +1,6 @@
 -- A share of a span. Assumes nothing.
-use Rattle.std.proofs.Common.{◌≡◌, ℕ, zero, suc, ◌+◌, ◌-◌, ◌*◌, ◌/◌, ◌%◌, ◌^◌, ◌<◌, ◌≤◌, Bool, true, false, cond, not, ◌&&◌, ◌||◌, T, eqb, ltb, leb, ◌⊎◌, pos, negsuc, ◌+ℤ◌, ◌-ℤ◌, neg_ℤ, sym, refl, ap, ◌∙◌, subst, inl, inr, true≢false, le_trans, le_of_eq, lt_of_le_of_lt, mul-le-mul_right, mod-eq_of_lt, mul_comm, div-lt_iff_lt-mul, add-mul, mul-le-mul, eq-or-lt_of_le, mul-lt-mul_of_pos_right, mul-pos, mul-one, mul_right_comm, le_of_mul-le-mul_right, mul_left_comm, arith, lit≤, le→leb, eqb→eq, ltb→lt, leb→le, pow_pos, pow_mono, le-ltb, lt-ltb, ne_eqb}
+use Rattle.std.proofs.Common.{◌≡◌, ℕ, zero, suc, ◌+◌, ◌-◌, ◌*◌, ◌/◌, ◌%◌, ◌^◌, ◌<◌, ◌≤◌, Bool, true, false, cond, not, ◌&&◌, ◌||◌, T, eqb, ltb, leb, ◌⊎◌, pos, negsuc, ◌+ℤ◌, ◌-ℤ◌, neg_ℤ, sym, refl, ap, ◌∙◌, subst, inl, inr, true≢false, le_trans, le_of_eq, lt_of_le_of_lt, mul-le-mul_right, mod-lt, mod-eq_of_lt, mul_comm, div-lt_iff_lt-mul, add-mul, mul-le-mul, lt_of_mul-lt-mul_right, eq-or-lt_of_le, mul-lt-mul_of_pos_right, mul-pos, div-add-mod', mul-one, mul_right_comm, le_of_mul-le-mul_right, mul_left_comm, arith, lit≤, le→leb, eqb→eq, ltb→lt, leb→le, pow_pos, pow_mono, ltb-false, ltb-true, le-ltb, lt-ltb, ne_eqb}
+use native.Mathlib.Nat.{div-eq_of_lt-le}
 use borrow.Author.Tests.{lt-leb}
 use lib.Ieee.{Float, nan, inf, fin, Format, binary64, prec, emax, low, up, down, odd, units, round, mul, of_int, lt, le, to_unsigned, neg, of_fields, of_bits}
 use lib.Ieee.Fits.{down_pos, round_is}
@@ -123,6 +124,39 @@ ceil_cut (fin false m e) n h k =
           (round_whole binary64 false (ceil_div (m * up e) (down e)) (omega arith)) (omega arith) (λ r. absurd (true≢false (sym r))) (omega arith)),
       omega arith,
     )
+
+-- k < x as floats
+pub whole_lt : (k : ℕ) (x : Float) → k ≤ 2 ^ 53 → T (plain x) → (lt (of_int binary64 (pos k)) x ≡ true → k * den x < num x) × (lt (of_int binary64 (pos k)) x ≡ false → num x ≤ k * den x)
+unfolding lt of_int
+whole_lt k nan h t = absurd t
+whole_lt k (inf s) h t = absurd t
+whole_lt k (fin true m e) h t = absurd t
+whole_lt k (fin false m e) h t = go (round binary64 false k 1) (round_whole binary64 false k h)
+  where
+    go : (y : Float) → HasValue y false k 1 → (lt y (fin false m e) ≡ true → k * down e < m * up e) × (lt y (fin false m e) ≡ false → m * up e ≤ k * down e)
+    go nan v = absurd v
+    go (inf s) v = absurd v
+    go (fin true p g) v = absurd (true≢false v.0)
+    go (fin false p g) v =
+        let l : p * up g * down e ≡ k * down e * down g = ap (λ (z : ℕ). z * down e) (sym (mul-one (p * up g)) ∙ v.1) ∙ mul_right_comm k (down g) (down e) in (
+          (λ b. lt_of_mul-lt-mul_right (down g) (subst (λ (z : ℕ). z < m * up e * down g) l (ltb-true (p * up g * down e) (m * up e * down g) b))),
+          (λ b. le_of_mul-le-mul_right (subst (λ (z : ℕ). m * up e * down g ≤ z) l (ltb-false (p * up g * down e) (m * up e * down g) b)) (down_pos g)),
+        )
+
+-- the next whole number
+pub ceil_more : (a d : ℕ) → 0 < d → a / d * d < a → a / d + 1 ≡ ceil_div a d
+ceil_more a d D h =
+    let r = mod-lt a D in
+    let s = div-add-mod' a d in
+    let u = add-mul (a / d) 1 d in
+    let v = add-mul (a / d + 1) 1 d in
+    sym (div-eq_of_lt-le d (omega arith) (omega arith))
+
+pub ceil_same : (a d : ℕ) → 0 < d → a ≤ a / d * d → a / d ≡ ceil_div a d
+ceil_same a d D h =
+    let s = div-add-mod' a d in
+    let u = add-mul (a / d) 1 d in
+    sym (div-eq_of_lt-le d (omega arith) (omega arith))
 
 -- ---- the bit patterns of the floats from 0.0 to 1.0
 of_value : (y : Float) (a c : ℕ) → 0 < c → HasValue y false a c → a ≤ c → T (is_share y)

@@ -1,6 +1,6 @@
 -- Lines printed one after the other, as chunks of the numbers that are left, of which the last may be short. Assumes nothing.
 use Prim.Native.Nat.{ℕ, zero, suc, ◌+◌, ◌*◌, ◌<◌, ◌≤◌, min}
-use mathlib.Core.List.{List, [], ◌++◌, append-nil}
+use mathlib.Core.List.{List, [], ◌∷◌, ◌++◌, append-nil}
 use mathlib.Core.Path.{◌≡◌, refl, ap, sym, ◌∙◌}
 use native.Mathlib.Omega.{arith}
 use native.Mathlib.Nat.{suc-mul, add-mul, add-zero}
@@ -27,6 +27,12 @@ unfolding number_lines collect
 printing_none out₀ from numbers w h e d =
     let z : 0 * w ≡ 0 = omega arith in
     record { lines = 0; wrote = wrote_none out₀ from h; left = rw z e; counted = omega (arith, d) }
+
+-- what is left after a line, also where fewer numbers are left than a line has
+drop_line : (w : ℕ) (l : List ℤ) → drop (length (take w l)) l ≡ drop w l
+drop_line zero l = refl
+drop_line (suc w) [] = refl
+drop_line (suc w) (x ∷ l) = drop_line w l
 
 -- a chunk is the first w numbers, or all where they are fewer
 module _ (w : ℕ) (l line rest : List ℤ) (e : l ≡ line ++ rest) (s : length line ≡ min w (length l)) where

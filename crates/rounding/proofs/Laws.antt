@@ -1,14 +1,16 @@
 -- A float below 2 ^ 53 that is rounded is a whole number below it, which the cut of it is. Assumes nothing.
-use Rattle.std.proofs.Common.{◌≡◌, ℕ, zero, suc, ◌+◌, ◌*◌, ◌/◌, ◌%◌, ◌^◌, ◌<◌, ◌≤◌, Bool, true, false, not, ◌&&◌, ◌||◌, T, eqb, ltb, leb, ℤ, pos, negsuc, sym, refl, ap, ◌∙◌, subst, true≢false, zero-lt-suc, div-lt_iff_lt-mul, mul-pos, pow-suc, le-div_iff_mul-le, zero-mul, arith, eqb→eq, ltb→lt, lt→ltb, pow_pos, ltb-false, ltb-true, le-ltb, lt-ltb}
-use native.Mathlib.Nat.{add-div_right, div-div-eq-div-mul, div-eq_of_lt, eq_of_mul-eq-mul_right, mul_comm, zero-div}
-use lib.Ieee.{Float, nan, inf, fin, Format, binary64, low, prec, emax, up, down, round, div, of_int, lt, le, fits, to_unsigned, of_bits, is_nan, nan_bits}
+use Rattle.std.proofs.Common.{◌≡◌, ℕ, zero, suc, ◌+◌, ◌-◌, ◌*◌, ◌/◌, ◌%◌, ◌^◌, ◌<◌, ◌≤◌, Bool, true, false, not, ◌&&◌, ◌||◌, T, eqb, ltb, leb, ℤ, pos, negsuc, sym, refl, ap, ◌∙◌, subst, true≢false, le_of_eq, lt_of_lt_of_le, le_of_suc-le-suc, mul-le-mul_right, zero-lt-suc, mul_assoc, mul_comm, mul_left_comm, mul-one, one-mul, div-lt_iff_lt-mul, lt_of_mul-lt-mul_right, mul-lt-mul_of_pos_right, lt_of_not-le, not-le_of_lt, mul-pos, pow-suc, le-div_iff_mul-le, zero-mul, arith, lit≤, eqb→eq, ltb→lt, lt→ltb, leb→le, pow_pos, pow_mono, pow-add, ltb-false, ltb-true, le-ltb, lt-ltb}
+use native.Mathlib.Nat.{add-div_right, div-div-eq-div-mul, div-eq_of_lt, eq_of_mul-eq-mul_right, zero-div}
+use lib.Pow.{pow-lt}
+use lib.Ieee.{Float, nan, inf, fin, Format, binary64, low, prec, emax, up, down, round, mul, div, of_int, lt, le, fits, to_unsigned, of_bits, is_nan, nan_bits}
 use lib.Ieee.Fits.{up_pos, down_pos, and_l, and_r}
-use lib.Ieee.Exact.{HasValue}
+use lib.Ieee.Exact.{HasValue, round_exact}
 use lib.Ieee.Nearest.{div_same}
 use lib.Ieee.Back.{round_whole}
 use Rattle.std.specs.Float.{float_round, round_with}
 use Rattle.std.proofs.Math.Nat.{div-one}
 use lib.Ieee.Positive.{num, den}
+use lib.Ieee.Digits.{back}
 use Rattle.rounding.specs.Rounding.{half_up, rounded, divided_by}
 use Rattle.rounding.specs.inner.Limited.{limited, too_large}
 use Rattle.rounding.specs.declared.TooLarge.{TooLarge}
@@ -21,6 +23,20 @@ unfolding half_up
 half_of_double n d h =
     ap (λ (z : ℕ). z / 2) (sym (add-div_right (n * 2) h)) ∙ div-div-eq-div-mul (n * 2 + d) d 2 ∙ ap (λ (z : ℕ). (z + d) / (d * 2)) (mul_comm n 2) ∙ ap (λ (z : ℕ). (2 * n + d) / z) (mul_comm d 2)
 
+-- up e / down e is 2 ^ places of the format's smallest values
+places : Format → ℤ → ℕ
+places f (pos k) = k + low f
+places f (negsuc k) = low f - suc k
+
+exponent_le : (k l : ℕ) → 2 ^ k ≤ 2 ^ l → k ≤ l
+exponent_le k l h = le_of_suc-le-suc (lt_of_not-le (λ (g : suc l ≤ k). not-le_of_lt (pow-lt g) h))
+
+in_places : (f : Format) (e : ℤ) → down e ≤ 2 ^ low f → up e * 2 ^ low f ≡ 2 ^ places f e * down e
+unfolding places
+in_places f (pos k) h = sym (pow-add 2 k (low f)) ∙ sym (mul-one (2 ^ (k + low f)))
+in_places f (negsuc k) h =
+    one-mul (2 ^ low f) ∙ ap (λ (z : ℕ). 2 ^ z) (sym (back (low f) (suc k) (exponent_le (suc k) (low f) h))) ∙ pow-add 2 (low f - suc k) (suc k)
+
 -- what `fits` says of a number
 fits_digits : (f : Format) (s : Bool) (m : ℕ) (e : ℤ) → T (fits f (fin s m e)) → m < 2 ^ prec f
 unfolding fits
@@ -30,6 +46,38 @@ fits_digits f s (suc m) e t =
     (and_r (eqb (suc m % 2) 1) (ltb (suc m) (2 ^ prec f))
     (and_l (eqb (suc m % 2) 1 && ltb (suc m) (2 ^ prec f)) (leb (down e) (2 ^ low f))
     (and_l (eqb (suc m % 2) 1 && ltb (suc m) (2 ^ prec f) && leb (down e) (2 ^ low f)) (ltb (suc m * up e) (2 ^ suc (emax f) * down e)) t)))
+
+fits_low : (f : Format) (s : Bool) (m : ℕ) (e : ℤ) → T (fits f (fin s m e)) → down e ≤ 2 ^ low f
+unfolding fits
+fits_low f s zero e t =
+    let p : 1 * down e ≤ up e * down e = mul-le-mul_right (down e) (up_pos e) in
+    let q : up e * down e ≡ 1 = eqb→eq (up e * down e) 1 t in
+    let r : 0 < 2 ^ low f = pow_pos (low f) in
+    omega arith
+fits_low f s (suc m) e t =
+    leb→le (down e) (2 ^ low f)
+    (and_r (eqb (suc m % 2) 1 && ltb (suc m) (2 ^ prec f)) (leb (down e) (2 ^ low f))
+    (and_l (eqb (suc m % 2) 1 && ltb (suc m) (2 ^ prec f) && leb (down e) (2 ^ low f)) (ltb (suc m * up e) (2 ^ suc (emax f) * down e)) t))
+
+-- ---- twice a float is exact
+module _ (f : Format) (s : Bool) (m : ℕ) (e : ℤ) (t : T (fits f (fin s m e))) (h : m * up e * 2 < 2 ^ suc (emax f) * down e) where
+  twice_places : m * up e * 2 * 2 ^ low f ≡ m * 2 ^ suc (places f e) * down e
+  twice_places =
+      simp (mul_assoc, mul_comm, mul_left_comm, pow-suc)
+      (simp (mul_assoc, mul_comm) at (ap (λ (z : ℕ). m * 2 * z) (in_places f e (fits_low f s m e t))))
+
+  twice_below : m * 2 ^ suc (places f e) < 2 ^ (low f + suc (emax f))
+  twice_below =
+      let l = 2 ^ low f in
+      let a : m * up e * 2 * l < 2 ^ suc (emax f) * down e * l = mul-lt-mul_of_pos_right h (pow_pos (low f)) in
+      let b : 2 ^ suc (emax f) * down e * l ≡ 2 ^ (low f + suc (emax f)) * down e = simp (mul_assoc, mul_comm, mul_left_comm, pow-add) in
+      lt_of_mul-lt-mul_right (down e) (subst (λ (z : ℕ). z < 2 ^ (low f + suc (emax f)) * down e) twice_places (lt_of_lt_of_le a (le_of_eq b)))
+
+  twice_exact : HasValue (round f s (m * up e * 2) (down e * 1)) s (m * up e * 2) (down e)
+  twice_exact =
+      subst (λ (z : ℕ). HasValue (round f s (m * up e * 2) (down e * 1)) s (m * up e * 2) z) (mul-one (down e))
+      (round_exact f s (m * up e * 2) (down e * 1) m (suc (places f e)) (mul-pos (down_pos e) (pow_pos 0)) (fits_digits f s m e t) twice_below
+      (twice_places ∙ ap (λ (z : ℕ). m * 2 ^ suc (places f e) * z) (sym (mul-one (down e)))))
 
 -- ---- a float cut to a whole number
 -- y is above -1 and below 2 ^ 64, and its whole part is a / c
@@ -68,6 +116,29 @@ unfolding le
 size_zero m e p =
     let q : 0 * down e ≡ m * up e * 1 = eqb→eq (0 * down e) (m * up e * 1) (and_l (eqb (0 * down e) (m * up e * 1)) (false || eqb (0 * down e) 0) (subst T (sym p) tt)) in
     omega arith
+
+-- twice it
+from_exact : (s : Bool) (m : ℕ) (e : ℤ) → T (fits binary64 (fin s m e)) → (s ≡ true → m * up e ≡ 0) → m * up e < 2 ^ 53 * down e
+    → Cut (round binary64 s (m * up e * 2) (down e * 1)) (m * up e * 2) (down e) × (m * up e * 2 / down e < 2 ^ 54)
+from_exact s m e t z h =
+    let h2 : m * up e * 2 < 2 ^ 54 * down e = omega arith in (
+      cut_of_value (round binary64 s (m * up e * 2) (down e * 1)) s (m * up e * 2) (down e)
+          (twice_exact binary64 s m e t (lt_of_lt_of_le h2 (mul-le-mul_right (down e) (pow_mono {i = 54} {j = 1024} (lit≤ tt))))) (down_pos e) (λ p. ap (λ (x : ℕ). x * 2) (z p)) (omega arith),
+      (div-lt_iff_lt-mul (down_pos e)).1 (omega arith),
+    )
+
+doubled : (x : Float) → T (fits binary64 x) → le (fin false 0 (pos 0)) x ≡ true → lt x (fin false 1 (pos 53)) ≡ true
+    → Cut (mul binary64 x (fin false 1 (pos 1))) (num x * 2) (den x) × (num x * 2 / den x < 2 ^ 54)
+unfolding lt mul le
+doubled nan t p q = absurd (true≢false (sym q))
+doubled (inf true) t p q = absurd (true≢false (sym p))
+doubled (inf false) t p q = absurd (true≢false (sym q))
+doubled (fin true m e) t p q =
+    let z = size_zero m e p in
+    from_exact true m e t (λ _. z) (omega (arith, down_pos e))
+doubled (fin false m e) t p q =
+    let h : m * up e * 1 < 1 * 2 ^ 53 * down e = ltb→lt (m * up e * 1) (1 * 2 ^ 53 * down e) (subst T (sym q) tt) in
+    from_exact false m e t (λ r. absurd (true≢false (sym r))) (omega arith)
 
 -- ---- the limit
 

@@ -1,7 +1,7 @@
 -- What is written to a buffer, one after the other. Assumes nothing.
 use Prim.Native.Nat.{ℕ, suc, ◌+◌, ◌-◌, ◌≤◌, ◌<◌, min}
 use mathlib.Core.List.{List, [], ◌∷◌, ◌++◌}
-use mathlib.Core.Path.{◌≡◌, sym, ap, subst, ◌∙◌}
+use mathlib.Core.Path.{◌≡◌, refl, sym, ap, subst, ◌∙◌}
 use native.Mathlib.Omega.{arith}
 use native.Mathlib.Decide.{dec_lt}
 use borrow.Author.Tests.{le-ltb}
@@ -39,6 +39,10 @@ module _ {A : Type 0} where
 
   pub told_all : {l m : List A} {n : ℕ} {r : Option ℕ} (xs ys : List A) → Wrote l 0 m n xs → xs ≡ ys → r ≡ gathered n (length m) → r ≡ gathered (length ys) (length l)
   told_all xs ys v e t = told_of ys (wrote_as e v) t
+
+  -- all is yet to be written; something of it is written; nothing is left
+  pub yet_all : (l : List A) (at : ℕ) (all : List A) → at ≤ length l → Yet l at all l at all
+  yet_all l at all h = record { place = refl; buffer = refl; long = refl; within = h }
 
   pub yet_less : {l m o : List A} {i j k : ℕ} {all : List A} (a b : List A) → Yet l i all m j (a ++ b) → Wrote m j o k a → Yet l i all o k b
   yet_less {l = l} {m = m} {o = o} {i = i} {j = j} {k = k} {all = all} a b y w =

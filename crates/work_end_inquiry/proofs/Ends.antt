@@ -143,6 +143,11 @@ work_in (negsuc n) e = omega arith
 abbrev read : ℤ → ℤ
 read x = to_z w64 (of_z w64 x)
 
+-- no places, no windows
+calendar_none : (w : List TimeWindow) → layout.calendar_of w 0 0 ≡ []
+unfolding layout.calendar_of layout.windows_of
+calendar_none w = refl
+
 -- no windows
 none_listed : (l : LentList TimeWindow 800) → listed l ≡ [] → calendar_in l ≡ []
 unfolding calendar_in
