@@ -1,14 +1,11 @@
 // The run over stored lists of cases: what a case gathers, whether it passes, and what is counted and told. The programs replay_.. judge.
 #![tactic(auto)]
 
-ghost use Rattle.std.specs.Prelude.{◌≡◌, ◌*◌, cond, true, false, pos, IsOk, is_ok, OnOk, IfOk, IfSome, MatchOption, ⊤, Some, ◌≢◌, ◌<◌, ◌≤◌, List, ◌++◌, length, get_or, take, ℕ};
+ghost use Rattle.std.specs.Prelude.{◌≡◌, ◌*◌, true, false, pos, IsOk, is_ok, OnOk, IfOk, IfSome, MatchOption, ⊤, Some, ◌≢◌, ◌<◌, ◌≤◌, List, ◌++◌, length, get_or, take, ℕ};
 ghost use Rattle.std.specs.Counts.{IsPrefixLen};
 ghost use Rattle.std.specs.Io.KnownBytes.{Appends};
 ghost use Rattle.std.specs.Fn.{FnReturnsAt, FnOnceReturnsAtMut};
-ghost use Rattle.loops.specs.Lists.{all_of};
-ghost use Rattle.text_fields.specs.Parts.{parts};
-ghost use Rattle.stored_lines.specs.inner.Line.{is_formed};
-ghost use Rattle.stored_run.specs.inner.Cases.{Gathers, Says, has_room, ComesOut};
+ghost use Rattle.stored_run.specs.inner.Cases.{Says, has_room, ComesOut};
 ghost use Rattle.stored_run.specs.declared.Gathered.{Gathered};
 ghost use Rattle.stored_run.specs.declared.Run.{Run};
 ghost use Rattle.stored_run.specs.Told.{run_line, line_after, case_line, told_case, told_unread};
