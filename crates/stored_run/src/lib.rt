@@ -69,8 +69,8 @@ impl Gathered<'_> {
     }
 }
 
-// Which lines of a case a program reads, beside those that give it numbers: those with bytes, those with numbers expected. What it does not read is not gathered, so
-// that such a line fails no case, how much it may be.
+// Which lines of a case a program reads beside those with its numbers: those with bytes, those with numbers expected. The others are not gathered: what nobody looks
+// at fails no case, and costs nothing, however often a line repeats it.
 #[derive(Clone, Copy)]
 pub struct Reads {
     pub bytes: bool,
@@ -380,7 +380,7 @@ fn expected_at(expected: &[i64], i: usize) -> i64
 }
 
 // Whether the lent numbers are the first of those expected, and after them 7.
-fn as_expected(lent: &[i64], expected: &[i64]) -> bool
+pub fn as_expected(lent: &[i64], expected: &[i64]) -> bool
     ensures { result ≡ as_expected lent.now expected.now }
 {
     lent.iter()
