@@ -4,8 +4,8 @@
 use std::io;
 use stored_run::{Gathered, Reads};
 
-// Whether as many numbers are expected as the line says, four to a finding. A case that passes has fewer than 2,050 findings; of a call that is to refuse nobody looks at
-// the numbers expected.
+// Whether as many numbers are expected as the line says, four to a finding. A case that passes has fewer than 2,050 findings; of a call that is to refuse nobody
+// looks at the numbers expected.
 fn expects_findings(case: &Gathered) -> bool {
     match case.judging {
         &[_, number, place] => {

@@ -69,8 +69,8 @@ impl Gathered<'_> {
     }
 }
 
-// Which lines of a case a program reads beside those with its numbers: those with bytes, those with numbers expected. The others are not gathered: what nobody looks
-// at fails no case, and costs nothing, however often a line repeats it.
+// Which lines of a case a program reads beside those with its numbers: those with bytes, those with numbers expected. What it does not read is not gathered: it
+// fails no case, however often a line repeats it.
 #[derive(Clone, Copy)]
 pub struct Reads {
     pub bytes: bool,
