@@ -5,7 +5,7 @@
 
 use calendar::{Calendars, NO_PLACES, Places, TimeWindow, WindowKind, WorkEnd};
 use std::io;
-use stored_run::Gathered;
+use stored_run::{Gathered, Reads};
 use window_rows::NO_WINDOW;
 
 // An instant or an amount. The last four of 64 bits are spelled -4 to -1, for a list's numbers go only to 2^63 - 1.
@@ -117,5 +117,9 @@ fn passes(case: &Gathered) -> bool {
 }
 
 fn main(rt: HostRuntime) -> io::Result<()> {
-    stored_run::replay_files(&rt, &mut io::writer(&rt), &[b"cases.txt"], passes)
+    let reads = Reads {
+        bytes: false,
+        expected: false,
+    };
+    stored_run::replay_files(&rt, &mut io::writer(&rt), &[b"cases.txt"], reads, passes)
 }

@@ -3,7 +3,7 @@
 #![tactic(auto)]
 
 use std::io;
-use stored_run::Gathered;
+use stored_run::{Gathered, Reads};
 
 // A line `VRESOURCE,LENT,NUMBER,PLACE` has the bytes read as a calendar of that resource.
 fn passes(case: &Gathered) -> bool {
@@ -20,5 +20,9 @@ fn passes(case: &Gathered) -> bool {
 }
 
 fn main(rt: HostRuntime) -> io::Result<()> {
-    stored_run::replay_files(&rt, &mut io::writer(&rt), &[b"cases.txt"], passes)
+    let reads = Reads {
+        bytes: true,
+        expected: false,
+    };
+    stored_run::replay_files(&rt, &mut io::writer(&rt), &[b"cases.txt"], reads, passes)
 }

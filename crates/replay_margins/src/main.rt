@@ -2,7 +2,7 @@
 #![tactic(auto)]
 
 use std::io;
-use stored_run::Gathered;
+use stored_run::{Gathered, Reads};
 
 // A line `MROOM,NUMBER,PLACE` asks for the margins of the numbers as rows; a line of them is three of the numbers expected.
 fn passes(case: &Gathered) -> bool {
@@ -10,5 +10,9 @@ fn passes(case: &Gathered) -> bool {
 }
 
 fn main(rt: HostRuntime) -> io::Result<()> {
-    stored_run::replay_files(&rt, &mut io::writer(&rt), &[b"cases.txt"], passes)
+    let reads = Reads {
+        bytes: false,
+        expected: true,
+    };
+    stored_run::replay_files(&rt, &mut io::writer(&rt), &[b"cases.txt"], reads, passes)
 }

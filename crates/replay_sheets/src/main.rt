@@ -3,7 +3,7 @@
 #![tactic(auto)]
 
 use std::io;
-use stored_run::Gathered;
+use stored_run::{Gathered, Reads};
 
 // A line `TLENT,NUMBER,PLACE` has the bytes read as a text, a line `RNUMBER,PLACE` the numbers judged as rows.
 fn passes(case: &Gathered) -> bool {
@@ -21,5 +21,9 @@ fn passes(case: &Gathered) -> bool {
 }
 
 fn main(rt: HostRuntime) -> io::Result<()> {
-    stored_run::replay_files(&rt, &mut io::writer(&rt), &[b"cases.txt"], passes)
+    let reads = Reads {
+        bytes: true,
+        expected: false,
+    };
+    stored_run::replay_files(&rt, &mut io::writer(&rt), &[b"cases.txt"], reads, passes)
 }

@@ -5,7 +5,8 @@ ghost use Rattle.std.specs.Prelude.{◌≡◌, ◌*◌, true, false, pos, IsOk, 
 ghost use Rattle.std.specs.Counts.{IsPrefixLen};
 ghost use Rattle.std.specs.Io.KnownBytes.{Appends};
 ghost use Rattle.std.specs.Fn.{FnReturnsAt, FnOnceReturnsAtMut};
-ghost use Rattle.stored_run.specs.inner.Cases.{Says, has_room, ComesOut};
+ghost use Rattle.stored_run.specs.inner.Cases.{bytes_given, numbers_given, expected_given, expected_read, fit, has_room, SaysWith, Says, ComesOut};
+ghost use Rattle.stored_run.specs.declared.Reads.{Reads};
 ghost use Rattle.stored_run.specs.declared.Gathered.{Gathered};
 ghost use Rattle.stored_run.specs.declared.Run.{Run};
 ghost use Rattle.stored_run.specs.Told.{run_line, line_after, case_line, told_case, told_unread};
@@ -68,6 +69,14 @@ impl Gathered<'_> {
     }
 }
 
+// Which lines of a case a program reads beside those with its numbers: those with bytes, those with numbers expected. What it does not read is not gathered: it
+// fails no case, however often a line repeats it.
+#[derive(Clone, Copy)]
+pub struct Reads {
+    pub bytes: bool,
+    pub expected: bool,
+}
+
 // So many of them, if it is known how many.
 fn first_of<T>(n: Option<usize>, room: &[T]) -> Option<&[T]>
     ensures { MatchOption result (IfSome n (λ k. length room.now < k)) (λ s. (k : ℕ) × (n ≡ Some k) × (s.now ≡ take k room.now)) }
@@ -82,33 +91,89 @@ pub enum Fault {
     Differs,
 }
 
-// What the judge says of what these lines gather, if there is room for it.
-fn is_passed<F: Fn(&Gathered) -> bool>(lines: &[u8], line: &[u8], passes: &F) -> Option<bool>
+// What the judge says of what these lines gather, if there is room for it. Room comes step by step, so that a case fills none for what is not read.
+fn is_passed<F: Fn(&Gathered) -> bool>(
+    lines: &[u8],
+    line: &[u8],
+    reads: Reads,
+    passes: &F,
+) -> Option<bool>
     requires { F.IsAlwaysCallable passes.now }
-    ensures { MatchOption result (has_room lines.now line.now ≡ false) (Says (FnReturnsAt F.Fn passes.now) lines.now line.now) }
+    ensures { MatchOption result (has_room reads lines.now line.now ≡ false) (Says (FnReturnsAt F.Fn passes.now) reads lines.now line.now) }
 {
-    // Room for what a case gathers: programs have no heap. What no line gathers to is still 7 among the numbers.
+    // Room for the numbers that judge: programs have no heap.
     let mut judging = [0i64; 16];
-    let mut numbers = [7i64; 8210];
-    let mut bytes = [0u8; 70010];
-    let mut expected = [7i64; 8210];
     let case = Gathered {
         letter: stored_lines::letter_of(line),
         judging: first_of(
             stored_numbers::judging_numbers(line, &mut judging),
             &judging,
         )?,
-        numbers: first_of(
-            stored_numbers::gather_numbers(lines, &mut numbers),
-            &numbers,
-        )?,
-        bytes: first_of(stored_bytes::gather_bytes(lines, &mut bytes), &bytes)?,
-        expected: first_of(
-            stored_numbers::gather_expected(lines, &mut expected),
-            &expected,
-        )?,
+        numbers: &[],
+        bytes: &[],
+        expected: &[],
     };
-    Some(passes(&case))
+    if reads.bytes {
+        passes_with_bytes(lines, case, reads, passes)
+    } else {
+        passes_with_numbers(lines, case, reads, passes)
+    }
+}
+
+// The same where a case has the line that judges, and is to gather its bytes and what follows.
+fn passes_with_bytes<F: Fn(&Gathered) -> bool>(
+    lines: &[u8],
+    case: Gathered,
+    reads: Reads,
+    passes: &F,
+) -> Option<bool>
+    requires { F.IsAlwaysCallable passes.now }
+    ensures { MatchOption result (fit (numbers_given lines.now) (bytes_given lines.now) (expected_read reads lines.now) ≡ false)
+        (SaysWith (FnReturnsAt F.Fn passes.now) case.entry (numbers_given lines.now) (bytes_given lines.now) (expected_read reads lines.now)) }
+{
+    let mut room = [0u8; 70010];
+    let bytes = first_of(stored_bytes::gather_bytes(lines, &mut room), &room)?;
+    passes_with_numbers(lines, Gathered { bytes, ..case }, reads, passes)
+}
+
+// The same where it has its bytes too. What no line gathers to is still 7 among the numbers.
+fn passes_with_numbers<F: Fn(&Gathered) -> bool>(
+    lines: &[u8],
+    case: Gathered,
+    reads: Reads,
+    passes: &F,
+) -> Option<bool>
+    requires { F.IsAlwaysCallable passes.now }
+    ensures { MatchOption result (fit (numbers_given lines.now) case.entry.bytes.now (expected_read reads lines.now) ≡ false)
+        (SaysWith (FnReturnsAt F.Fn passes.now) case.entry (numbers_given lines.now) case.entry.bytes.now (expected_read reads lines.now)) }
+{
+    let mut room = [7i64; 8210];
+    let numbers = first_of(stored_numbers::gather_numbers(lines, &mut room), &room)?;
+    let case = Gathered {
+        numbers,
+        expected: &[],
+        ..case
+    };
+    if reads.expected {
+        passes_with_expected(lines, case, passes)
+    } else {
+        Some(passes(&case))
+    }
+}
+
+// The same where it has all but the numbers expected.
+fn passes_with_expected<F: Fn(&Gathered) -> bool>(
+    lines: &[u8],
+    case: Gathered,
+    passes: &F,
+) -> Option<bool>
+    requires { F.IsAlwaysCallable passes.now }
+    ensures { MatchOption result (fit case.entry.numbers.now case.entry.bytes.now (expected_given lines.now) ≡ false)
+        (SaysWith (FnReturnsAt F.Fn passes.now) case.entry case.entry.numbers.now case.entry.bytes.now (expected_given lines.now)) }
+{
+    let mut room = [7i64; 8210];
+    let expected = first_of(stored_numbers::gather_expected(lines, &mut room), &room)?;
+    Some(passes(&Gathered { expected, ..case }))
 }
 
 // Whether a case passes. These are its lines, and the one among them that judges it.
@@ -116,15 +181,16 @@ fn judge<F: Fn(&Gathered) -> bool>(
     lines: &[u8],
     gathering: &[u8],
     judging: &[u8],
+    reads: Reads,
     passes: &F,
 ) -> Result<(), Fault>
     requires { F.IsAlwaysCallable passes.now }
-    ensures { ComesOut (FnReturnsAt F.Fn passes.now) lines.now gathering.now judging.now result }
+    ensures { ComesOut (FnReturnsAt F.Fn passes.now) reads lines.now gathering.now judging.now result }
 {
     if !stored_lines::all_formed(lines) {
         return Err(Fault::IllFormed);
     }
-    match is_passed(gathering, judging, passes) {
+    match is_passed(gathering, judging, reads, passes) {
         Some(true) => Ok(()),
         Some(false) | None => Err(Fault::Differs),
     }
@@ -239,11 +305,12 @@ fn replay_list<W: Write, F: Fn(&Gathered) -> bool>(
     name: &[u8],
     list: &[u8],
     before: Run,
+    reads: Reads,
     passes: &F,
 ) -> io::Result<Run>
     requires { F.IsAlwaysCallable passes.now }
     ensures { IfOk result (λ after. (told : List ℕ) × Appends (W.contents out.old) (W.contents out.new) told
-        × ReplaysList (FnReturnsAt F.Fn passes.now) name.now list.now told before after) }
+        × ReplaysList (FnReturnsAt F.Fn passes.now) reads name.now list.now told before after) }
 {
     let mut run = before;
     for case in Cases::new(list) {
@@ -251,6 +318,7 @@ fn replay_list<W: Write, F: Fn(&Gathered) -> bool>(
             &list[case.start..case.end],
             &list[case.start..case.line],
             &list[case.line..case.end],
+            reads,
             passes,
         );
         name_failed(out, name, list, case.start, outcome)?;
@@ -265,18 +333,19 @@ fn replay_file<W: Write, F: Fn(&Gathered) -> bool>(
     out: &mut W,
     name: &[u8],
     before: Run,
+    reads: Reads,
     passes: &F,
 ) -> io::Result<Run>
     requires { F.IsAlwaysCallable passes.now }
     ensures { IfOk result (λ after. (told : List ℕ) × Appends (W.contents out.old) (W.contents out.new) told
-        × ReplaysFile (FnReturnsAt F.Fn passes.now) name.now told before after) }
+        × ReplaysFile (FnReturnsAt F.Fn passes.now) reads name.now told before after) }
 {
     // Room for a list: programs have no heap.
     let mut list = [0u8; 262144];
     let read = read_list(rt, name, &mut list);
     name_unread(out, name, &list, read)?;
     match read {
-        Some(n) => replay_list(out, name, &list[..n], before, passes),
+        Some(n) => replay_list(out, name, &list[..n], before, reads, passes),
         None => Ok(before),
     }
 }
@@ -287,15 +356,16 @@ pub fn replay_files<W: Write, F: Fn(&Gathered) -> bool>(
     rt: &impl Files,
     out: &mut W,
     names: &[&[u8]],
+    reads: Reads,
     passes: F,
 ) -> io::Result<()>
     requires { F.IsAlwaysCallable passes }
     ensures { OnOk result ((told : List ℕ) × (run : Run) × Appends (W.contents out.old) (W.contents out.new) (told ++ run_line run)
-        × ReplaysFiles (FnReturnsAt F.Fn passes) names.now told no_cases run) }
+        × ReplaysFiles (FnReturnsAt F.Fn passes) reads names.now told no_cases run) }
 {
     let mut run = Run::new();
     for name in names {
-        run = replay_file(rt, out, name, run, &passes)?;
+        run = replay_file(rt, out, name, run, reads, &passes)?;
     }
     run.print(out)
 }
@@ -310,7 +380,7 @@ fn expected_at(expected: &[i64], i: usize) -> i64
 }
 
 // Whether the lent numbers are the first of those expected, and after them 7.
-fn as_expected(lent: &[i64], expected: &[i64]) -> bool
+pub fn as_expected(lent: &[i64], expected: &[i64]) -> bool
     ensures { result ≡ as_expected lent.now expected.now }
 {
     lent.iter()

@@ -7,4 +7,4 @@ abbrev pub invariant-loop-case : goal.invariant-loop-case
 invariant-loop-case g l =
     goal.F-IsAlwaysCallable g l.passes
     × (l.case-iterator.list.now ≡ l.list)
-    × CasesSoFar (FnReturnsAt g.F.Fn l.passes) l.name l.list l.fn.before (g.W.Write.contents l.fn.out) (g.W.Write.contents l.out) l.case-iterator.at l.run
+    × CasesSoFar (FnReturnsAt g.F.Fn l.passes) l.reads l.name l.list l.fn.before (g.W.Write.contents l.fn.out) (g.W.Write.contents l.out) l.case-iterator.at l.run

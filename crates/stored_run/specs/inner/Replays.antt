@@ -1,4 +1,5 @@
--- How a run over stored lists goes, by what the judge says of what a case gathers: what is told of it, and what is counted. Assumes nothing.
+-- How a run over stored lists goes, by what the judge says of what a case gathers for a program that reads so much: what is told of it, and what is counted.
+-- Assumes nothing.
 use Rattle.std.specs.Prelude.{ℕ, Bool, ◌≡◌, ◌≤◌, ◌<◌, cond, List, [], ◌∷◌, ◌++◌, length, slice_range, Option, None, Some, Result, is_ok}
 use denote.Ref.{Bor}
 use Rattle.stored_lines.specs.declared.Case.{Case}
@@ -6,6 +7,7 @@ use Rattle.stored_lines.specs.inner.Case.{CaseAt}
 use Rattle.stored_run.specs.Told.{told_case, told_unread, not_whole}
 use Rattle.stored_run.specs.declared.Fault.{Fault}
 use Rattle.stored_run.specs.declared.Gathered.{Gathered}
+use Rattle.stored_run.specs.declared.Reads.{Reads}
 use Rattle.stored_run.specs.declared.Run.{Run}
 use Rattle.stored_run.specs.inner.Cases.{ComesOut}
 use Rattle.stored_run.specs.inner.Count.{more}
@@ -31,13 +33,13 @@ abbrev pub with_cases : Run → List Judged → Run
 with_cases run [] = run
 with_cases run (j ∷ js) = with_cases (with_case run j.outcome) js
 
-module _ (Judges : Gathered → Bool → Type 0) where
+module _ (Judges : Gathered → Bool → Type 0) (reads : Reads) where
   -- these are the cases of a list from a place on, each with its outcome, to the list's end
   abbrev pub AreJudged : List ℕ → ℕ → List Judged → Type 0
   AreJudged list at [] = length list ≤ at
   AreJudged list at (j ∷ js) =
       (at < length list) × CaseAt list at j.case
-      × ComesOut Judges (slice_range list j.case.start j.case.end) (slice_range list j.case.start j.case.line) (slice_range list j.case.line j.case.end) j.outcome
+      × ComesOut Judges reads (slice_range list j.case.start j.case.end) (slice_range list j.case.start j.case.line) (slice_range list j.case.line j.case.end) j.outcome
       × AreJudged list j.case.next js
 
   -- of a list in the file of that name this is told, and the counts before it become those after it
