@@ -3,6 +3,7 @@
 
 ghost use Rattle.std.specs.Prelude.{◌≡◌, ◌≤◌};
 ghost use Rattle.std.specs.Iterator.{YieldsFirst, item_count};
+ghost use Rattle.loops.specs.Lists.{head};
 ghost use Rattle.chains.specs.Places.{places};
 
 mod chain_table;
@@ -83,6 +84,16 @@ impl<C: Chain + Drop> Walk<C> {
     {
         let at = chain.first_place();
         Walk { chain, at, end }
+    }
+
+    // The first of them, if there is one; the walk stays where it is. `next` would look for the place behind it as well.
+    pub fn peek(&self) -> Option<usize>
+        ensures { result ≡ head self.now }
+    {
+        if self.at < self.end {
+            return Some(self.at);
+        }
+        None
     }
 }
 
