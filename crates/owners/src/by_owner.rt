@@ -149,7 +149,12 @@ impl<'a> OwnedChain<'a> {
         OwnedChain::numbered(rows, table, owner, kind.number() as usize)
     }
 
-    fn numbered(rows: &'a [i64], table: &'a ChainTable<8810>, owner: usize, kind: usize) -> OwnedChain<'a>
+    fn numbered(
+        rows: &'a [i64],
+        table: &'a ChainTable<8810>,
+        owner: usize,
+        kind: usize,
+    ) -> OwnedChain<'a>
         requires { Owned rows.now table.now × (owner ≤ row_count rows.now) }
         ensures { result ≡ (rows.now, owner, kind) }
     {

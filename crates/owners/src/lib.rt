@@ -12,7 +12,7 @@ mod owner_links;
 mod sheet_index;
 mod sheet_owners;
 
-pub use by_owner::{find_owned, first_owned, next_owned, owned_by_number, ByOwner, OwnerIndex};
+pub use by_owner::{ByOwner, OwnerIndex, find_owned, first_owned, next_owned, owned_by_number};
 use chains::ChainTable;
 pub use owner_links::{LinkIndex, OwnerLinks};
 use rows::Kind;

@@ -25,6 +25,6 @@ pub returns : goal.returns
 returns c =
     of_walk (named c.args.rows.now 5 c.args.activity) c.args.m (row_count c.args.rows.now) c.named-left.ensures.places
     (c.peek.ensures ∙ elim c.if-m-gt0.branch [
-        then-m-gt0+in_ok-nth w ↦ ap head w.left-is ∙ walk_behind c.args.m w.in_ok-nth.field-0 _ w.if-m-gt0.true w.nth.ensures.ran w.in_ok-nth.was
+      | then-m-gt0+in_ok-nth w ↦ ap head w.left-is ∙ walk_behind c.args.m w.in_ok-nth.field-0 _ w.if-m-gt0.true w.nth.ensures.ran w.in_ok-nth.was
       | else-m-gt0 w ↦ ap head w.left-is ∙ walk_front _ c.args.m w.if-m-gt0.false
     ])
