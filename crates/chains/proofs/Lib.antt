@@ -1,3 +1,4 @@
+pub mod Passing
 pub mod PlaceLaws
 pub mod TableWalk
 pub mod WalkLaws

@@ -1,5 +1,5 @@
 -- Methods of iterators over a walk along a chain: what they make of the list of its places. Assumes nothing.
-use Prim.Native.Nat.{ℕ, zero, suc, ◌<◌, ◌≤◌}
+use Prim.Native.Nat.{ℕ, zero, suc, ◌-◌, ◌<◌, ◌≤◌}
 use mathlib.Core.Path.{◌≡◌, refl, ap, subst, sym, ◌∙◌}
 use mathlib.Core.Bool.{Bool, true, false}
 use mathlib.Core.List.{List, [], ◌∷◌}
@@ -14,6 +14,7 @@ use Rattle.std.specs.List.{FoldsTo}
 use Rattle.std.specs.Iterator.{Yields, YieldsFirst, YieldsThen, CallableWhile, ChecksAny, FindsItem, SkipsThenYields}
 use Rattle.loops.specs.Lists.{keep, any_of, head, is_some}
 use Rattle.loops.specs.Search.{first_place, any_below}
+use Rattle.loops.proofs.OrderedLaws.{none_some}
 use Rattle.chains.specs.Places.{places}
 use Rattle.chains.specs.inner.Left.{Left}
 use Rattle.chains.proofs.PlaceLaws.{left_all, next_none, next_some, any_first}
@@ -51,9 +52,43 @@ nth_ran s (x ∷ xs) u (suc n) None y m = rw y.1.1 (nth_ran y.1.0 xs u n None (y
 nth_ran s (x ∷ xs) u zero (Some z) y m = absurd (omega (arith, m))
 nth_ran s (x ∷ xs) u (suc n) (Some z) y m = rw y.1.1 (nth_ran y.1.0 xs u n (Some z) (y.0, y.1.2, y.2) (omega (arith, m)))
 
+-- ---- what `nth` leaves
+
+head_get : (l : List ℕ) → head l ≡ slice_get l 0
+head_get [] = refl
+head_get (x ∷ l) = refl
+
+get_none : (l : List ℕ) (n : ℕ) → None ≡ slice_get l n → None ≡ slice_get l (suc n)
+get_none [] n e = refl
+get_none (x ∷ []) zero e = refl
+get_none (x ∷ y ∷ l) zero e = absurd (none_some e)
+get_none (x ∷ l) (suc n) e = get_none l n e
+
+left_ran : (s xs u : List ℕ) (n k : ℕ) → YieldsThen taken s xs (Some k) u → length xs ≡ n → head u ≡ slice_get s (suc n)
+left_ran s [] u zero k y m = rw (y.1 ∙ y.2) (head_get u)
+left_ran s [] u (suc n) k y m = absurd (omega (arith, m))
+left_ran s (x ∷ xs) u zero k y m = absurd (omega (arith, m))
+left_ran s (x ∷ xs) u (suc n) k y m = rw y.1.1 (left_ran y.1.0 xs u n k (y.0, y.1.2, y.2) (omega (arith, m)))
+
 -- the place that is number n, from 0, of those that are left
 pub walk_nth : {s : List ℕ} {r : Option ℕ} (n : ℕ) (u : List ℕ) → SkipsThenYields taken s n r u → r ≡ slice_get s n
 walk_nth {s} {r} n u c = nth_ran s c.0 u n r c.1 c.2
+
+-- the place that is number m is the first that is left: where none was passed,
+pub walk_front : (s : List ℕ) (m : ℕ) → m ≤ 0 → head s ≡ slice_get s m
+walk_front s m h = let e : 0 ≡ m = omega (arith, h) in head_get s ∙ ap (slice_get s) e
+
+-- and where `nth` gave the one before it
+pub walk_behind : {s : List ℕ} {r : Option ℕ} (m k : ℕ) (u : List ℕ) → 0 < m → SkipsThenYields taken s (m - 1) r u → r ≡ Some k → head u ≡ slice_get s m
+walk_behind {s} m k u h c e =
+    let n : suc (m - 1) ≡ m = omega (arith, h) in
+    left_ran s c.0 u (m - 1) k (rw e at c.1) (rw e at c.2) ∙ ap (slice_get s) n
+
+-- where it gave none, there is none
+pub walk_short : {s : List ℕ} {r : Option ℕ} (m : ℕ) (u : List ℕ) → 0 < m → SkipsThenYields taken s (m - 1) r u → r ≡ None → None ≡ slice_get s m
+walk_short {s} m u h c e =
+    let n : suc (m - 1) ≡ m = omega (arith, h) in
+    get_none s (m - 1) (sym e ∙ walk_nth (m - 1) u c) ∙ ap (slice_get s) n
 
 module _ (p : ℕ → Bool) (n : ℕ) where
   -- the first step of a walk

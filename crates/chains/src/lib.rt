@@ -1,8 +1,10 @@
 // Chains of places: from a place to the next one that passes a test. A walk along a chain is an iterator over its places.
 #![tactic(auto)]
 
-ghost use Rattle.std.specs.Prelude.{◌≡◌, ◌≤◌};
+ghost use Rattle.std.specs.Prelude.{◌≡◌, ◌≤◌, ℕ, Bool, true};
 ghost use Rattle.std.specs.Iterator.{YieldsFirst, item_count};
+ghost use Rattle.loops.specs.Lists.{head, keep, among};
+ghost use Rattle.chains.specs.inner.Along.{Means};
 ghost use Rattle.chains.specs.Places.{places};
 
 mod chain_table;
@@ -83,6 +85,32 @@ impl<C: Chain + Drop> Walk<C> {
     {
         let at = chain.first_place();
         Walk { chain, at, end }
+    }
+
+    // The first of them, if there is one; the walk stays where it is. `next` would look for the place behind it as well.
+    pub fn peek(&self) -> Option<usize>
+        ensures { result ≡ head self.now }
+    {
+        if self.at < self.end {
+            return Some(self.at);
+        }
+        None
+    }
+
+    // The first of them that passes a test, if one does; the walk stays where it is. A loop by hand: `find` and `any` ask for the next place before they test one,
+    // and so look for the one behind that which they give.
+    pub fn find_passing<F: Fn(usize) -> bool>(&self, test: F) -> Option<usize>
+        requires callable { (k : ℕ) → among k self.now ≡ true → F.pre test k }
+        ensures { (q : ℕ → Bool) → Means (λ k. among k self.now) q (F.post test) → result ≡ head (keep q self.now) }
+    {
+        let mut k = self.at;
+        while k < self.end {
+            if test(k) {
+                return Some(k);
+            }
+            k = self.chain.next_place(k);
+        }
+        None
     }
 }
 

@@ -33,5 +33,5 @@ fn first_on(rows: &ByKind, activity: u64, resource: u64) -> Option<usize>
     ensures { result ≡ first_place (booked_on rows.now activity resource) (row_count rows.now) }
 {
     rows.named(Kind::Booking, activity)
-        .find(|&k| rows.has(k, 3, resource))
+        .find_passing(|k| rows.has(k, 3, resource))
 }

@@ -26,7 +26,7 @@ ghost use Rattle.derived_times.specs.inner.Needs.{rest_ms, derived_at, rest_at, 
 pub mod timed_sheet;
 
 use model::Sheet;
-use owners::{LinkIndex, OwnerIndex, Owners};
+use owners::{ByOwner, LinkIndex, OwnerIndex, Owners};
 use pieces::{HeldMarks, MarkedRows};
 use refusals::{Reason, Verdict};
 use resource_timing::{ActivityDuration, Derived, Piece, ResourceTiming, Timed};
@@ -119,34 +119,25 @@ fn rest_ms(d: Derived) -> u64
 
 // ---- the bookings
 
-// The bookings of an accepted sheet, with what their derived times are found by.
-// The timings are found with the value and held in it: it is made once for a sheet, and no caller lends room for them.
+// The bookings of rows by owner, with who is held and their timings: what a derived duration is found by once the row of the activity is known.
 #[derive(Drop)]
-pub struct Bookings<'a> {
-    rows: &'a MarkedRows<'a>,
-    timings: [u16; 800],
+struct TimedBookings<'a> {
+    rows: &'a ByOwner<'a>,
+    held: &'a [bool; 800],
+    timings: &'a [u16; 800],
     ghost accepted: { Accepted rows.now },
-    ghost timed: { Timings rows.now timings },
+    ghost marked: { Held rows.now held.now },
+    ghost timed: { Timings rows.now timings.now },
 }
 
-impl<'a> Bookings<'a> {
-    pub fn new(rows: &'a MarkedRows<'a>) -> Bookings<'a>
-        requires { Accepted rows.now }
-        ensures { result.rows.now ≡ rows.now }
-    {
-        Bookings {
-            rows,
-            timings: timings_of(rows.owners()),
-        }
-    }
-
+impl<'a> TimedBookings<'a> {
     // The row of booking k's timing.
     #[tactic(auto, using(crate::proofs::Parts::timing_kept))]
     fn timing_of(&self, k: usize) -> Option<usize>
         requires { k < row_count self.now.rows.now }
         ensures { result ≡ timing_place self.now.rows.now k }
     {
-        sheet::kept_place(self.rows.as_slice(), &self.timings, k)
+        sheet::kept_place(self.rows.as_slice(), self.timings, k)
     }
 
     // What booking k's piece is judged as, of the activity of row o.
@@ -175,7 +166,8 @@ impl<'a> Bookings<'a> {
         requires { j < row_count self.now.rows.now }
         ensures { result ≡ (in_piece self.now.rows.now k j && not (held_at self.now.rows.now j)) }
     {
-        pieces::in_piece(self.rows.as_slice(), k, j) && !self.rows.is_held(j)
+        let rows = self.rows.as_slice();
+        pieces::in_piece(rows, k, j) && !pieces::is_marked(rows, self.held, j)
     }
 
     // One booking more, where booking k's piece runs on it.
@@ -206,13 +198,63 @@ impl<'a> Bookings<'a> {
 
     // The derived duration of booking k, of the activity of row o.
     #[tactic(auto, using(sheet::proofs::Lookups::place_within, model::proofs::OwnedLaws::booking_owner, crate::proofs::Derivation::duration_found))]
-    pub fn duration_on(&self, o: usize, k: usize) -> Derived
+    fn duration_on(&self, o: usize, k: usize) -> Derived
         requires { (k < row_count self.now.rows.now) × (is self.now.rows.now k 0 23 ≡ true) × (place_of self.now.rows.now 2 (num self.now.rows.now k 1) ≡ Some o) }
         ensures { result ≡ within (derived (sheet self.now.rows.now) (assignment_of self.now.rows.now k) (activity_of self.now.rows.now o)) }
     {
         let piece = self.piece_at(o, k);
         let f = self.timed_of(o, k, piece);
         f.duration(piece, duration_at(self.rows.as_slice(), o, 4))
+    }
+}
+
+// The derived duration of booking k, of the activity of row o: of rows by owner, who is held and the timings, without the table of owners.
+pub fn duration_on(
+    rows: &ByOwner,
+    held: &[bool; 800],
+    timings: &[u16; 800],
+    o: usize,
+    k: usize,
+) -> Derived
+    requires { Accepted rows.now × Held rows.now held.now × Timings rows.now timings.now × (k < row_count rows.now) × (is rows.now k 0 23 ≡ true) × (place_of rows.now 2 (num rows.now k 1) ≡ Some o) }
+    ensures { result ≡ within (derived (sheet rows.now) (assignment_of rows.now k) (activity_of rows.now o)) }
+{
+    let bookings = TimedBookings {
+        rows,
+        held,
+        timings,
+    };
+    bookings.duration_on(o, k)
+}
+
+// The bookings of an accepted sheet, with what their derived times are found by.
+// The timings are found with the value and held in it: it is made once for a sheet, and no caller lends room for them.
+#[derive(Drop)]
+pub struct Bookings<'a> {
+    rows: &'a MarkedRows<'a>,
+    timings: [u16; 800],
+    ghost accepted: { Accepted rows.now },
+    ghost timed: { Timings rows.now timings },
+}
+
+impl<'a> Bookings<'a> {
+    pub fn new(rows: &'a MarkedRows<'a>) -> Bookings<'a>
+        requires { Accepted rows.now }
+        ensures { result.rows.now ≡ rows.now }
+    {
+        Bookings {
+            rows,
+            timings: timings_of(rows.owners()),
+        }
+    }
+
+    // The derived duration of booking k, of the activity of row o.
+    pub fn duration_on(&self, o: usize, k: usize) -> Derived
+        requires { (k < row_count self.now.rows.now) × (is self.now.rows.now k 0 23 ≡ true) × (place_of self.now.rows.now 2 (num self.now.rows.now k 1) ≡ Some o) }
+        ensures { result ≡ within (derived (sheet self.now.rows.now) (assignment_of self.now.rows.now k) (activity_of self.now.rows.now o)) }
+    {
+        let by_owner = self.rows.owners().by_owner();
+        duration_on(&by_owner, self.rows.held(), &self.timings, o, k)
     }
 
     // The same of row k, where it is a booking of a known activity.

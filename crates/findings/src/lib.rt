@@ -88,9 +88,9 @@ fn put(out: &mut [i64], n: usize, f: Violation) -> usize
     line_buffer::put(out, n, &line)
 }
 
-// The finding where the test holds, else nothing.
+// The finding where the test holds, else nothing: of a lent buffer and a count that the caller keeps. `Findings` keeps both.
 #[tactic(auto, using(crate::proofs::SinkLaws::emit_yes, crate::proofs::SinkLaws::emit_no))]
-fn report(out: &mut [i64], n: usize, yes: bool, f: Violation) -> usize
+pub fn report(out: &mut [i64], n: usize, yes: bool, f: Violation) -> usize
     requires { f.entity < 9223372036854775808 }
     ensures { sink out.new result ≡ emit (sink out.old n) (given yes f) }
 {
@@ -113,6 +113,13 @@ impl<'a> Findings<'a> {
         ensures { so_far result ≡ record { name = out.entry.ghost_name; sink = sink out.old 0 } }
     {
         Findings { out, found: 0 }
+    }
+
+    // So many were found before: the next line stands behind theirs.
+    pub fn after(out: &'a mut [i64], found: usize) -> Findings<'a>
+        ensures { so_far result ≡ record { name = out.entry.ghost_name; sink = sink out.old found } }
+    {
+        Findings { out, found }
     }
 
     // One finding more.

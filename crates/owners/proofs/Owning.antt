@@ -20,7 +20,7 @@ use Rattle.chains.proofs.TableWalk.{links_along, sought_all, sought_below}
 use Rattle.rows.specs.Cells.{row_count, num, is}
 use Rattle.sheet.proofs.Lookups.{is_num}
 use Rattle.owners.specs.inner.Owners.{own_place, owned_by, owned_key, Owned}
-use Rattle.owners.proofs.Tables.{owned_below}
+use Rattle.owners.proofs.Tables.{own_below, owned_below}
 
 -- ---- the fill
 
@@ -43,6 +43,13 @@ module _ (rows : List ℤ) (o x : ℕ) where
       let a : num rows k 0 ≡ x = is_num rows k 0 x (and_left (is rows k 0 x) (eqb (own_place rows k) o) e) in
       let b : own_place rows k ≡ o = eqb-true (own_place rows k) o (and_right (is rows k 0 x) (eqb (own_place rows k) o) e) in
       eq-eqb (own_place rows k * 10 + num rows k 0 % 10) key (rw (a, b))
+
+  -- a row that it belongs to is a row, or the number of rows
+  pub owner_low : (k : ℕ) → Stands (owned_by rows o x) (row_count rows) k → k < row_count rows → o ≤ row_count rows
+  unfolding owned_by
+  owner_low k s l =
+      let b : own_place rows k ≡ o = eqb-true (own_place rows k) o (and_right (is rows k 0 x) (eqb (own_place rows k) o) (s.here l)) in
+      omega (arith, own_below rows k)
 
   pub owned_blind : Blind (same (owned_key rows) key) (owned_by rows o x)
   owned_blind = record { still = λ k e. go k e (owned_by rows o x k) refl }

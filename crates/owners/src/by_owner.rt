@@ -1,6 +1,8 @@
 // The rows of a sheet by the rows that they belong to.
-ghost use Rattle.std.specs.Prelude.{◌≡◌, ◌+◌, ◌*◌, ◌%◌, ◌≤◌};
+ghost use Rattle.std.specs.Prelude.{◌≡◌, suc, ◌+◌, ◌*◌, ◌%◌, ◌<◌, ◌≤◌};
+ghost use Rattle.loops.specs.Search.{first_place};
 ghost use Rattle.loops.specs.inner.Chain.{First, Stands, same};
+ghost use Rattle.chains.specs.Places.{places};
 ghost use Rattle.rows.specs.Kinds.{kind_number};
 ghost use Rattle.rows.specs.Cells.{row_count};
 ghost use Rattle.owners.specs.inner.Owners.{owned_by, owned_key, Owned};
@@ -119,22 +121,22 @@ impl<'a> OwnerIndex for ByOwner<'a> {
 }
 
 // The rows of a kind that belong to a row. Beside sheet `NamedChain`, which has the same shape: what a chain shares is the trait `Chain` and its walk, and here
-// the table, its keys and the test are others. One for both would take these three as parameters, with their laws.
+// the table, its keys and the test are others. One for both would take these three as parameters, with their laws. The kind by its number, any number: rows are
+// asked for by one that stands for no kind too (`find_owned` and the two beside it).
 #[derive(Drop)]
 pub struct OwnedChain<'a> {
     rows: ByOwner<'a>,
     owner: usize,
-    kind: Kind,
+    kind: usize,
 }
 
 impl<'a> Model for OwnedChain<'a> {
     ghost use Rattle.std.specs.Prelude.{List, ℤ, ℕ, ◌≤◌};
-    ghost use Rattle.rows.specs.Kinds.{kind_number};
     ghost use Rattle.rows.specs.Cells.{row_count};
 
     ghost Value = { List ℤ × ℕ × ℕ };
 
-    ghost view = { λ s. (s.rows, s.owner, kind_number s.kind) };
+    ghost view = { λ s. (s.rows, s.owner, s.kind) };
 
     ghost invariant = { λ s. s.owner ≤ row_count s.rows };
 }
@@ -143,6 +145,18 @@ impl<'a> OwnedChain<'a> {
     fn new(rows: &'a [i64], table: &'a ChainTable<8810>, owner: usize, kind: Kind) -> OwnedChain<'a>
         requires { Owned rows.now table.now × (owner ≤ row_count rows.now) }
         ensures { result ≡ (rows.now, owner, kind_number kind) }
+    {
+        OwnedChain::numbered(rows, table, owner, kind.number() as usize)
+    }
+
+    fn numbered(
+        rows: &'a [i64],
+        table: &'a ChainTable<8810>,
+        owner: usize,
+        kind: usize,
+    ) -> OwnedChain<'a>
+        requires { Owned rows.now table.now × (owner ≤ row_count rows.now) }
+        ensures { result ≡ (rows.now, owner, kind) }
     {
         OwnedChain {
             rows: ByOwner::new(rows, table),
@@ -160,7 +174,7 @@ impl<'a> OwnedChain<'a> {
         table.find_from(
             j,
             rows::row_count(rows),
-            |i| rows::is_of_kind(rows, i, kind),
+            |i| rows::is_at(rows, i, 0, kind as u64),
         )
     }
 }
@@ -178,11 +192,46 @@ impl<'a> Chain for OwnedChain<'a> {
     }
 
     fn first_place(&self) -> usize {
-        let digit = self.kind.number() as usize % 10;
+        let digit = self.kind % 10;
         self.find_from(self.rows.table.first(self.owner * 10 + digit))
     }
 
     fn next_place(&self, i: usize) -> usize {
         self.find_from(self.rows.table.next(i))
     }
+}
+
+// ---- by the number of a kind, whatever it is: rows that are not of a sheet yet may have any number in column 0
+
+// The rows of kind x that belong to row o.
+pub fn owned_by_number<'a>(rows: &ByOwner<'a>, o: usize, x: usize) -> Walk<OwnedChain<'a>>
+    requires { o ≤ row_count rows.now }
+    ensures { result ≡ places (owned_by rows.now o x) (row_count rows.now) }
+{
+    Walk::new(OwnedChain::numbered(rows.rows, rows.table, o, x))
+}
+
+// The first of them, the number of rows for none.
+pub fn first_owned(rows: &ByOwner, o: usize, x: usize) -> usize
+    requires { o ≤ row_count rows.now }
+    ensures { First (owned_by rows.now o x) 0 (row_count rows.now) result }
+{
+    OwnedChain::numbered(rows.rows, rows.table, o, x).first_place()
+}
+
+// The next one after row i, which is one.
+#[tactic(auto, using(crate::proofs::Owning::owner_low))]
+pub fn next_owned(rows: &ByOwner, o: usize, x: usize, i: usize) -> usize
+    requires { Stands (owned_by rows.now o x) (row_count rows.now) i × (i < row_count rows.now) }
+    ensures { First (owned_by rows.now o x) (suc i) (row_count rows.now) result }
+{
+    OwnedChain::numbered(rows.rows, rows.table, o, x).next_place(i)
+}
+
+// The first, if there is one.
+pub fn find_owned(rows: &ByOwner, o: usize, x: usize) -> Option<usize>
+    requires { o ≤ row_count rows.now }
+    ensures { result ≡ first_place (owned_by rows.now o x) (row_count rows.now) }
+{
+    OwnedChain::numbered(rows.rows, rows.table, o, x).find_first()
 }

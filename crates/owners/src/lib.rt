@@ -12,7 +12,7 @@ mod owner_links;
 mod sheet_index;
 mod sheet_owners;
 
-pub use by_owner::{ByOwner, OwnerIndex};
+pub use by_owner::{ByOwner, OwnerIndex, find_owned, first_owned, next_owned, owned_by_number};
 use chains::ChainTable;
 pub use owner_links::{LinkIndex, OwnerLinks};
 use rows::Kind;
@@ -26,7 +26,12 @@ pub use sheet_owners::Owners;
 fn find_requirement(rows: &ByKind, activity: u64, m: u64) -> Option<usize>
     ensures { result ≡ requirement_place rows.now activity m }
 {
-    rows.named(Kind::Requirement, activity).nth(m as usize)
+    let mut left = rows.named(Kind::Requirement, activity);
+    // Those before it are passed, and no place is looked for behind it: `nth(m)` would look on along a chain that other rows share, for each row that names it.
+    if m > 0 {
+        left.nth(m as usize - 1)?;
+    }
+    left.peek()
 }
 
 // The row of constraint place m at place m: `Numbered`, which the functions below ask of the table, as long as one fill needs it. The table is lent: one that is

@@ -57,10 +57,10 @@ pub fn in_piece(rows: &[i64], k: usize, j: usize) -> bool
 // ---- rows that name two
 
 #[tactic(auto, unfolding(crate::specs::inner::Bookings::names))]
-fn names_at(rows: &[i64], kind: Kind, a: u64, b: u64, i: usize) -> bool
-    ensures { result ≡ names rows.now (kind_number kind) a b i }
+fn names_at(rows: &[i64], x: usize, a: u64, b: u64, i: usize) -> bool
+    ensures { result ≡ names rows.now x a b i }
 {
-    rows::is_of_kind(rows, i, kind) && rows::is_at(rows, i, 1, a) && rows::is_at(rows, i, 2, b)
+    rows::is_at(rows, i, 0, x as u64) && rows::is_at(rows, i, 1, a) && rows::is_at(rows, i, 2, b)
 }
 
 // The first row of a kind that names a and b, among the rows that belong to row o.
@@ -68,8 +68,15 @@ pub fn find_naming(rows: &ByOwner, o: usize, kind: Kind, a: u64, b: u64) -> Opti
     requires { (o ≤ row_count rows.now) × Blind (owned_by rows.now o (kind_number kind)) (names rows.now (kind_number kind) a b) }
     ensures { result ≡ first_place (names rows.now (kind_number kind) a b) (row_count rows.now) }
 {
-    rows.owned_by(o, kind)
-        .find(|k| names_at(rows.as_slice(), kind, a, b, *k))
+    find_naming_by_number(rows, o, kind.number() as usize, a, b)
+}
+
+// The same by the number of the kind, whatever it is.
+pub fn find_naming_by_number(rows: &ByOwner, o: usize, x: usize, a: u64, b: u64) -> Option<usize>
+    requires { (o ≤ row_count rows.now) × Blind (owned_by rows.now o x) (names rows.now x a b) }
+    ensures { result ≡ first_place (names rows.now x a b) (row_count rows.now) }
+{
+    owners::owned_by_number(rows, o, x).find(|k| names_at(rows.as_slice(), x, a, b, *k))
 }
 
 // ---- the first bookings
@@ -87,9 +94,9 @@ fn is_first(rows: &ByKind, k: usize) -> bool
     requires { k < row_count rows.now }
     ensures { result ≡ not (any_below (same_booking rows.now k) k) }
 {
-    !rows
-        .named_above(Kind::Booking, rows.num(k, 1), k)
-        .any(|j| is_same(rows.as_slice(), k, j))
+    rows.named_above(Kind::Booking, rows.num(k, 1), k)
+        .find_passing(|j| is_same(rows.as_slice(), k, j))
+        .is_none()
 }
 
 #[tactic(auto, unfolding(crate::specs::inner::Bookings::first_on))]
@@ -183,7 +190,8 @@ impl<'a> Holders<'a> {
     {
         self.rows
             .named(Kind::Booking, self.rows.num(k, 1))
-            .any(|j| self.first_holds(k, j))
+            .find_passing(|j| self.first_holds(k, j))
+            .is_some()
     }
 
     // Whether row k is a booking that is held.

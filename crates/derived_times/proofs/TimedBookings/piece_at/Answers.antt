@@ -2,7 +2,7 @@ use Rattle.loops.proofs.BranchLaws.{told}
 use Rattle.sheet.proofs.Lookups.{place_low}
 use Rattle.derived_times.proofs.Parts.{piece_unsplit, piece_part}
 use borrow.Author.Rules.{rules}
-use Rattle.derived_times.proofs.Bookings.piece_at.Goals as goal
+use Rattle.derived_times.proofs.TimedBookings.piece_at.Goals as goal
 
 pub find_owned-requires : goal.find_owned-requires
 find_owned-requires c = search (rules, place_low)

@@ -7,7 +7,7 @@ use Rattle.owners.specs.inner.Owners.{owned_by}
 use Rattle.resource_timing.specs.Durations.{TimedSoFar, start}
 use Rattle.resource_timing.specs.inner.Limits.{timed_of}
 use Rattle.derived_times.specs.inner.Rows.{timed_at}
-use Rattle.derived_times.proofs.Bookings.timed_of.Given as goal
+use Rattle.derived_times.proofs.TimedBookings.timed_of.Given as goal
 
 abbrev pub invariant-loop-j : goal.invariant-loop-j
 invariant-loop-j l =

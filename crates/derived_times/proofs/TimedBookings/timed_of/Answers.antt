@@ -5,11 +5,11 @@ use Rattle.resource_timing.specs.inner.Limits.{timed_of}
 use Rattle.derived_times.specs.inner.Rows.{timed_at}
 use Rattle.derived_times.proofs.Derivation.{timed_places}
 use borrow.Author.Rules.{rules}
-use Rattle.derived_times.proofs.Bookings.timed_of.Goals as goal
+use Rattle.derived_times.proofs.TimedBookings.timed_of.Goals as goal
 
 pub loop-j-init : goal.loop-j-init
 loop-j-init c =
-    let e = c.into_iter-j-iterator.ensures.into_iter_gives ∙ rw c.deref.ensures at c.owned_by-j-items.ensures.places in
+    let e = c.into_iter-j-iterator.ensures.into_iter_gives ∙ c.owned_by-j-items.ensures.places in
     rw e (left_all _ _, (start, c.new-f.ensures, search (rules, timed_places)))
 
 pub loop-j-preserved : goal.loop-j-preserved
