@@ -1,7 +1,7 @@
 -- Tests that code makes one after another, and the test or the answer that the definition puts together of them. Assumes nothing.
 use Prim.Native.Nat.{ℕ, ◌<◌, ◌≤◌}
 use mathlib.Core.Path.{◌≡◌, sym, ◌∙◌}
-use mathlib.Core.Bool.{Bool, true, false, ◌&&◌, ◌||◌, and-false, and-true}
+use mathlib.Core.Bool.{Bool, true, false, cond, ◌&&◌, ◌||◌, and-false, and-true}
 use Rattle.std.specs.Prelude.{Option, Some}
 use lib.Dec.{leb}
 use borrow.Author.Tests.{le-leb, lt-leb}
@@ -14,6 +14,11 @@ matched e f = sym e ∙ f
 
 pub told : {r b v : Bool} → r ≡ b → r ≡ v → b ≡ v
 told = matched
+
+-- ---- of a choice
+
+pub chosen : {A : Type 0} {r : A} (b : Bool) (x y : A) → b ≡ true → r ≡ x → r ≡ cond b x y
+chosen b x y t e = rw t e
 
 -- ---- of the two halves
 
