@@ -75,11 +75,11 @@ works_is w t i l e h = rw (e, take_all i w l) at h
 -- ---- an instant, by what the windows say of it one after the other
 
 -- before the first window
-abbrev none_yet : Standing
+abbrev pub none_yet : Standing
 none_yet = record { listed = false; held = false; hit = false }
 
 -- one window more
-abbrev with_window : ℕ → Standing → TimeWindow → Standing
+abbrev pub with_window : ℕ → Standing → TimeWindow → Standing
 with_window t s x =
     record {
       listed = s.listed || opens x.kind;
@@ -88,7 +88,7 @@ with_window t s x =
     }
 
 -- whether work may run then
-abbrev allows : Standing → Bool
+abbrev pub allows : Standing → Bool
 allows s = (not s.listed || s.held) && not s.hit
 
 -- what was said before, or is said by one of these
