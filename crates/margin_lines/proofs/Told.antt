@@ -69,7 +69,7 @@ module _ (rows : List ℤ) where
           rw (task_row rows k h, sym m ∙ ap meant q, ← i, sym n ∙ ap meant r, ← (rw (deadline_signed rows (accepted rows acc) k h m q) at x))
           (u ∙ ap (λ x. tell t (x ∷ [])) (rw (to_z-of_z g) at w))
 
-  task_silent : Silent (of_kind rows 1) task_told
+  pub task_silent : Silent (of_kind rows 1) task_told
   unfolding each of_kind
   task_silent = record { still = λ k h. rw (task_none rows k h) }
 
