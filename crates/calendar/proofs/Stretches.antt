@@ -110,7 +110,7 @@ looked t (x ∷ l) b =
 -- ---- several calendars
 
 -- joint working time of lists of windows
-abbrev all_work : List (List TimeWindow) → ℕ → Bool
+abbrev pub all_work : List (List TimeWindow) → ℕ → Bool
 all_work ls t = joint_working clock (map (map window_of) ls) (pos t)
 
 abbrev ClearAll : ℕ → ℕ → List (List TimeWindow) → Type 0

@@ -1,8 +1,8 @@
--- One window more, and the windows at some places. Assumes nothing.
+-- One window more, the windows at some places, and what all windows say of an instant. Assumes nothing.
 use Prim.Native.Nat.{ℕ, ◌+◌, ◌-◌, ◌<◌, ◌≤◌, min}
 use mathlib.Core.Path.{◌≡◌, sym, ap, ◌∙◌}
-use mathlib.Core.Bool.{Bool, not, ◌&&◌, ◌||◌, or-false}
-use mathlib.Core.List.{List, [], ◌∷◌, ◌++◌, map, foldl-append}
+use mathlib.Core.Bool.{Bool, false, not, ◌&&◌, ◌||◌, or-false, or_assoc}
+use mathlib.Core.List.{List, [], ◌∷◌, ◌++◌, map, foldl, foldl-append}
 use native.Mathlib.Omega.{arith}
 use lib.IntN.{ℤ, pos}
 use lib.ListN.{length, get_or, take, drop}
@@ -42,9 +42,10 @@ module _ (l : Calendar ℤ) (a e : ℕ) {f : Fit} (q : f ≡ fit_of l a e) where
       let m = standing_more (covers clock (pos a) (pos e)) (hits clock (pos a) (pos e)) l (window_of x) t (rw q at g) (rw q at h) k in
       rw (m, q)
 
-  pub fit_is : {b : Bool} → b ≡ ((not f.standing.listed || f.standing.held) && not f.standing.hit) → b ≡ interval_fits clock l (pos a) (pos e)
+  -- what it holds decides whether [a, e) fits the calendar whole
+  pub fits_whole : {b : Bool} → b ≡ ((not f.standing.listed || f.standing.held) && not f.standing.hit) → b ≡ interval_fits clock l (pos a) (pos e)
   unfolding fit_of standing_of interval_fits
-  fit_is h = rw q at h
+  fits_whole h = rw q at h
 
 -- the windows at some places, as a slice
 pub slice_is : (w : List TimeWindow) (from to : ℕ) {m n : ℕ} → n ≡ min to (length w) → m ≡ min from n → take (n - m) (drop m w) ≡ windows_of w from to
@@ -70,3 +71,47 @@ pub works_is : (w : List TimeWindow) (t i : ℕ) {s : Standing} {b : Bool} → l
     → b ≡ ((not s.listed || s.held) && not s.hit) → b ≡ is_working_time clock (map window_of w) (pos t)
 unfolding standing_of is_working_time
 works_is w t i l e h = rw (e, take_all i w l) at h
+
+-- ---- an instant, by what the windows say of it one after the other
+
+-- before the first window
+abbrev pub none_yet : Standing
+none_yet = record { listed = false; held = false; hit = false }
+
+-- one window more
+abbrev pub with_window : ℕ → Standing → TimeWindow → Standing
+with_window t s x =
+    record {
+      listed = s.listed || opens x.kind;
+      held = s.held || (opens x.kind && contains clock (pos t) (window_of x));
+      hit = s.hit || (closes x.kind && contains clock (pos t) (window_of x));
+    }
+
+-- whether work may run then
+abbrev pub allows : Standing → Bool
+allows s = (not s.listed || s.held) && not s.hit
+
+-- what was said before, or is said by one of these
+abbrev or_said : ℕ → Standing → List TimeWindow → Standing
+or_said t s l =
+    record {
+      listed = s.listed || any_of is_open (map window_of l);
+      held = s.held || any_of (λ x. is_open x && contains clock (pos t) x) (map window_of l);
+      hit = s.hit || any_of (λ x. is_closed x && contains clock (pos t) x) (map window_of l);
+    }
+
+or_said_is : (t : ℕ) (l : List TimeWindow) (s : Standing) → foldl (with_window t) s l ≡ or_said t s l
+unfolding any_of
+or_said_is t [] s = rw (or-false s.listed, or-false s.held, or-false s.hit)
+or_said_is t (x ∷ l) s =
+    or_said_is t l (with_window t s x)
+    ∙ rw (
+      or_assoc s.listed (opens x.kind) (any_of is_open (map window_of l)),
+      or_assoc s.held (opens x.kind && contains clock (pos t) (window_of x)) (any_of (λ y. is_open y && contains clock (pos t) y) (map window_of l)),
+      or_assoc s.hit (closes x.kind && contains clock (pos t) (window_of x)) (any_of (λ y. is_closed y && contains clock (pos t) y) (map window_of l)),
+    )
+
+-- what all of them say decides whether it is working time
+pub works_most : (l : List TimeWindow) (t : ℕ) → allows (foldl (with_window t) none_yet l) ≡ is_working_time clock (map window_of l) (pos t)
+unfolding is_working_time
+works_most l t = ap allows (or_said_is t l none_yet)

@@ -188,7 +188,7 @@ impl Fit {
     }
 
     // Whether [start, end) fits the calendar whole.
-    #[tactic(auto, using(crate::proofs::Windows::fit_is))]
+    #[tactic(auto, using(crate::proofs::Windows::fits_whole))]
     pub fn fits(self) -> bool
         ensures { (l : Calendar ℤ) (a e : ℕ) → self ≡ fit_of l a e → result ≡ interval_fits clock l (pos a) (pos e) }
     {

@@ -25,7 +25,7 @@ use Rattle.model.proofs.Requiring.{requirement_row, requirement_none, candidates
 -- ---- candidates
 
 module _ (rows : List ℤ) (q : ℕ) (l : q < row_count rows) (h : is rows q 0 5 ≡ true) where
-  listed_are : (id : ℕ) → any_below (λ k. owned_by rows q 6 k && is rows k 3 id) (row_count rows) ≡ among id (candidates (sheet rows) (requirement_of rows q))
+  pub listed_are : (id : ℕ) → any_below (λ k. owned_by rows q 6 k && is rows k 3 id) (row_count rows) ≡ among id (candidates (sheet rows) (requirement_of rows q))
   unfolding is
   listed_are id = sym (ap (among id) (candidates_are rows q l h) ∙ among_given (owned_by rows q 6) (λ k. num rows k 3) id (row_count rows))
 
@@ -48,7 +48,7 @@ module _ (rows : List ℤ) (q : ℕ) (l : q < row_count rows) (h : is rows q 0 5
 
 module _ (rows : List ℤ) (k : ℕ) where
   -- row q takes the resource, if it is a requirement
-  abbrev takes : ℕ → Bool
+  abbrev pub takes : ℕ → Bool
   takes q = is_candidate (sheet rows) (requirement_of rows q) (resource_of rows k)
 
   -- what the first of the requirements uses that takes it
@@ -68,7 +68,7 @@ module _ (rows : List ℤ) (k : ℕ) where
 
 module _ (rows : List ℤ) (a k : ℕ) where
   -- it is one of the activity that takes the resource
-  abbrev mine : ℕ → Bool
+  abbrev pub mine : ℕ → Bool
   mine q = owned_by rows a 5 q && takes rows k q
 
   requirement_at_lem : place_of rows 2 (num rows a 1) ≡ Some a → (q : ℕ)

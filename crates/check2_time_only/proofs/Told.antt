@@ -170,7 +170,7 @@ module _ (rows : List ℤ) (k : ℕ) where
     unfolding check_span
     here_told v = rw (span_at_lem h, known_is rows k, e, rw same_id at v)
 
-span_silent : (rows : List ℤ) → Silent (of_kind rows 24) (check_span_at clock (sheet rows))
+pub span_silent : (rows : List ℤ) → Silent (of_kind rows 24) (check_span_at clock (sheet rows))
 unfolding check_span_at each of_kind
 span_silent rows = record { still = λ k h. rw (span_none rows k h) }
 

@@ -3,7 +3,7 @@ use Prim.Native.Nat.{ℕ, zero, suc, ◌+◌, ◌-◌, ◌<◌, ◌≤◌}
 use mathlib.Core.Path.{◌≡◌, refl, ap, ap₂, subst, sym, ◌∙◌}
 use mathlib.Core.Bool.{Bool, true, false, cond}
 use mathlib.Core.List.{List, [], ◌∷◌, ◌++◌, append-nil, foldl}
-use Rattle.std.specs.Prelude.{None, Some}
+use Rattle.std.specs.Prelude.{Option, None, Some}
 use native.Mathlib.Omega.{arith}
 use lib.Dec.{ltb}
 use lib.IntN.{ℤ}
@@ -28,12 +28,22 @@ use Rattle.model.specs.Schedule.{Part, duration_too_short}
 use Rattle.model.proofs.Accepting.{accepted, at_most}
 use Rattle.model.proofs.OwnedLaws.{owned_kind}
 use Rattle.definition.specs.CheckParts.{parts_of, work_of}
-use Rattle.check3_parts.specs.inner.Booked.{has_part, part_of, parts_below, parts_in, repeated, short_parts}
+use Rattle.check3_parts.specs.inner.Booked.{has_part, part_of, part_at, parts_below, parts_in, repeated, short_parts}
 use Rattle.check3_parts.specs.inner.Measure.{IsMeasure, Summed, measured, short_of}
 use Rattle.check3_parts.proofs.Works.{parts_more, work_is, part_on, part_whole, parts_next, parts_first}
 
-total_more : (m : ℕ → ℕ) (l : List Part) (p : Part) → measured m (parts_of (l ++ p ∷ [])) + option (work_of l p.index) 0 m ≡ measured m (parts_of l) + m p.work
-total_more m l p = rw (parts_more l p, work_is l p.index) (total_upsert lt_z integer_order (λ _ w. m w) p.index p.work (λ w. p.work) (parts_of l))
+-- a part more, of any sum
+pub total_more : (g : ℤ → ℕ → ℕ) (l : List Part) (p : Part)
+    → total (λ e. g e.key e.value) (parts_of (l ++ p ∷ [])) + option (work_of l p.index) 0 (g p.index) ≡ total (λ e. g e.key e.value) (parts_of l) + g p.index p.work
+total_more g l p = rw (parts_more l p, work_is l p.index) (total_upsert lt_z integer_order g p.index p.work (λ w. p.work) (parts_of l))
+
+-- what it comes to with booking k
+pub total_added : (g : ℤ → ℕ → ℕ) (rows : List ℤ) (o k : ℕ) → owned_by rows o 23 k ≡ true → {before : Option ℕ} {sum w : ℕ} → has_part rows k ≡ true
+    → sum ≡ total (λ e. g e.key e.value) (parts_of (parts_below rows o k)) → w ≡ num rows k 8 → before ≡ work_of (parts_below rows o k) (cell rows k 7)
+    → total (λ e. g e.key e.value) (parts_of (parts_below rows o (k + 1))) + option before 0 (g (cell rows k 7)) ≡ sum + g (cell rows k 7) w
+unfolding parts_below
+total_added g rows o k a h s e r =
+    rw (collect_step (part_at rows o) k, part_on rows o k a h, r, s, e) (total_more g (parts_below rows o k) (part_of rows k))
 
 module _ (post : ℕ → ℕ → Type 0) (rows : List ℤ) (o : ℕ) where
   pub summed_start : {n i : ℕ} → First (owned_by rows o 23) 0 n i → Summed post rows o i 0
@@ -64,7 +74,7 @@ module _ (post : ℕ → ℕ → Type 0) (rows : List ℤ) (o : ℕ) where
     added : (m : ℕ → ℕ) {n j : ℕ} → IsMeasure post m → First (owned_by rows o 23) (suc k) n j → measured m (parts_of (parts_below rows o j)) + option (work_of (parts_below rows o k) (cell rows k 7)) 0 m ≡ sum + v
     added m {n} {j} b f =
         rw (parts_next rows o f, part_on rows o k a h, s.whole m b, b.gives w v p, z)
-        (total_more m (parts_below rows o k) (part_of rows k))
+        (total_more (λ _. m) (parts_below rows o k) (part_of rows k))
 
     -- the first of its index
     pub summed_new : {n j : ℕ} → None ≡ work_of (parts_below rows o k) (cell rows k 7) → First (owned_by rows o 23) (suc k) n j → Summed post rows o j (sum + v)

@@ -47,13 +47,13 @@ pub work_is : (l : List Part) (i : ℤ) → work_of l i ≡ lookup lt_z i (parts
 unfolding work_of parts_of
 work_is l i = scan_is lt_z integer_order i (parts_of l) (sorted_from l [] (unfold sorted in refl))
 
-work_more : (l : List Part) (p : Part) (i : ℤ) → work_of (l ++ p ∷ []) i ≡ cond (alike lt_z i p.index) (Some p.work) (work_of l i)
+pub work_more : (l : List Part) (p : Part) (i : ℤ) → work_of (l ++ p ∷ []) i ≡ cond (alike lt_z i p.index) (Some p.work) (work_of l i)
 work_more l p i = rw (work_is (l ++ p ∷ []) i, parts_more l p, work_is l i) (lookup_upsert lt_z integer_order p.index p.work (λ w. p.work) i (parts_of l))
 
 -- ---- the bookings of the activity
 
 module _ (rows : List ℤ) (o : ℕ) where
-  part_silent : Silent (owned_by rows o 23) (part_at rows o)
+  pub part_silent : Silent (owned_by rows o 23) (part_at rows o)
   unfolding part_at only
   part_silent = record { still = λ k h. rw h }
 
@@ -89,7 +89,7 @@ module _ (rows : List ℤ) (o : ℕ) where
     -- the bookings above booking k
     module _ (k : ℕ) (b : owned_by rows o 23 k ≡ true) (q : has_part rows k ≡ true) where
       -- after booking i
-      work_turn : (i : ℕ) → owned_by rows o 23 i ≡ true
+      pub work_turn : (i : ℕ) → owned_by rows o 23 i ≡ true
           → work_of (parts_below rows o i ++ part_at rows o i) (cell rows k 7)
           ≡ cond (has_part rows i && eqb (key_at rows i) (key_at rows k)) (Some (num rows i 8)) (work_of (parts_below rows o i) (cell rows k 7))
       work_turn i a = go (has_part rows i) refl
@@ -145,11 +145,11 @@ module _ (rows : List ℤ) (o : ℕ) where
   abbrev pub works_at : ℕ → List Violation
   works_at k = two_works (num rows o 1) (parts_below rows o k) (part_at rows o k)
 
-  works_silent : Silent (owned_by rows o 23) works_at
+  pub works_silent : Silent (owned_by rows o 23) works_at
   unfolding two_works
   works_silent = record { still = λ k h. rw ((part_silent rows o).still k h) }
 
-  works_are : (n : ℕ) → collect works_at n ≡ two_works (num rows o 1) [] (parts_below rows o n)
+  pub works_are : (n : ℕ) → collect works_at n ≡ two_works (num rows o 1) [] (parts_below rows o n)
   unfolding collect parts_below
   works_are zero = unfold two_works in refl
   works_are (suc n) = ap (λ x. x ++ works_at n) (works_are n) ∙ sym (two_append (num rows o 1) [] (parts_below rows o n) (part_at rows o n))

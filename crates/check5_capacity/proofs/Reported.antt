@@ -14,6 +14,7 @@ use Rattle.lent_room.specs.declared.lent_list.LentList.{LentList}
 use Rattle.calendar.specs.Clock.{clock}
 use Rattle.rows.specs.Cells.{row_count, num}
 use Rattle.findings.specs.declared.Violation.{Violation}
+use Rattle.findings.specs.inner.Sink.{Sink, emit}
 use Rattle.findings.specs.inner.Told.{Told, tell, telling}
 use Rattle.findings.proofs.Reporting.{tell_places}
 use Rattle.model.specs.Sheet.{sheet}
@@ -30,6 +31,11 @@ module _ (rows : List ℤ) (x : ℕ) where
       → lent b ≡ bookings_on (sheet rows) x → p ≡ peak_of lt_z (lent b) → given o (capacity_exceeded 5 x) ≡ check_resource clock (sheet rows) x
   unfolding check_resource
   resource_told b f e c g p = rw (← c, ← peak_is rows x b g p) (rw (to_z-of_z f) at (ap (λ o. given o (capacity_exceeded 5 x)) e))
+
+  -- the same, written to a lent buffer
+  pub resource_told_lem : (s : Sink) {s' : Sink} (b : LentList Booking 800) {o : Bool} {c : ℤ} {p : ℕ} → SFits w64 c → o ≡ lt_z (to_z w64 (of_z w64 c)) (pos p) → c ≡ cap_of (sheet rows) x
+      → lent b ≡ bookings_on (sheet rows) x → p ≡ peak_of lt_z (lent b) → s' ≡ emit s (given o (capacity_exceeded 5 x)) → s' ≡ emit s (check_resource clock (sheet rows) x)
+  resource_told_lem s b f e c g p q = q ∙ ap (emit s) (resource_told b f e c g p)
 
 -- ---- row by row
 

@@ -54,7 +54,7 @@ pub absent_told : (rows : List ℤ) (k : ℕ) (t : Told) {f : Found} → is rows
 unfolding judged
 absent_told rows k t h p z = sym (ap (tell t) (booking_judged rows k h ∙ ap (λ r. judged rows k r (place_of rows 2 (num rows k 1))) (sym p ∙ ap found_of z)) ∙ tell_none t)
 
-booking_silent : (rows : List ℤ) → Silent (of_kind rows 23) (by_booking rows)
+pub booking_silent : (rows : List ℤ) → Silent (of_kind rows 23) (by_booking rows)
 unfolding each of_kind
 booking_silent rows = record { still = λ k h. rw (assignment_none rows k h) }
 

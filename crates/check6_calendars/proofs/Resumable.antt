@@ -1,15 +1,16 @@
 -- The findings of a booking that may pause. Assumes nothing.
 use Prim.Native.Nat.{ℕ, suc, ◌+◌, ◌<◌, ◌≤◌}
 use mathlib.Core.Path.{◌≡◌, refl, ap, ap₂, sym, ◌∙◌}
-use mathlib.Core.Bool.{Bool, true, false, not, ◌||◌}
+use mathlib.Core.Bool.{Bool, true, false, not, ◌&&◌, ◌||◌}
 use mathlib.Core.List.{List}
-use Rattle.std.specs.Prelude.{None, Some}
+use Rattle.std.specs.Prelude.{Option, None, Some}
 use native.Mathlib.Omega.{arith}
 use native.Mathlib.Numerals.{add-one}
 use native.Mathlib.Decide.{ℕ_discrete}
 use lib.Dec.{ltb}
 use lib.IntN.{ℤ, pos}
 use lib.ListN.{get_or, set, replicate}
+use Rattle.loops.specs.Lists.{option}
 use Rattle.loops.specs.inner.Chain.{First}
 use Rattle.loops.proofs.Walks.{over}
 use Rattle.calendar.specs.Clock.{clock}
@@ -30,7 +31,7 @@ use Rattle.check6_joint_calendars.specs.inner.Laid.{laid_calendars}
 use Rattle.check6_joint_calendars.proofs.Whole.{joint_laid}
 use Rattle.check6_joint_calendars.proofs.Joint.{available_same}
 use Rattle.pieces.proofs.Marks.{Marking, marking_start, marking_turn}
-use Rattle.check6_calendars.specs.inner.Lacking.{lacks_time}
+use Rattle.check6_calendars.specs.inner.Lacking.{uncovered_at, lacks_time}
 
 -- ---- whether working time covers work
 
@@ -54,6 +55,12 @@ laid_covered rows k a {cs = cs} c ok l h p q m u = same_covered cs _ (λ t. join
 -- ---- the finding
 
 module _ (rows : List ℤ) (k : ℕ) where
+  -- the test at a booking, by what the lookups of its resource and of its activity find
+  lacks_by : is rows k 0 23 ≡ true → {r a : Option ℕ} → r ≡ place_of rows 11 (num rows k 3) → a ≡ place_of rows 2 (num rows k 1)
+      → lacks_time rows k ≡ option r false (λ _. option a false (λ i. is rows i 7 1 && uncovered_at rows i k))
+  unfolding lacks_time
+  lacks_by h p q = rw (h, p, q)
+
   pub needed_is : (need : List ℕ) → Needs rows need → (a : ℕ) → k < row_count rows → is rows k 0 23 ≡ true → Some a ≡ place_of rows 2 (num rows k 1)
       → needed_ms (sheet rows) (activity_of rows a) (assignment_of rows k) (runs_on (sheet rows) (assignment_of rows k)) ≡ num rows k 6 + get_or need k 0
   needed_is need nd a l h q = sym (rest_needed rows nd k l a h (sym q))

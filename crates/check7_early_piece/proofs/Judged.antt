@@ -176,7 +176,7 @@ module _ (rows : List ℤ) (acc : Accepted rows) (o : ℕ) (l : o < row_count ro
 
     -- ---- the pieces of an activity that is booked, and of one that is not
 
-    booked_is : (k : ℕ) {b : Bool} → k < row_count rows → owned_by rows o 23 k ≡ true → b ≡ any_below judged (row_count rows) → b ≡ any_of too_early (pieces_of clock (sheet rows) (num rows o 1))
+    pub booked_is : (k : ℕ) {b : Bool} → k < row_count rows → owned_by rows o 23 k ≡ true → b ≡ any_below judged (row_count rows) → b ≡ any_of too_early (pieces_of clock (sheet rows) (num rows o 1))
     unfolding pieces_of
     booked_is k c e f = f ∙ judged_is ∙ ap (any_of too_early) (go (by_part clock (sheet rows) (num rows o 1)) refl)
       where
@@ -194,7 +194,7 @@ module _ (rows : List ℤ) (acc : Accepted rows) (o : ℕ) (l : o < row_count ro
     none_mapped zero e = refl
     none_mapped (suc n) e = rw (e n (omega arith)) (none_mapped n (λ k c. e k (omega arith)))
 
-    timed_is : {b : Bool} → ((k : ℕ) → k < row_count rows → owned_by rows o 23 k ≡ false)
+    pub timed_is : {b : Bool} → ((k : ℕ) → k < row_count rows → owned_by rows o 23 k ≡ false)
         → b ≡ option (activity_span clock (sheet rows) (num rows o 1)) false (λ y. clock.before y.start (pos from)) → b ≡ any_of too_early (pieces_of clock (sheet rows) (num rows o 1))
     unfolding pieces_of
     timed_is e f = f ∙ go (activity_span clock (sheet rows) (num rows o 1)) ∙ ap (λ m. any_of too_early (or_time_only clock (sheet rows) (num rows o 1) (values m))) (sym (pieces_are ∙ none_mapped (row_count rows) e))

@@ -130,7 +130,7 @@ module _ (rows : List ℤ) where
   abbrev pub constraints_of : List Violation
   constraints_of = each (check_precedence_constraint clock (sheet rows)) (constraints (sheet rows))
 
-  constraint_silent : Silent (of_kind rows 17) constraint_told
+  pub constraint_silent : Silent (of_kind rows 17) constraint_told
   unfolding of_kind each
   constraint_silent = record {
     still = λ k h.

@@ -1,11 +1,12 @@
 -- The longest of moves, booking by booking. Assumes nothing.
-use Prim.Native.Nat.{ℕ, ◌<◌, max}
+use Prim.Native.Nat.{ℕ, zero, suc, ◌<◌, max}
 use mathlib.Core.Path.{◌≡◌, refl, sym, ap, ◌∙◌}
 use mathlib.Core.Bool.{Bool, true, false, cond}
 use mathlib.Core.List.{List, [], ◌∷◌, ◌++◌, map, foldl, foldl-append}
 use native.Mathlib.Omega.{arith}
 use lib.IntN.{ℤ}
 use Rattle.loops.specs.Lists.{given, each}
+use Rattle.loops.specs.Range.{fold, collect}
 use Rattle.loops.specs.inner.Chain.{only}
 use Rattle.loops.proofs.ListLaws.{map_collect, map_append}
 use Rattle.loops.proofs.RangeLaws.{collect_ext}
@@ -52,6 +53,12 @@ module _ {T : Type 0} (s : Sheet T) where
   between_none [] = refl
   between_none (a ∷ l) = between_none l
 
+  -- of lists put together
+  pub between_collect : (l : List ℕ) (g : ℕ → List ℕ) (n : ℕ) → transport_between s l (collect g n) ≡ fold (λ t k. max t (transport_between s l (g k))) 0 n
+  unfolding collect fold
+  between_collect l g zero = between_none l
+  between_collect l g (suc n) = between_both l (collect g n) (g n) ∙ ap (λ z. max z (transport_between s l (g n))) (between_collect l g n)
+
   -- a resource more that work is moved to
   between_more : (m : List ℕ) (r : ℕ → ℕ) (l : List ℕ) (t : ℕ)
       → max t (transport_between s m (map r l)) ≡ foldl (λ t k. max t (transport_between s m (r k ∷ []))) t l
@@ -76,7 +83,7 @@ to_step rows m t k = max t (transport_between (sheet rows) m (num rows k 3 ∷ [
 
 module _ (rows : List ℤ) (acc : Accepted rows) (o : ℕ) (l : o < row_count rows) (h : is rows o 0 2 ≡ true) where
   -- what an activity runs on, booking by booking
-  runs_on_lem : runs_on_all clock (sheet rows) (num rows o 1) ≡ map (λ k. num rows k 3) (places (owned_by rows o 23) (row_count rows))
+  pub runs_on_lem : runs_on_all clock (sheet rows) (num rows o 1) ≡ map (λ k. num rows k 3) (places (owned_by rows o 23) (row_count rows))
   unfolding runs_on_all only places
   runs_on_lem =
       ap resources_of (bookings_of rows o (activity_at_lem rows acc o l h))

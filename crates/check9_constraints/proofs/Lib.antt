@@ -1,4 +1,5 @@
 pub mod ConstraintRows
 pub mod Members
 pub mod Pairs
+pub mod PairsByRow
 pub mod Together

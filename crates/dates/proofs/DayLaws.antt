@@ -73,7 +73,7 @@ years_closed y = less _ _ _ (years_sum y)
     less a b c h = omega arith
 
 -- no month but 1 to 12 has days
-abbrev common : List ℕ
+abbrev pub common : List ℕ
 common = 0 ∷ 31 ∷ 28 ∷ 31 ∷ 30 ∷ 31 ∷ 30 ∷ 31 ∷ 31 ∷ 30 ∷ 31 ∷ 30 ∷ 31 ∷ []
 
 pub no_month : (y m : ℕ) → (0 < m → 12 < m) → 0 ≡ month_days y m

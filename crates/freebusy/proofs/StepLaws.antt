@@ -36,23 +36,27 @@ use Rattle.freebusy.proofs.ShortLaws.{short_periods}
 
 -- ---- a period
 
-verdict_and : (a v : Result Unit Refusal) → verdict_of (result_and a v) ≡ or_else (verdict_of a) (verdict_of v)
-verdict_and (Ok _) v = refl
-verdict_and (Err x) v = refl
+-- the refusal of the first that has one
+pub verdict_and : (a v : Result Unit Refusal) {r : Result Unit Refusal} → r ≡ result_and a v → verdict_of r ≡ or_else (verdict_of a) (verdict_of v)
+verdict_and a v e = ap verdict_of e ∙ go a
+  where
+    go : (a : Result Unit Refusal) → verdict_of (result_and a v) ≡ or_else (verdict_of a) (verdict_of v)
+    go (Ok _) = refl
+    go (Err x) = refl
 
 -- one period more
 pub period_read : (room : ℕ) (resource : ℤ) (p : ℕ) (free : Bool) (s : List ℕ) {rows rows' : List ℤ} (from : Reading) {to : Reading} {w : Result Span Reason} (v : Result Unit Refusal) → w ≡ window_of s
     → verdict_of v ≡ or_else (window_refusal p w) (refuse (not free && not (ltb from.count room)) Overfull p)
-    → to.refused ≡ result_and from.refused v
+    → verdict_of to.refused ≡ or_else (verdict_of from.refused) (verdict_of v)
     → sink rows' to.count ≡ put_closures resource (sink rows from.count) (cond free [] (window_closures w))
     → ReadOn room resource rows from (busy p free s ∷ []) rows' to
 unfolding period_refusal closures_of
-period_read room resource p free s from v e j r n = read_one room resource from (busy p free s) (ap verdict_of r ∙ verdict_and from.refused v ∙ (rw (j, e))) (rw e at n)
+period_read room resource p free s from v e j r n = read_one room resource from (busy p free s) (r ∙ (rw (j, e))) (rw e at n)
 
 -- ---- the rows of a window
 
 -- the row as the machine reads its numbers back
-closure_put : (resource : ℤ) {start end : ℕ} (k : Sink) {k' : Sink}
+pub closure_put : (resource : ℤ) {start end : ℕ} (k : Sink) {k' : Sink}
     → k' ≡ put_line 10 k (pos 15 ∷ resource ∷ pos 1 ∷ to_z w64 start ∷ to_z w64 end ∷ pos 0 ∷ pos 0 ∷ pos 0 ∷ pos 0 ∷ pos 0 ∷ [])
     → start ≤ 4_000_000_000_000 → end ≤ 4_000_000_000_000 → k' ≡ put_closures resource k (closure start end ∷ [])
 closure_put resource {start} {end} k e b d =

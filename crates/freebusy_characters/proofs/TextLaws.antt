@@ -39,7 +39,8 @@ module _ (t : ℕ → Bool) where
   text_off [] h q e = absurd (omega arith)
   text_off (x ∷ l) h q e = rw (q, e)
 
-  text_on : (x : ℕ) (l : List ℕ) (n : ℕ) → 0 < n → first_of t (x ∷ l) ≡ Some n → characters t (drop n (x ∷ l)) ≡ characters t (x ∷ l)
+  -- past one character
+  pub text_on : (x : ℕ) (l : List ℕ) (n : ℕ) → 0 < n → first_of t (x ∷ l) ≡ Some n → characters t (drop n (x ∷ l)) ≡ characters t (x ∷ l)
   unfolding characters_from
   text_on x l zero k e = absurd (omega arith)
   text_on x l (suc m) k e = let z : suc m - 1 ≡ m = omega arith in rw (e, z) (sym (skipped t m l))

@@ -72,7 +72,7 @@ sent_more (x ∷ y ∷ s) h = go (end_first (x ∷ y ∷ s)) h (sent_more (y ∷
     go false e r = let d : suc (length (first_sent (y ∷ s))) + 2 ≡ suc (length (first_sent (y ∷ s)) + 2) = omega arith in rw (r (omega arith), d)
 
 -- one law for the line that has its CRLF and for the one that has none
-sent_on : (s : List ℕ) → 0 < length s
+pub sent_on : (s : List ℕ) → 0 < length s
     → sent_lines s ≡ line (first_sent s) (ltb (length (first_sent s)) (length s)) ∷ sent_lines (drop (length (first_sent s) + 2) s)
 unfolding sent_lines
 sent_on s h = go (ltb (length (first_sent s)) (length s)) refl

@@ -139,11 +139,11 @@ module _ (s : List ℕ) {f : List ℕ} (e : f ≡ until_byte SLASH s) where
     some_behind y = rw y at (value_after SLASH s f g e m)
 
     module _ {r : Bool} (p : r ≡ date_time f) (t : r ≡ true) where
-      period_alone : {o : Bool} → g ≡ None → o ≡ false → o ≡ period s
+      pub period_alone : {o : Bool} → g ≡ None → o ≡ false → o ≡ period s
       unfolding period period_explicit period_start
       period_alone y z = rw (dated p ∙ t, none_behind y) z
 
-      period_ends : {v : Bor (List ℕ)} {o : Bool} → g ≡ Some v → o ≡ ends_period v.now → o ≡ period s
+      pub period_ends : {v : Bor (List ℕ)} {o : Bool} → g ≡ Some v → o ≡ ends_period v.now → o ≡ period s
       unfolding period period_explicit period_start ends_period
       period_ends y q = rw (dated p ∙ t, some_behind y) q
 

@@ -18,11 +18,15 @@ use Rattle.loops.proofs.RangeLaws.{collect_ext}
 use Rattle.chains.specs.Places.{places}
 use Rattle.chains.proofs.PlaceLaws.{foldl_only}
 use Rattle.rows.specs.Cells.{row_count, cell, num, is}
-use Rattle.sheet.specs.Places.{of_kind}
+use Rattle.sheet.specs.declared.Found.{Found}
+use Rattle.sheet.specs.declared.Found.TheVariants.{Nothing}
+use Rattle.sheet.specs.Places.{of_kind, place_of}
+use Rattle.sheet.specs.inner.Found.{found_of}
 use Rattle.model.specs.Sheet.{sheet}
 use Rattle.model.specs.Constraint.{constraint_at, constraints}
 use Rattle.model.proofs.ConstraintLaws.{capacity_row, by_constraint}
-use Rattle.load.specs.Load.{capacity_of, cap_override}
+use Rattle.model.proofs.Finds.{find_resource_lem}
+use Rattle.load.specs.Load.{capacity_of, cap_override, base_of}
 
 -- the greater of a number and 1, either way round
 pub one_or_more : (z : ℤ) → int_max z (pos 1) ≡ max_z z (pos 1)
@@ -30,6 +34,13 @@ one_or_more (pos n) = grind arith
 one_or_more (negsuc n) = refl
 
 module _ (rows : List ℤ) (x : ℕ) where
+  -- the limit of a resource that is not in the sheet, before any constraint
+  pub base_none : {f : Found} → found_of f ≡ place_of rows 11 x → f ≡ Nothing → pos 1 ≡ base_of (sheet rows) x
+  unfolding base_of
+  base_none h q = rw (find_resource_lem rows x, ← h, q)
+
+  -- ---- the last constraint
+
   unfoldable pub later_cap : Option ℤ → ℕ → Option ℤ
   later_cap e k = cond (is rows k 1 x) (Some (cell rows k 2)) e
 

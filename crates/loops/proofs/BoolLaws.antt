@@ -1,6 +1,7 @@
--- Booleans, beyond what the library has: what a test that came out says of its parts. Assumes nothing.
+-- Booleans, beyond what the library has: what a test that came out says of its parts, and tests kept as numbers. Assumes nothing.
 use mathlib.Core.Path.{◌≡◌, refl, sym, ◌∙◌}
-use mathlib.Core.Bool.{Bool, true, false, not, ◌&&◌, ◌||◌, or-false, false≢true}
+use mathlib.Core.Bool.{Bool, true, false, cond, not, ◌&&◌, ◌||◌, or-false, false≢true}
+use lib.Dec.{eqb}
 
 pub and_left : (a b : Bool) → (a && b) ≡ true → a ≡ true
 and_left true b e = refl
@@ -36,3 +37,8 @@ pub both_ways : (a b : Bool) → (a ≡ true → b ≡ true) → (b ≡ true →
 both_ways true b f g = sym (f refl)
 both_ways false true f g = g refl
 both_ways false false f g = refl
+
+-- a test that is kept as 1 or 0
+pub bit : (b : Bool) → eqb (cond b 1 0) 1 ≡ b
+bit true = refl
+bit false = refl

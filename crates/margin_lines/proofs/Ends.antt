@@ -1,14 +1,16 @@
 -- The ways in which the call ends. Assumes nothing.
 use Rattle.std.specs.Prelude.{Ok, Result, Err, Option, None, Some}
 use Prim.Native.Nat.{ℕ, ◌*◌, ◌/◌, ◌≤◌}
-use mathlib.Core.Path.{◌≡◌, refl, ◌∙◌}
+use mathlib.Core.Path.{◌≡◌, refl, ap, ◌∙◌}
 use mathlib.Core.List.{List}
 use native.Mathlib.Omega.{arith}
 use borrow.Author.Tests.{le-ltb}
 use lib.Dec.{ltb}
 use lib.IntN.{ℤ}
 use lib.ListN.{length}
+use Rattle.loops.specs.Lists.{each}
 use Rattle.loops.specs.Search.{or_else}
+use Rattle.calendar.specs.Clock.{clock}
 use Rattle.refusals.specs.Refusals.{refuse, at}
 use Rattle.refusals.specs.declared.Refusal.{Refusal}
 use Rattle.refusals.specs.declared.Reason.TheVariants as refusals
@@ -21,15 +23,19 @@ use Rattle.line_buffer.specs.inner.Handing.{handed, after_handing}
 use Rattle.line_buffer.proofs.Handing.{not_longer}
 use Rattle.line_buffer.proofs.LineLaws.{lines_kept}
 use Rattle.line_buffer.proofs.Whole.{count_fits}
+use Rattle.model.specs.Sheet.{sheet}
+use Rattle.model.specs.Task.{tasks}
+use Rattle.load.specs.Load.{booked_resources}
 use Rattle.acceptance.specs.Refusals.{sheet_refusal, call_refusal}
 use Rattle.owners.specs.declared.sheet_index.SheetIndex.{SheetIndex}
 use Rattle.acceptance.specs.inner.Accepting.{Accepting}
 use Rattle.acceptance.proofs.Order.{refused_by, sheet_accepted}
 use Rattle.acceptance.proofs.Ending.{ends_refused, ends_over, ends_full}
-use Rattle.margin_lines.specs.Margins.{three, margins, flat_margins}
+use Rattle.margin_lines.specs.Margins.{three, task_margin, resource_margin, margins, flat_margins}
 use Rattle.margin_lines.specs.Call.{margins_refusal, margins_answer, margins_after, RoomForAll}
 use Rattle.margin_lines.specs.inner.Sink.{sink, emit_margins}
 use Rattle.margin_lines.proofs.Count.{margins_short}
+use Rattle.margin_lines.proofs.Told.{all_told}
 
 -- the call on these rows, lent the buffer o, answers so and leaves the buffer o'
 abbrev Ends : List ℤ → List ℤ → Result ℕ Refusal → List ℤ → Type 0
@@ -67,19 +73,24 @@ module _ (rows o : List ℤ) {v : Result Unit Refusal} {x : Refusal} {before aft
 
 -- ---- the margins, found in a buffer for 800 lines, and handed over
 
-module _ (rows o o₀ : List ℤ) {y : List ℤ} {k : ℕ} {r : Handed} (passed : sheet_refusal rows ≡ None) (ran : sink y k ≡ emit_margins (sink o₀ 0) (margins rows))
+-- the tasks, then the resources
+ran : (rows o₀ : List ℤ) {x y : List ℤ} {n k : ℕ} → sink x n ≡ emit_margins (sink o₀ 0) (each (task_margin clock (sheet rows)) (tasks (sheet rows)))
+    → sink y k ≡ emit_margins (sink x n) (each (resource_margin clock (sheet rows)) (booked_resources (sheet rows))) → sink y k ≡ emit_margins (sink o₀ 0) (margins rows)
+ran rows o₀ of-tasks of-resources = of-resources ∙ ap (λ s. emit_margins s (each (resource_margin clock (sheet rows)) (booked_resources (sheet rows)))) of-tasks ∙ all_told rows (sink o₀ 0)
+
+module _ (rows o o₀ : List ℤ) {y : List ℤ} {k : ℕ} {r : Handed} (passed : sheet_refusal rows ≡ None) (wrote : sink y k ≡ emit_margins (sink o₀ 0) (margins rows))
     (told : r ≡ handed (length o / 3) (length y / 3) k) (room : length o₀ ≡ 2400) where
   counted : k ≡ length (margins rows)
-  counted = omega (arith, count_fits 3 three o₀ (margins rows) ran, few_margins rows passed)
+  counted = omega (arith, count_fits 3 three o₀ (margins rows) wrote, few_margins rows passed)
 
   module _ {o' : List ℤ} (left : o' ≡ after_handing r (k * 3) y o) where
     ends_copied : r ≡ Over → Ends rows o (Ok k) o'
     unfolding margins_refusal margins_answer margins_after flat_margins
-    ends_copied over = ends_over 3 three (omega arith) (λ m. refl) rows (margins rows) o passed o₀ ran told counted (omega arith) left over
+    ends_copied over = ends_over 3 three (omega arith) (λ m. refl) rows (margins rows) o passed o₀ wrote told counted (omega arith) left over
 
     ends_refused_full : r ≡ Full → Ends rows o (Err (at refusals.Full 0)) o'
     unfolding margins_refusal margins_answer margins_after flat_margins
-    ends_refused_full full = ends_full 3 three (omega arith) (λ m. refl) rows (margins rows) o passed o₀ ran told left full
+    ends_refused_full full = ends_full 3 three (omega arith) (λ m. refl) rows (margins rows) o passed o₀ wrote told left full
 
     pub over_answer : r ≡ Over → Ok k ≡ margins_answer rows (length o / 3)
     over_answer over = (ends_copied over).0
@@ -96,7 +107,7 @@ module _ (rows o o₀ : List ℤ) {y : List ℤ} {k : ℕ} {r : Handed} (passed 
     -- never: 800 lines are held
     all_held : r ≡ Longer → ⊥
     all_held longer =
-        let held : length y ≡ length o₀ = lines_kept 3 three o₀ 0 (margins rows) ran in
+        let held : length y ≡ length o₀ = lines_kept 3 three o₀ 0 (margins rows) wrote in
         not_longer (length o / 3) (length y / 3) k (omega (arith, counted, few_margins rows passed)) told longer
 
     pub longer_answer : {e : Refusal} → r ≡ Longer → Err e ≡ margins_answer rows (length o / 3)

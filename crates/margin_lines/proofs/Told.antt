@@ -35,7 +35,7 @@ use Rattle.load.specs.inner.Lent.{lent}
 use Rattle.load.proofs.Told.{peak_is, booked_told, booked_silent, booked_first, booked_all}
 use Rattle.spans.specs.inner.Instants.{meant}
 use Rattle.margin_lines.specs.declared.lines.Margin.{Margin}
-use Rattle.margin_lines.specs.Margins.{TASK, three, margin_of, task_margin, resource_margin, margin_lines, margins}
+use Rattle.margin_lines.specs.Margins.{TASK, RESOURCE, three, margin_of, task_margin, resource_margin, margin_lines, margins}
 use Rattle.margin_lines.specs.inner.Sink.{Sink, emit_margins}
 use Rattle.margin_lines.specs.inner.Told.{Told, tell, telling}
 use Rattle.margin_lines.proofs.Bounds.{deadline_signed}
@@ -69,7 +69,7 @@ module _ (rows : List ℤ) where
           rw (task_row rows k h, sym m ∙ ap meant q, ← i, sym n ∙ ap meant r, ← (rw (deadline_signed rows (accepted rows acc) k h m q) at x))
           (u ∙ ap (λ x. tell t (x ∷ [])) (rw (to_z-of_z g) at w))
 
-  task_silent : Silent (of_kind rows 1) task_told
+  pub task_silent : Silent (of_kind rows 1) task_told
   unfolding each of_kind
   task_silent = record { still = λ k h. rw (task_none rows k h) }
 
@@ -87,6 +87,13 @@ module _ (rows : List ℤ) where
 
     pub cap_within : {c : ℤ} → c ≡ cap_of (sheet rows) x → refusal_of rows ≡ None → SFits w64 c → nat_abs (to_z w64 (of_z w64 c)) ≤ 4000000000000
     cap_within e a f = rw (to_z-of_z f) (omega (arith, cap_most rows (accepted rows a) x e))
+
+    -- its line, by its limit and by the bookings that were gathered
+    pub resource_told_lem : (s : Sink) {s' : Sink} {c z : ℤ} {p : ℕ} (b : LentList Booking 800) → s' ≡ emit_margins s (margin_of RESOURCE x (to_z w64 (of_z w64 z)) ∷ [])
+        → z ≡ to_z w64 (of_z w64 c) -ℤ pos p → c ≡ cap_of (sheet rows) x → lent b ≡ bookings_on (sheet rows) x → p ≡ peak_of lt_z (lent b) → SFits w64 c → SFits w64 z
+        → s' ≡ emit_margins s (resource_margin clock (sheet rows) x)
+    unfolding resource_margin
+    resource_told_lem s b t q e g p f h = rw (← e, ← peak_is rows x b g p, ← (rw (to_z-of_z f) at q)) (rw (to_z-of_z h) at t)
 
   -- ---- of row k, where it is the first booking of its resource
 

@@ -1,5 +1,5 @@
 -- A float below 2 ^ 53 that is rounded is a whole number below it, which the cut of it is. Assumes nothing.
-use Rattle.std.proofs.Common.{◌≡◌, ℕ, zero, suc, ◌+◌, ◌-◌, ◌*◌, ◌/◌, ◌%◌, ◌^◌, ◌<◌, ◌≤◌, Bool, true, false, not, ◌&&◌, ◌||◌, T, eqb, ltb, leb, ℤ, pos, negsuc, sym, refl, ap, ◌∙◌, subst, true≢false, le_of_eq, lt_of_lt_of_le, le_of_suc-le-suc, mul-le-mul_right, zero-lt-suc, mul_assoc, mul_comm, mul_left_comm, mul-one, one-mul, div-lt_iff_lt-mul, lt_of_mul-lt-mul_right, mul-lt-mul_of_pos_right, lt_of_not-le, not-le_of_lt, mul-pos, pow-suc, le-div_iff_mul-le, zero-mul, arith, lit≤, eqb→eq, ltb→lt, lt→ltb, leb→le, pow_pos, pow_mono, pow-add, ltb-false, ltb-true, le-ltb, lt-ltb}
+use Rattle.std.proofs.Common.{◌≡◌, ℕ, zero, suc, ◌+◌, ◌-◌, ◌*◌, ◌/◌, ◌%◌, ◌^◌, ◌<◌, ◌≤◌, Bool, true, false, not, ◌&&◌, ◌||◌, T, eqb, ltb, leb, ℤ, pos, negsuc, sym, refl, ap, ◌∙◌, subst, true≢false, le_of_eq, lt_of_lt_of_le, le_of_suc-le-suc, mul-le-mul_right, zero-lt-suc, mul_assoc, mul_comm, mul_left_comm, mul-one, one-mul, div-lt_iff_lt-mul, lt_of_mul-lt-mul_right, mul-lt-mul_of_pos_right, lt_of_not-le, not-le_of_lt, mul-pos, pow-suc, le-div_iff_mul-le, zero-mul, arith, lit≤, eqb→eq, ltb→lt, lt→ltb, leb→le, pow_pos, pow_mono, pow-add, w64, Fits, ltb-false, ltb-true, le-ltb, lt-ltb}
 use native.Mathlib.Nat.{add-div_right, div-div-eq-div-mul, div-eq_of_lt, eq_of_mul-eq-mul_right, zero-div}
 use lib.Pow.{pow-lt}
 use lib.Ieee.{Float, nan, inf, fin, Format, binary64, low, prec, emax, up, down, round, mul, div, of_int, lt, le, fits, to_unsigned, of_bits, is_nan, nan_bits}
@@ -9,7 +9,7 @@ use lib.Ieee.Nearest.{div_same}
 use lib.Ieee.Back.{round_whole}
 use Rattle.std.specs.Float.{float_round, round_with}
 use Rattle.std.proofs.Math.Nat.{div-one}
-use lib.Ieee.Positive.{num, den}
+use lib.Ieee.Positive.{num, den, den_pos}
 use lib.Ieee.Digits.{back}
 use Rattle.rounding.specs.Rounding.{half_up, rounded, divided_by}
 use Rattle.rounding.specs.inner.Limited.{limited, too_large}
@@ -253,6 +253,21 @@ module _ (x : Float) {y : Float} (t : T (fits binary64 x)) (p : le (fin false 0 
 
   pub nearest_is : {k : ℕ} → k ≡ to_unsigned 64 y → Ok k ≡ limited (rounded x)
   nearest_is e = ap Ok (e ∙ cut.whole ∙ div-one (half_up (num x) (den x))) ∙ below_limit x t p q
+
+-- ---- the same by twice the float, cut
+module _ (x : Float) (t : T (fits binary64 x)) (p : le (fin false 0 (pos 0)) x ≡ true) (q : lt x (fin false 1 (pos 53)) ≡ true) where
+  pub twice_above : T (lt (fin true 1 (pos 0)) (mul binary64 x (fin false 1 (pos 1))))
+  twice_above = (doubled x t p q).0.above
+
+  pub twice_under : T (lt (mul binary64 x (fin false 1 (pos 1))) (fin false 1 (pos 64)))
+  twice_under = (doubled x t p q).0.below
+
+  module _ (k : ℕ) (e : k ≡ to_unsigned 64 (mul binary64 x (fin false 1 (pos 1)))) where
+    pub twice_fits : Fits w64 (k + 1)
+    twice_fits = let d = doubled x t p q in record { fits = omega (arith, d.0.whole, d.1) }
+
+    pub nearest_by_twice : Ok ((k + 1) / 2) ≡ limited (rounded x)
+    nearest_by_twice = ap (λ (n : ℕ). Ok ((n + 1) / 2)) (e ∙ (doubled x t p q).0.whole) ∙ ap Ok (half_of_double (num x) (den x) (den_pos x)) ∙ below_limit x t p q
 
 pub divided_is : (process : ℕ) (product : Float) {x : Float} {r : Result ℕ TooLarge} → r ≡ limited (rounded (div binary64 x product)) → x ≡ of_int binary64 (pos process)
     → r ≡ limited (divided_by process product)

@@ -1,5 +1,5 @@
 -- The table of kinds and columns. Assumes nothing.
-use Rattle.std.proofs.Common.{◌≡◌, ap, Bool, true, false, not, eqb, ℕ, zero, suc, ◌-◌, ◌<◌, ◌≤◌, List, [], ◌∷◌, ◌++◌, length, map, replicate, get_or, refl, sym, ◌∙◌, arith}
+use Rattle.std.proofs.Common.{◌≡◌, ap, Bool, true, false, not, ◌&&◌, T, eqb, ℕ, zero, suc, ◌-◌, ◌<◌, ◌≤◌, List, [], ◌∷◌, ◌++◌, length, map, replicate, get_or, refl, sym, ◌∙◌, arith}
 use native.Mathlib.Decide.{dec_lt, dec_le}
 use borrow.Author.Tests.{leb-true, eq-eqb, ne_eqb}
 use Rattle.std.proofs.lemmas.Bool.{false_from_ne_true}
@@ -17,6 +17,17 @@ use Rattle.rows.specs.inner.Padded.{padded, is_blank}
 pub class_later : (kind c : ℕ) → (c ≡ 0 → ⊥) → class_of kind c ≡ get_or (get_or columns kind []) (c - 1) Blank
 class_later kind zero h = absurd (h refl)
 class_later kind (suc c) h = let e : suc c - 1 ≡ c = omega arith in rw e
+
+both_hold : (a b : Bool) → T (a && b) → T a × T b
+both_hold true b t = (tt, t)
+both_hold false b t = absurd t
+
+-- a rule of a table, proved at all of its entries by one test
+pub all_at : {A : Type 0} (f : A → Bool) (xs : List A) (d : A) → T (all_of f xs) → T (f d) → (n : ℕ) → T (f (get_or xs n d))
+unfolding all_of
+all_at f [] d t td n = td
+all_at f (x ∷ xs) d t td zero = (both_hold (f x) (all_of f xs) t).0
+all_at f (x ∷ xs) d t td (suc n) = all_at f xs d (both_hold (f x) (all_of f xs) t).1 td n
 
 -- what holds of each kind's columns, and of none, holds of those of any number
 entry_of : (p : List Class → Bool) (t : List (List Class)) (kind : ℕ) → p [] ≡ true → all_of p t ≡ true → p (get_or t kind []) ≡ true

@@ -105,6 +105,14 @@ by_groups rows k =
     ∙ chosen (eqb g 0) (eqb g 14) (eqb g 9) (named_pair rows 14 (num rows k 1) (num rows k 2)) (named_pair rows 9 (num rows k 1) (num rows k 2))
     (named_pair rows 10 (num rows k 1) (num rows k 2)) (named rows g (num rows k 1)) k
 
+-- a group's number is small, whatever the kind
+pub group_small : (kind g : ℕ) → g ≡ group kind → g < 32
+group_small kind g q = go (dec_lt kind 15)
+  where
+    go : Dec (kind < 15) → g < 32
+    go (yes h) = omega (arith, ltb-true (group kind) 15 (tests true true kind h).0)
+    go (no h) = let d : 15 ≤ kind = omega arith in omega (arith, no_group kind d)
+
 -- rows of a kind whose column 1 says all repeat one another by it
 twice_tried : (b : Bool) → any_below (λ n. not (not (once n) || cases true b n (eqb n))) 15 ≡ false
 unfolding any_below any_of

@@ -37,6 +37,12 @@ unfolding digits_from
 too_large_lem n [] h = rw (le-ltb n (2 ^ 63))
 too_large_lem n (x ∷ xs) h = none_chosen (is_digit x) (digits_from (n * 10 + (x - 48)) xs) (too_large_lem (n * 10 + (x - 48)) xs (omega arith))
 
+-- a digit on from past 922,337,203,685,477,580, a tenth of 2^63, makes it so
+pub soon_too_large : (s : List ℕ) (i n : ℕ) → i < length s → 922337203685477580 < n → limited (digits_from n (drop i s)) ≡ None
+soon_too_large s i n h k =
+    rw (at_digit s i n)
+    (none_chosen (is_digit (get_or s i 0)) _ (too_large_lem (n * 10 + (get_or s i 0 - 48)) (drop (i + 1) s) (omega arith)))
+
 chosen : (b : Bool) (n : ℕ) → then_some b n ≡ cond b (Some n) None
 chosen true n = refl
 chosen false n = refl

@@ -11,7 +11,7 @@ use Rattle.rows.specs.Kinds.{kind_of, kind_number}
 use Rattle.rows.specs.Table.{width}
 use Rattle.rows.proofs.KindNumbers.{is_known, kind_number_is}
 use Prim.Native.Nat.{ℕ, suc, ◌+◌, ◌-◌, ◌<◌, ◌^◌}
-use mathlib.Core.Bool.{Bool, true}
+use mathlib.Core.Bool.{Bool, true, false}
 use mathlib.Core.List.{List, [], ◌∷◌, map}
 use mathlib.Core.Path.{◌≡◌, refl, ap, sym, ◌∙◌}
 use native.Mathlib.Omega.{arith}
@@ -30,6 +30,12 @@ use Rattle.text_fields.proofs.PartLaws.{parts_first, parts_count}
 module _ {all : List ℤ} (rows : List ℤ) (i to : ℕ) (now : sets rows i (replicate (to - i) (pos 0)) ≡ all) where
   pub zero_more : {m : List ℤ} → i < to → m ≡ set rows i (pos 0) → sets m (i + 1) (replicate (to - (i + 1)) (pos 0)) ≡ all
   zero_more h s = let e : to - i ≡ suc (to - (i + 1)) = omega arith in rw (s, add-one i) (rw (e, add-one i) at now)
+
+-- a line whose kind is empty
+pub fields_empty : (good : Bool) (kind : List ℕ) (n : ℕ) → length kind ≡ 0 → Err Misspelt ≡ by_fields good kind n
+fields_empty true [] n e = refl
+fields_empty false [] n e = refl
+fields_empty good (x ∷ kind) n e = absurd (omega arith)
 
 -- the kinds are 1 to 24
 known : (k : ℕ) → (ltb 0 k && ltb k 25) ≡ is_some (kind_of k)

@@ -54,6 +54,10 @@ stands o p {r = r} h l w =
     let z : r ≡ length p = omega (arith, w.place) in
     (omega arith, rw w.buffer (rw (sets-eq p o 0 (omega arith)) (take_at p (drop (0 + length p) o) r (sym z))))
 
+-- as many of its bytes as there are
+pub printed_first : (n : ℕ) (o : List ℕ) {most : ℕ} → n ≤ most → length o ≡ most → n ≡ length (take n o)
+printed_first n o h l = sym (length-take-le n o (omega arith))
+
 -- a refusal
 reason_small : (r : Reason) → number_of r < 2 ^ 64
 reason_small Misshapen = omega arith
