@@ -22,13 +22,14 @@ fn check_all(rows: &TimedSheet, lacking: &[bool; 800], out: &mut [i64]) -> usize
     ensures { sink out.new result ≡ emit (sink out.old 0) (findings rows.now) }
 {
     let sheet = rows.sheet();
+    let lacking_sheet = LackingSheet::new(sheet, lacking);
     let mut found = Findings::new(out);
     check1_assignments::check_assignments(rows, &mut found);
     check2_time_only::check_time_only(sheet, &mut found);
     check3_parts::check_parts(sheet, &mut found);
     check4_requirements::check_requirements(sheet, rows.held(), &mut found);
     check5_capacity::check_capacity(sheet, &mut found);
-    check6_calendars::check_calendars(&LackingSheet::new(sheet, lacking), &mut found);
+    check6_calendars::check_calendars(&lacking_sheet, &mut found);
     check7_precedence::check_precedence(sheet, &mut found);
     check8_deadlines::check_deadlines(&sheet.by_kind(), &mut found);
     check9_constraints::check_constraints(&sheet.by_kind(), &mut found);

@@ -3,7 +3,8 @@
 
 ghost use Rattle.std.specs.Prelude.{◌≡◌, ◌<◌, ◌≤◌, get_or, set, replicate};
 ghost use Rattle.rows.specs.Cells.{row_count};
-ghost use Rattle.sheet.specs.Places.{is_constraint};
+ghost use Rattle.loops.specs.Search.{first_place};
+ghost use Rattle.sheet.specs.Places.{is_constraint, named, place_of};
 ghost use Rattle.sheet.specs.inner.Found.{found_of};
 ghost use Rattle.sheet.specs.inner.Kept.{IsRow};
 ghost use Rattle.sheet.specs.inner.Index.{name_hash, name_key, or_end, stored_place, Shaped, Kinds};
@@ -121,6 +122,30 @@ pub fn kinds_into(rows: &[i64], t: &mut KindTable)
         let x = rows::num_at(rows, i, 0) as usize;
         t.kinds.link(x, i);
         t.names.link(name_key(x, rows::num_at(rows, i, 1)), i);
+    }
+}
+
+// The first row of a number in column 0 and one in column 1, among all rows.
+#[tactic(auto, using(loops::proofs::SearchLaws::place_zero, loops::proofs::SearchLaws::place_miss, loops::proofs::SearchLaws::place_hit), unfolding(crate::specs::Places::named))]
+fn look_for<T: Rows>(rows: &T, x: u64, id: u64) -> Option<usize>
+    ensures { result ≡ first_place (named (T.rows rows.now) x id) (row_count (T.rows rows.now)) }
+{
+    for k in 0..rows.row_count() {
+        if rows.has(k, 0, x) && rows.has(k, 1, id) {
+            return Some(k);
+        }
+    }
+    None
+}
+
+// The first row with that id of the kind with number x. Any number: where it stands for no kind, no chain is named by it, and all rows are looked through.
+#[tactic(auto, unfolding(crate::specs::Places::place_of))]
+pub fn find_named<T: KindIndex>(rows: &T, x: usize, id: u64) -> Option<usize>
+    ensures { result ≡ place_of (T.rows rows.now) x id }
+{
+    match Kind::try_from(x as u64) {
+        Ok(kind) => rows.find_named(kind, id),
+        Err(_) => look_for(rows, x as u64, id),
     }
 }
 

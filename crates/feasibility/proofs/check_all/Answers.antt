@@ -12,7 +12,7 @@ returns c =
     let parts = rw e at c.check_parts.ensures in
     let requirements = rw e at c.check_requirements.ensures in
     let capacity = rw e at c.check_capacity.ensures in
-    let calendars = rw (c.new.ensures, e) at c.check_calendars.ensures in
+    let calendars = rw (c.new-lacking_sheet.ensures, e) at c.check_calendars.ensures in
     let precedence = rw e at c.check_precedence.ensures in
     let told = all_in_turn c.args.rows.now _ _ (c.by_kind.ensures.rows ∙ e) (c.by_kind-2.ensures.rows ∙ e) _ _ _ _ _ _ _ _ _
     (ap (λ t. t.sink) c.check_assignments.ensures)
