@@ -5,7 +5,7 @@ use mathlib.Core.List.{List, [], ◌∷◌, ◌++◌, append-nil, append_assoc}
 use mathlib.Core.Path.{◌≡◌, refl, sym, ap, ◌∙◌}
 use native.Mathlib.Omega.{arith}
 use native.Mathlib.Numerals.{add-one}
-use lib.Dec.{leb}
+use lib.Dec.{eqb, leb}
 use lib.ListN.{length, get_or, drop, take, drop_of_length-le}
 use lib.Seq.{drop-cons, take-suc, take_all}
 use borrow.Author.Rules.{rules}
@@ -21,6 +21,11 @@ end_is [] = refl
 end_is (x ∷ []) = refl
 end_is (x ∷ y ∷ []) = refl
 end_is (x ∷ y ∷ z ∷ s) = rw (le-leb 2 (suc (suc (suc (length s)))) (omega arith), le-leb 3 (suc (suc (suc (length s)))) (omega arith))
+
+-- no line ends at another byte than a carriage return
+other_first : (x : ℕ) (s : List ℕ) → eqb x 13 ≡ false → end_first (x ∷ s) ≡ false
+other_first x [] h = refl
+other_first x (y ∷ s) h = rw h
 
 -- ---- the first line, found byte by byte: no line ends before i
 
@@ -54,8 +59,12 @@ module _ {s : List ℕ} where
       pub sending_found : r ≡ true → take i s ≡ first_sent s
       sending_found t = sym (append-nil (take i s)) ∙ ap (λ (l : List ℕ). take i s ++ l) (sym (first_here (drop i s) (sym ended ∙ t))) ∙ c.so_far
 
+    -- a byte that is no carriage return
+    pub sending_past : i < length s → eqb (get_or s i 0) 13 ≡ false → Sending s (i + 1)
+    sending_past k h = sending_turn k (sym (ap end_first (rest_is i s) ∙ rw (drop-cons s i 0 k) (other_first (get_or s i 0) (drop (suc i) s) h))) refl
+
     pub sending_all : length s ≤ i → s ≡ first_sent s
     unfolding first_sent
     sending_all h = sym (rw (drop_of_length-le s {i = i} h, take_all i s) (append-nil s)) ∙ c.so_far
 
-pub ruleset sendings = (rules, sending_start, sending_turn, sending_found, sending_all)
+pub ruleset sendings = (rules, sending_start, sending_turn, sending_past, sending_found, sending_all)
